@@ -1,0 +1,10 @@
+pub mod Views
+pub mod Faults
+pub mod Rules
+pub mod Escapes
+pub mod Counting
+pub mod LevelNames
+pub mod Judging
+pub mod Whole
+pub mod Found
+pub mod Numbering
