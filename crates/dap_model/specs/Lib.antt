@@ -1,0 +1,13 @@
+pub mod Body
+pub mod Cutting
+pub mod Dds
+pub mod Filter
+pub mod Fits
+pub mod Grammar
+pub mod Plain
+pub mod Received
+pub mod Rows
+pub mod Shown
+pub mod Tokens
+pub mod Xdr
+pub mod Laws
