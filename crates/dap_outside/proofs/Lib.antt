@@ -1,0 +1,3 @@
+pub mod FirstNamed
+pub mod Transfers
+pub mod Fronts
