@@ -1,0 +1,4 @@
+pub mod Prefix
+pub mod Quoted
+pub mod Runs
+pub mod Standing
