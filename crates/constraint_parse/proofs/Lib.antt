@@ -1,0 +1,16 @@
+pub mod Answer
+pub mod Bytes
+pub mod Calls
+pub mod Complete
+pub mod Decimals
+pub mod Ends
+pub mod Lists
+pub mod Marks
+pub mod Moves
+pub mod Operators
+pub mod Places
+pub mod Quotes
+pub mod Single
+pub mod SlabsFit
+pub mod Sound
+pub mod Words
