@@ -1,0 +1,16 @@
+pub mod Answers
+pub mod Complete
+pub mod Digits
+pub mod Ending
+pub mod Finding
+pub mod Labels
+pub mod Live
+pub mod Moves
+pub mod Names
+pub mod Printing
+pub mod ReadBack
+pub mod Reading
+pub mod Runs
+pub mod Single
+pub mod Strays
+pub mod Trails
