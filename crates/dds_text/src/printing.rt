@@ -1,0 +1,73 @@
+ghost use Rattle.std.specs.Prelude.{◌≡◌, ◌<◌, ◌^◌, ◌++◌, IfOk, OnOk};
+ghost use Rattle.dap_types.specs.View.{dataset_view, member_view, members_view};
+ghost use Rattle.dap_model.specs.Dds.{dds, member_text, members_text};
+
+use crate::declarations::{put_array, put_arrays, put_column, put_columns};
+use crate::lines::{put_closing, put_line};
+use dap_types::{Bytes, Dataset, Decl, Memory};
+use std::alloc::Global;
+
+/// Depths at which no member of a dataset in memory stands.
+const TOO_DEEP: u32 = 1 << 23;
+
+/// The DDS of the dataset (DAP 2.0, Dataset Descriptor Structure, in this project's layout). Fails
+/// where memory is wanted.
+#[tactic(auto, unfolding(dap_model::specs::Dds::dds))]
+pub fn print(alloc: Global, dataset: &Dataset) -> Result<Bytes, Memory>
+    ensures text { IfOk result (λ text. text ≡ dds (dataset_view dataset.now)) }
+{
+    let mut out = Vec::new(alloc);
+    put_line(&mut out, 0, b"Dataset {")?;
+    put_members(&mut out, 1, dataset.members.items())?;
+    put_closing(&mut out, 0, &dataset.name)?;
+    Ok(Bytes::from_vec(out))
+}
+
+#[cycle(printing)]
+#[tactic(auto, using(dap_types::proofs::Views::views, dap_types::proofs::Views::walks))]
+fn put_members(out: &mut Vec<u8>, depth: u32, decls: &[Decl]) -> Result<(), Memory>
+    ensures { OnOk result (out.new.items
+        ≡ out.old.items ++ members_text depth (members_view decls.now)) }
+{
+    for decl in decls {
+        put_member(out, depth, decl)?;
+    }
+    Ok(())
+}
+
+#[cycle(printing)]
+#[tactic(auto, using(dap_types::proofs::Views::views, dap_types::proofs::Views::walks))]
+fn put_member(out: &mut Vec<u8>, depth: u32, decl: &Decl) -> Result<(), Memory>
+    ensures { OnOk result (out.new.items
+        ≡ out.old.items ++ member_text depth (member_view decl.now)) }
+{
+    if depth >= TOO_DEEP {
+        return Err(Memory);
+    }
+    let spaces = 4 * depth;
+    match decl {
+        Decl::Base(column) => put_column(out, depth, column),
+        Decl::Array(array) => put_array(out, depth, array),
+        Decl::Structure(name, parts) => {
+            put_line(out, spaces, b"Structure {")?;
+            put_members(out, depth + 1, parts.items())?;
+            put_closing(out, depth, name)?;
+            Ok(())
+        }
+        Decl::Grid(name, array, maps) => {
+            put_line(out, spaces, b"Grid {")?;
+            put_line(out, spaces + 2, b"Array:")?;
+            put_array(out, depth + 1, array)?;
+            put_line(out, spaces + 2, b"Maps:")?;
+            put_arrays(out, depth + 1, maps.items())?;
+            put_closing(out, depth, name)?;
+            Ok(())
+        }
+        Decl::Sequence(name, columns) => {
+            put_line(out, spaces, b"Sequence {")?;
+            put_columns(out, depth + 1, columns.items())?;
+            put_closing(out, depth, name)?;
+            Ok(())
+        }
+    }
+}
