@@ -1,0 +1,158 @@
+-- Rows of one width, their fields one after the other.
+use Rattle.std.proofs.Common.{◌≡◌, ◌≤◌, ◌<◌, ◌+◌, ◌*◌, ℕ, zero, suc, Bool, true, false, List, [], ◌∷◌, ◌++◌, Some, length, take, drop, get_or, map, refl, sym, ap, arith, ◌∙◌, drop-cons, add-one}
+use Rattle.std.specs.Prelude.{All, slice_get, option_map, option_and_then, ◌&&◌}
+use Rattle.std.specs.List.{list_all}
+use Rattle.std.proofs.lemmas.List.{drop-append-le, drop-drop, length-drop, drop_all, length-map, take-append-le, take_all}
+use Rattle.std.proofs.lemmas.List.Elements.{All-cons}
+use Rattle.csv.specs.Records.{field_at}
+use Rattle.dap_types.proofs.Views.{drop-here}
+use Rattle.dap_types.specs.declared.declarations.Column.{Column}
+use Rattle.csv_source.specs.Held.{IsHeld, held_rows, is_short, rows_of}
+use Rattle.csv_source.proofs.Digits.{both}
+use Rattle.csv_source.specs.Plain.{is_cell, is_row, cell_value, row_values}
+
+-- a row more
+pub rows_of-push : (width n : ℕ) (fields row : List (List ℕ)) → length fields ≡ n * width → length row ≡ width
+    → rows_of width (n + 1) (fields ++ row) ≡ rows_of width n fields ++ row ∷ []
+unfolding rows_of
+rows_of-push width zero [] row long wide = rw (take_all width row (omega (arith, wide))) refl
+rows_of-push width zero (f ∷ fields) row long wide = absurd (grind (arith, long))
+rows_of-push width (suc n) fields row long wide =
+    let fits : width ≤ length fields = grind (arith, long) in
+    let rest : length (drop width fields) ≡ n * width = rw (length-drop width fields) (grind (arith, long)) in
+    let count : suc n + 1 ≡ suc (n + 1) = omega arith in
+    rw (count, take-append-le width fields row fits, drop-append-le width fields row fits, rows_of-push width n (drop width fields) row rest wide) refl
+
+-- the row at a place
+rows_of-at : (width n : ℕ) (fields : List (List ℕ)) (i : ℕ) → i < n → slice_get (rows_of width n fields) i ≡ Some (take width (drop (i * width) fields))
+unfolding rows_of
+rows_of-at width zero fields i lt = absurd (omega (arith, lt))
+rows_of-at width (suc n) fields zero lt =
+    let none : 0 * width ≡ 0 = omega arith in
+    ap (λ k. Some (take width (drop k fields))) (sym none)
+rows_of-at width (suc n) fields (suc i) lt =
+    let further : width + i * width ≡ suc i * width = grind arith in
+    rows_of-at width n (drop width fields) i (omega (arith, lt))
+    ∙ ap (λ xs. Some (take width xs)) (drop-drop (i * width) width fields)
+    ∙ ap (λ k. Some (take width (drop k fields))) further
+
+-- a field of a record of `csv`
+pub field_at-slice_get : (fields : List (List ℕ)) (i : ℕ) → field_at fields i ≡ slice_get fields i
+unfolding field_at
+field_at-slice_get [] i = refl
+field_at-slice_get (f ∷ fields) zero = refl
+field_at-slice_get (f ∷ fields) (suc i) = field_at-slice_get fields i
+
+-- what all pass, each passes
+list_all-get : {X : Type 0} (p : X → Bool) (xs : List X) (i : ℕ) (x : X) → list_all p xs ≡ true → slice_get xs i ≡ Some x → p x ≡ true
+list_all-get p [] i x all is = cc is
+list_all-get p (y ∷ ys) zero x all is =
+    let same : y ≡ x = cc is in
+    rw same at (both (p y) (list_all p ys) all).0
+list_all-get p (y ∷ ys) (suc i) x all is = list_all-get p ys i x (both (p y) (list_all p ys) all).1 is
+
+-- a row has a cell for each column
+row-get : (columns : List Column) (fields : List (List ℕ)) (i : ℕ) (c : Column) → is_row columns fields ≡ true → slice_get columns i ≡ Some c
+    → (field : List ℕ) × (slice_get fields i ≡ Some field) × (is_cell c.base field ≡ true) × (slice_get (row_values columns fields) i ≡ Some (cell_value c.base field))
+unfolding is_row row_values
+row-get [] fields i c row is = cc is
+row-get (d ∷ ds) [] i c row is = cc row
+row-get (d ∷ ds) (f ∷ fields) zero c row is =
+    let same : d ≡ c = cc is in
+    (f, refl, rw same at (both (is_cell d.base f) (is_row ds fields) row).0, rw same refl)
+row-get (d ∷ ds) (f ∷ fields) (suc i) c row is = row-get ds fields i c (both (is_cell d.base f) (is_row ds fields) row).1 is
+
+-- a row has as many values as columns
+pub row-long : (columns : List Column) (fields : List (List ℕ)) → is_row columns fields ≡ true → length (row_values columns fields) ≡ length columns
+unfolding is_row row_values
+row-long [] fields row = refl
+row-long (d ∷ ds) [] row = cc row
+row-long (d ∷ ds) (f ∷ fields) row = ap suc (row-long ds fields (both (is_cell d.base f) (is_row ds fields) row).1)
+
+-- and as many fields
+pub row-wide : (columns : List Column) (fields : List (List ℕ)) → is_row columns fields ≡ true → length fields ≡ length columns
+unfolding is_row
+row-wide [] [] row = refl
+row-wide [] (f ∷ fields) row = cc row
+row-wide (d ∷ ds) [] row = cc row
+row-wide (d ∷ ds) (f ∷ fields) row = ap suc (row-wide ds fields (both (is_cell d.base f) (is_row ds fields) row).1)
+
+-- a field of a part
+take-drop-get : {X : Type 0} (xs : List X) (width start i : ℕ) (x : X) → slice_get (take width (drop start xs)) i ≡ Some x → slice_get xs (start + i) ≡ Some x
+take-drop-get [] zero zero i x is = cc is
+take-drop-get [] (suc width) zero i x is = cc is
+take-drop-get [] zero (suc start) i x is = cc is
+take-drop-get [] (suc width) (suc start) i x is = cc is
+take-drop-get (y ∷ ys) zero zero i x is = cc is
+take-drop-get (y ∷ ys) (suc width) zero zero x is = is
+take-drop-get (y ∷ ys) (suc width) zero (suc i) x is =
+    let e : 0 + suc i ≡ suc (0 + i) = omega arith in
+    rw e (take-drop-get ys width zero i x is)
+take-drop-get (y ∷ ys) width (suc start) i x is = let e : suc start + i ≡ suc (start + i) = omega arith in rw e (take-drop-get ys width start i x is)
+
+slice_get-mapped : {X Y : Type 0} (f : X → Y) (xs : List X) (i : ℕ) (x : X) → slice_get xs i ≡ Some x → slice_get (map f xs) i ≡ Some (f x)
+slice_get-mapped f [] i x is = cc is
+slice_get-mapped f (y ∷ ys) zero x is = ap (option_map f) is
+slice_get-mapped f (y ∷ ys) (suc i) x is = slice_get-mapped f ys i x is
+
+-- the cell of a table at a row and a column
+pub held-cell : (columns : List Column) (rows : ℕ) (fields : List (List ℕ)) (row column : ℕ) (c : Column) → IsHeld columns rows fields
+    → row < rows → slice_get columns column ≡ Some c
+    → (field : List ℕ) × (field_at fields (row * length columns + column) ≡ Some field) × (is_cell c.base field ≡ true) × (length field ≤ 67108864)
+    × (option_and_then (λ values. slice_get values column) (slice_get (held_rows columns rows fields) row) ≡ Some (cell_value c.base field))
+unfolding held_rows
+held-cell columns rows fields row column c held lt is =
+    let at = rows_of-at (length columns) rows fields row lt in
+    let whole_row = list_all-get (is_row columns) (rows_of (length columns) rows fields) row (take (length columns) (drop (row * length columns) fields)) held.are_rows at in
+    let (field, there, good, value) = row-get columns (take (length columns) (drop (row * length columns) fields)) column c whole_row is in
+    let placed = take-drop-get fields (length columns) (row * length columns) column field there in
+    let short = list_all-get is_short fields (row * length columns + column) field held.are_short placed in (
+      field,
+      field_at-slice_get fields (row * length columns + column) ∙ placed,
+      good,
+      grind (arith, short),
+      rw (slice_get-mapped (row_values columns) (rows_of (length columns) rows fields) row (take (length columns) (drop (row * length columns) fields)) at) value,
+    )
+
+pub rows_of-length : (width n : ℕ) (fields : List (List ℕ)) → length (rows_of width n fields) ≡ n
+unfolding rows_of
+rows_of-length width zero fields = refl
+rows_of-length width (suc n) fields = ap suc (rows_of-length width n (drop width fields))
+
+pub held-count : (columns : List Column) (rows : ℕ) (fields : List (List ℕ)) → length (held_rows columns rows fields) ≡ rows
+unfolding held_rows
+held-count columns rows fields = length-map (rows_of (length columns) rows fields) (row_values columns) ∙ rows_of-length (length columns) rows fields
+
+all-long : (columns : List Column) (rows : List (List (List ℕ))) → list_all (is_row columns) rows ≡ true → All (λ row. length row ≡ length columns) (map (row_values columns) rows)
+all-long columns [] all = λ k d lt. absurd (omega (arith, lt))
+all-long columns (row ∷ rows) all =
+    let (here, rest) = both (is_row columns row) (list_all (is_row columns) rows) all in
+    All-cons (λ r. length r ≡ length columns) (row_values columns row) (map (row_values columns) rows) (row-long columns row here) (all-long columns rows rest)
+
+-- each row has a value for each column
+pub held-long : (columns : List Column) (rows : ℕ) (fields : List (List ℕ)) → IsHeld columns rows fields → All (λ row. length row ≡ length columns) (held_rows columns rows fields)
+unfolding held_rows
+held-long columns rows fields held = all-long columns (rows_of (length columns) rows fields) held.are_rows
+
+-- what has another number of fields is no row
+pub row-other : (columns : List Column) (fields : List (List ℕ)) → (length fields ≡ length columns → ⊥) → is_row columns fields ≡ false
+row-other columns fields other = by_test (is_row columns fields) refl
+  where
+    by_test : (b : Bool) → is_row columns fields ≡ b → b ≡ false
+    by_test true is = absurd (other (row-wide columns fields is))
+    by_test false is = refl
+
+-- from a place on there are the field there and those behind it
+fields-here : (fields : List (List ℕ)) (i : ℕ) (field : List ℕ) → i < length fields → get_or fields i [] ≡ field → drop i fields ≡ field ∷ drop (i + 1) fields
+fields-here fields i field lt is = drop-cons fields i [] lt ∙ ap (λ f. f ∷ drop (suc i) fields) is ∙ rw add-one refl
+
+-- what a row is from a column on
+pub row-step : (columns : List Column) (fields : List (List ℕ)) (i : ℕ) (c : Column) (field : List ℕ)
+    → i < length columns → c ≡ get_or columns i c → i < length fields → get_or fields i [] ≡ field
+    → is_row (drop i columns) (drop i fields) ≡ (is_cell c.base field && is_row (drop (i + 1) columns) (drop (i + 1) fields))
+unfolding is_row
+row-step columns fields i c field lt is there at = rw (drop-here columns i c lt is, fields-here fields i field there at) refl
+
+pub row-end : (columns : List Column) (fields : List (List ℕ)) (i : ℕ) → length columns ≤ i → length fields ≤ i → is_row (drop i columns) (drop i fields) ≡ true
+unfolding is_row
+row-end columns fields i le there = rw (drop_all i columns le, drop_all i fields there) refl

@@ -1,0 +1,19 @@
+-- The value that a cell lends.
+use Rattle.std.specs.Prelude.{◌≤◌, ◌^◌, ◌≤ℤ◌, ◌<ℤ◌, neg_ℤ, pos, ⊤, length}
+use Rattle.dap_types.specs.declared.values.Value.{Value}
+use Rattle.dap_types.specs.declared.values.Value.TheVariants as values
+use Rattle.csv_source.specs.declared.cell.Cell.{Cell}
+use Rattle.csv_source.specs.declared.cell.Cell.TheVariants.{Whole, Text, Bits32, Bits64}
+
+abbrev pub lent_value : Cell → Value
+lent_value (Whole z) = values.Whole z
+lent_value (Text bytes) = values.Text bytes.now
+lent_value (Bits32 n) = values.Bits32 n
+lent_value (Bits64 n) = values.Bits64 n
+
+-- a whole number is one of 32 bits, and a text is no longer than a file
+abbrev pub IsShort : Cell → Type 0
+IsShort (Text bytes) = length bytes.now ≤ 67108864
+IsShort (Whole z) = (neg_ℤ (pos (2 ^ 31)) ≤ℤ z) × (z <ℤ pos (2 ^ 31))
+IsShort (Bits32 n) = ⊤
+IsShort (Bits64 n) = ⊤

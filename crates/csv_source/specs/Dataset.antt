@@ -1,0 +1,22 @@
+-- The dataset of a table and its values: one Sequence with a row for each row of the table (DAP 2.0,
+-- Sequence; the names are this project's).
+use Rattle.std.specs.Prelude.{List, [], ◌∷◌, map}
+use Rattle.dap_types.specs.Model.{Dataset, sequence, members_of, Tree, one, many, trees_of}
+use Rattle.dap_types.specs.declared.values.Value.{Value}
+use Rattle.csv_source.specs.Names.{dataset_name, sequence_name}
+use Rattle.csv_source.specs.PlainTable.{PlainTable}
+
+abbrev pub table_dataset : PlainTable → Dataset
+table_dataset t = record { name = dataset_name t.file_name; members = members_of (sequence (sequence_name t.file_name) t.columns ∷ []) }
+
+-- a row: the values of its cells
+abbrev pub row_tree : List Value → Tree
+row_tree row = many (trees_of (map one row))
+
+-- the values of the Sequence: its rows
+abbrev pub rows_tree : PlainTable → Tree
+rows_tree t = many (trees_of (map row_tree t.rows))
+
+-- the values of the dataset
+abbrev pub table_trees : PlainTable → List Tree
+table_trees t = rows_tree t ∷ []

@@ -1,0 +1,9 @@
+pub mod Names
+pub mod Csv
+pub mod PlainTable
+pub mod Plain
+pub mod Dataset
+pub mod Cells
+pub mod Held
+pub mod Standing
+pub mod Laws
