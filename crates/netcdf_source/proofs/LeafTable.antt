@@ -1,0 +1,32 @@
+-- The variable of a leaf, by the table of the leaves.
+use Rattle.std.proofs.Common.{◌≡◌, ℕ, zero, suc, Bool, false, List, [], ◌∷◌, map, Option, Some, None, refl, sym, ap, ◌∙◌}
+use Rattle.std.specs.Prelude.{option_map, option_and_then, slice_get}
+use Rattle.std.specs.Option.{option_map_or}
+use Rattle.dap_types.specs.declared.slabs.Layout.{Layout}
+use Rattle.netcdf_source.specs.Layouts.{layout_of}
+use Rattle.netcdf_source.specs.Mapping.{is_char, leaf_in, leaves_from, leaf_variable}
+use Rattle.netcdf_source.specs.declared.header.Contents.{Contents}
+
+pub slice_get-map : {X Y : Type 0} (f : X → Y) (xs : List X) (i : ℕ) → slice_get (map f xs) i ≡ option_map f (slice_get xs i)
+slice_get-map f [] i = refl
+slice_get-map f (x ∷ xs) zero = refl
+slice_get-map f (x ∷ xs) (suc i) = slice_get-map f xs i
+
+variable_is : (c : Contents) (leaves : List (Option ℕ)) (leaf : ℕ) (found : Option ℕ) → leaves ≡ leaves_from c 0 c.variables → leaf_in leaves leaf ≡ found → leaf_variable c leaf ≡ option_and_then (slice_get c.variables) found
+unfolding leaf_variable
+variable_is c leaves leaf found e is = ap (option_and_then (slice_get c.variables)) (ap (λ ls. leaf_in ls leaf) (sym e) ∙ is)
+
+pub layout_found : (c : Contents) (leaves : List (Option ℕ)) (layouts : List Layout) (leaf number : ℕ) (r : Option Layout)
+    → leaves ≡ leaves_from c 0 c.variables → layouts ≡ map (layout_of c) c.variables → leaf_in leaves leaf ≡ Some number → r ≡ slice_get layouts number → r ≡ option_map (layout_of c) (leaf_variable c leaf)
+layout_found c leaves layouts leaf number r e l is at =
+    at ∙ ap (λ ls. slice_get ls number) l ∙ slice_get-map (layout_of c) c.variables number ∙ ap (option_map (layout_of c)) (sym (variable_is c leaves leaf (Some number) e is))
+
+pub layout_none : (c : Contents) (leaves : List (Option ℕ)) (leaf : ℕ) → leaves ≡ leaves_from c 0 c.variables → leaf_in leaves leaf ≡ None → option_map (layout_of c) (leaf_variable c leaf) ≡ None
+layout_none c leaves leaf e is = ap (option_map (layout_of c)) (variable_is c leaves leaf None e is)
+
+pub char_found : (c : Contents) (leaves : List (Option ℕ)) (leaf number : ℕ) (r : Bool)
+    → leaves ≡ leaves_from c 0 c.variables → leaf_in leaves leaf ≡ Some number → r ≡ option_map_or is_char (slice_get c.variables number) false → r ≡ option_map_or is_char (leaf_variable c leaf) false
+char_found c leaves leaf number r e is at = at ∙ ap (λ o. option_map_or is_char o false) (sym (variable_is c leaves leaf (Some number) e is))
+
+pub char_none : (c : Contents) (leaves : List (Option ℕ)) (leaf : ℕ) → leaves ≡ leaves_from c 0 c.variables → leaf_in leaves leaf ≡ None → option_map_or is_char (leaf_variable c leaf) false ≡ false
+char_none c leaves leaf e is = ap (λ o. option_map_or is_char o false) (variable_is c leaves leaf None e is)

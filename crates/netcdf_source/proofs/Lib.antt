@@ -1,0 +1,16 @@
+pub mod Ends
+pub mod Lists
+pub mod Segments
+pub mod Limits
+pub mod Singles
+pub mod Items
+pub mod Trees
+pub mod Headers
+pub mod Good
+pub mod Records
+pub mod Steps
+pub mod LeafTable
+pub mod Placed
+pub mod Members
+pub mod Verdict
+pub mod Times

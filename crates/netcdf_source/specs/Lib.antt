@@ -1,0 +1,12 @@
+pub mod Types
+pub mod Fields
+pub mod Parts
+pub mod Grammar
+pub mod Reading
+pub mod Sound
+pub mod Header
+pub mod Names
+pub mod Mapping
+pub mod Coordinates
+pub mod File
+pub mod Layouts

@@ -1,0 +1,99 @@
+ghost use Rattle.std.specs.Prelude.{◌≡◌, ℕ, ◌+◌, ◌≤◌, Bool, ◌||◌, [], ◌∷◌, ◌++◌, IfOk};
+ghost use Rattle.netcdf_source.specs.Grammar.{length_fault, is_record_dimension};
+ghost use Rattle.netcdf_source.specs.Parts.{length_at};
+ghost use Rattle.netcdf_source.specs.Reading.{Gives, new_name_at, judged_at, dimension_at, next_dimension, times, list_at};
+
+use crate::Dimension;
+use crate::names::Names;
+use crate::stop::{Failure, Stop};
+use crate::words::{INT_MAX, bad, head, name_length, run, word};
+use dap_types::{Bytes, List};
+use std::alloc::Global;
+
+/// The tag of a list of dimensions.
+const TAG: u32 = 10;
+
+/// A name that differs from all of these, and is one of them from now on.
+#[tactic(auto, unfolding(crate::specs::Reading::new_name_at, crate::specs::Grammar::repeat_fault))]
+pub fn new_name<'a>(
+    alloc: Global,
+    names: &mut Names,
+    bytes: &'a [u8],
+) -> Result<(Bytes, &'a [u8]), Stop>
+    ensures reading { Gives (λ x. (x.0, x.1.now)) result (new_name_at names.old bytes.now) }
+    ensures names { IfOk result (λ x. names.new ≡ names.old ++ x.0 ∷ []) }
+{
+    let (length, rest) = name_length(bytes)?;
+    let (name, after) = run(u64::from(length), rest)?;
+    if !names.insert(alloc, name)? {
+        return Err(Stop::Failed(Failure::Bad(rest.len() + 4)));
+    }
+    Ok((Bytes::new(alloc, name)?, after))
+}
+
+/// The length of a dimension, behind a record dimension or not.
+#[tactic(auto, unfolding(crate::specs::Reading::judged_at, crate::specs::Grammar::length_fault))]
+fn length(has_records: bool, bytes: &[u8]) -> Result<(u32, &[u8]), Stop>
+    ensures { Gives (λ x. (x.0, x.1.now)) result (judged_at (length_fault has_records) bytes.now) }
+{
+    let (number, rest) = word(bytes)?;
+    if number > INT_MAX || number == 0 && has_records {
+        return Err(bad(bytes));
+    }
+    Ok((number, rest))
+}
+
+#[tactic(auto, unfolding(crate::specs::Reading::dimension_at))]
+fn dimension<'a>(
+    alloc: Global,
+    names: &mut Names,
+    has_records: bool,
+    bytes: &'a [u8],
+) -> Result<(Dimension, &'a [u8]), Stop>
+    ensures reading { Gives (λ x. (x.0, x.1.now)) result (dimension_at names.old has_records bytes.now) }
+    ensures names { IfOk result (λ x. names.new ≡ names.old ++ x.0.name ∷ []) }
+{
+    let (name, rest) = new_name(alloc, names, bytes)?;
+    let (length, rest) = length(has_records, rest)?;
+    Ok((Dimension { name, length }, rest))
+}
+
+/// Whether one of the dimensions up to this one is the record dimension.
+fn with_records(has_records: bool, dimension: &Dimension) -> bool
+    ensures { result ≡ (has_records || is_record_dimension dimension.now) }
+{
+    has_records || dimension.length == 0
+}
+
+fn items(alloc: Global, count: u32, bytes: &[u8]) -> Result<(List<Dimension>, &[u8]), Stop>
+    ensures { Gives (λ x. (x.0, x.1.now)) result (times next_dimension count [] bytes.now) }
+{
+    let mut dimensions = List::new(alloc);
+    let mut names = Names::new(alloc);
+    let mut has_records = false;
+    let mut rest = bytes;
+    for _ in 0..count {
+        let (dimension, after) = dimension(alloc, &mut names, has_records, rest)?;
+        has_records = with_records(has_records, &dimension);
+        dimensions.push(dimension)?;
+        rest = after;
+    }
+    Ok((dimensions, rest))
+}
+
+/// The list of dimensions.
+#[tactic(auto, unfolding(crate::specs::Reading::list_at))]
+pub fn dimensions(alloc: Global, bytes: &[u8]) -> Result<(List<Dimension>, &[u8]), Stop>
+    ensures { Gives (λ x. (x.0, x.1.now)) result (list_at 10 next_dimension bytes.now) }
+{
+    let (count, rest) = head(TAG, bytes)?;
+    items(alloc, count, rest)
+}
+
+/// The length of dimension number `id`, which is 0 for the record dimension.
+#[tactic(auto, unfolding(crate::specs::Parts::length_at))]
+pub fn length_of(dimensions: &[Dimension], id: u32) -> u32
+    ensures { result ≡ length_at dimensions.now id }
+{
+    dimensions.get(id as usize).map_or(1, |d| d.length)
+}

@@ -1,0 +1,122 @@
+ghost use Rattle.std.specs.Prelude.{◌≡◌, ℕ, ◌+◌, Bool, false, None, IfOk, option_map, slice_get};
+ghost use Rattle.std.specs.Option.{option_copied, option_map_or};
+ghost use Rattle.dap_types.specs.View.{dataset_view};
+ghost use Rattle.netcdf_source.specs.Layouts.{layout_of, LeafIsPlaced};
+ghost use Rattle.netcdf_source.specs.Mapping.{dataset_of, is_char, leaf_variable};
+ghost use Rattle.netcdf_source.specs.Parts.{past_end};
+ghost use Rattle.netcdf_source.specs.Sound.{IsSound};
+
+use crate::coordinates::coordinates;
+use crate::extents::record_size;
+use crate::header::Contents;
+use crate::layouts::layouts;
+use crate::leaves::{leaf_in, leaves};
+use crate::mapping::dataset_of;
+use crate::texts::is_char;
+use dap_types::{Dataset, Layout, List, Memory};
+use std::alloc::Global;
+use std::marker::Model;
+
+/// The header of a netCDF classic file, each variable of which ends within the file. Contracts see
+/// what it says and the length of the file.
+#[derive(Drop)]
+pub struct Header {
+    contents: Contents,
+    /// The bytes of the file.
+    length: u64,
+    /// The number of each dimension's coordinate variable.
+    coordinates: Vec<Option<u32>>,
+    /// The number of the variable of each member of the dataset, none for a Grid.
+    leaves: Vec<Option<u32>>,
+    /// Where the elements of each variable stand.
+    layouts: List<Layout>,
+}
+
+impl Model for Header {
+    ghost use Rattle.std.specs.Prelude.{◌≡◌, None, map};
+    ghost use Rattle.netcdf_source.specs.Coordinates.{AreCoordinates};
+    ghost use Rattle.netcdf_source.specs.File.{FileHeader};
+    ghost use Rattle.netcdf_source.specs.Layouts.{layout_of};
+    ghost use Rattle.netcdf_source.specs.Mapping.{leaves_from};
+    ghost use Rattle.netcdf_source.specs.Parts.{past_end};
+    ghost use Rattle.netcdf_source.specs.Sound.{IsSound};
+
+    ghost Value = { FileHeader };
+
+    ghost view = { λ h. record { contents = h.contents; length = h.length } };
+
+    ghost invariant = { λ h. IsSound h.contents × (past_end h.contents h.length ≡ None)
+        × AreCoordinates h.contents h.coordinates.items
+        × (h.leaves.items ≡ leaves_from h.contents 0 h.contents.variables)
+        × (h.layouts ≡ map (layout_of h.contents) h.contents.variables) };
+}
+
+impl Header {
+    /// The header that says this, of a file of that length.
+    pub(crate) fn new(alloc: Global, contents: Contents, length: u64) -> Result<Header, Memory>
+        requires sound { IsSound contents }
+        requires within { past_end contents length ≡ None }
+        ensures contents { IfOk result (λ h. h.contents ≡ contents) }
+        ensures length { IfOk result (λ h. h.length ≡ length) }
+    {
+        let step = record_size(contents.dimensions.items(), contents.variables.items());
+        let coordinates = coordinates(alloc, &contents)?;
+        let leaves = leaves(alloc, &contents, &coordinates)?;
+        let layouts = layouts(alloc, &contents, step)?;
+        Ok(Header {
+            contents,
+            length,
+            coordinates,
+            leaves,
+            layouts,
+        })
+    }
+
+    /// The dataset of the file with that name: its variables in order, with coordinate variables as
+    /// arrays, variables over coordinate variables as Grids, and chars as Strings (DAP 2.0, DDS; the
+    /// mapping is this project's).
+    pub fn dataset(&self, alloc: Global, file_name: &[u8]) -> Result<Dataset, Memory>
+        ensures { IfOk result (λ d. dataset_view d ≡ dataset_of self.now.contents file_name.now) }
+    {
+        dataset_of(alloc, &self.contents, &self.coordinates, file_name)
+    }
+
+    /// Where the elements of a leaf stand in the file, `leaf` being its number as a member of the
+    /// dataset, from 1. None where that member is no leaf.
+    pub fn layout(&self, leaf: u32) -> Option<&Layout>
+        ensures leaf { option_copied result ≡ option_map (layout_of self.now.contents) (leaf_variable self.now.contents leaf) }
+        ensures placed { LeafIsPlaced self.now.contents self.now.length leaf (option_copied result) }
+    {
+        match leaf_in(&self.leaves, leaf) {
+            Some(number) => layout_at(self.layouts.items(), number),
+            None => None,
+        }
+    }
+
+    /// Whether a leaf is a variable of chars, whose texts stand in the file without their lengths.
+    pub fn is_char(&self, leaf: u32) -> bool
+        ensures { result ≡ option_map_or is_char (leaf_variable self.now.contents leaf) false }
+    {
+        match leaf_in(&self.leaves, leaf) {
+            Some(number) => is_char_at(&self.contents, number),
+            None => false,
+        }
+    }
+}
+
+/// The layout with that number, from 0.
+fn layout_at(layouts: &[Layout], number: u32) -> Option<&Layout>
+    ensures { option_copied result ≡ slice_get layouts.now number }
+{
+    layouts.get(number as usize)
+}
+
+/// Whether the variable with that number is one of chars.
+fn is_char_at(contents: &Contents, number: u32) -> bool
+    ensures { result ≡ option_map_or is_char (slice_get contents.now.variables number) false }
+{
+    match contents.variables.items().get(number as usize) {
+        Some(variable) => is_char(variable),
+        None => false,
+    }
+}

@@ -1,0 +1,42 @@
+use crate::ExternalType;
+use dap_types::{Bytes, List};
+
+/// A dimension (netCDF classic format, `dim`).
+#[derive(Debug, Drop)]
+pub struct Dimension {
+    pub name: Bytes,
+    /// The number of indexes. 0 is that of the record dimension, which has as many as there are
+    /// records.
+    pub length: u32,
+}
+
+/// An attribute of a variable or of the file (netCDF classic format, `attr`).
+#[derive(Debug, Drop)]
+pub struct Attribute {
+    pub name: Bytes,
+    pub external_type: ExternalType,
+    /// The bytes of its values, without padding.
+    pub values: Bytes,
+}
+
+/// A variable (netCDF classic format, `var`).
+#[derive(Debug, Drop)]
+pub struct Variable {
+    pub name: Bytes,
+    /// The numbers of its dimensions, from 0, the slowest first.
+    pub dimensions: List<u32>,
+    pub attributes: List<Attribute>,
+    pub external_type: ExternalType,
+    /// The place of its first byte in the file.
+    pub begin: u64,
+}
+
+/// What a header says (netCDF classic format, `header`).
+#[derive(Debug, Drop)]
+pub struct Contents {
+    /// The number of records.
+    pub records: u32,
+    pub dimensions: List<Dimension>,
+    pub attributes: List<Attribute>,
+    pub variables: List<Variable>,
+}

@@ -1,0 +1,35 @@
+//! The header of a netCDF classic file, versions 1 and 2. The first bytes of a file come in; its
+//! dataset and the places of its elements go out, or the first thing that fails from the front, by
+//! `specs/Grammar`, `specs/Mapping` and `specs/Layouts`.
+#![tactic(auto)]
+
+mod attributes;
+mod coordinates;
+mod dataset_name;
+mod dimensions;
+mod extents;
+mod external_type;
+mod file;
+mod header;
+mod laws;
+mod layouts;
+mod leaves;
+mod mapping;
+mod names;
+mod parts;
+mod read;
+mod refusal;
+mod stop;
+mod texts;
+mod variables;
+mod words;
+
+pub use external_type::ExternalType;
+pub use file::Header;
+pub use header::{Attribute, Dimension, Variable};
+pub use laws::leaves_agree;
+pub use read::read_header;
+pub use refusal::HeaderRefusal;
+
+#[cfg(test)]
+mod tests;

@@ -1,0 +1,208 @@
+ghost use Rattle.std.specs.Prelude.{◌≡◌, ℕ, ◌<◌, ◌^◌, Bool, List, map, filter, IfOk, IfSome, None, get_or, length};
+ghost use Rattle.std.specs.List.{list_all};
+ghost use Rattle.std.specs.Prelude.{is_some};
+ghost use Rattle.netcdf_source.specs.Coordinates.{AreCoordinates};
+ghost use Rattle.dap_types.specs.View.{member_view, dataset_view};
+ghost use Rattle.netcdf_source.specs.Mapping.{size_at, name_at, base_of, is_char, has_texts, element_dimensions, element_size, is_offered, own_dimension, coordinate_at, differ, is_grid, dim_of, column_of, array_of, coordinate_variable, maps_of, member_of, dataset_of};
+
+use crate::coordinates::{coordinate, coordinate_variable, own_dimension};
+use crate::dataset_name::dataset_id;
+use crate::dimensions::length_of;
+use crate::header::Contents;
+use crate::texts::{element_dimensions, is_char, is_offered};
+use crate::{ExternalType, Variable};
+use dap_types::{ArrayDecl, BaseType, Column, Dataset, Decl, Dim, Id, List, Memory};
+use std::alloc::Global;
+
+/// The DAP type of values of a type. A char is a part of a String.
+fn base_of(external_type: ExternalType) -> BaseType
+    ensures { result ≡ base_of external_type }
+{
+    match external_type {
+        ExternalType::Byte => BaseType::Byte,
+        ExternalType::Char => BaseType::Text,
+        ExternalType::Short => BaseType::Int16,
+        ExternalType::Int => BaseType::Int32,
+        ExternalType::Float => BaseType::Float32,
+        ExternalType::Double => BaseType::Float64,
+    }
+}
+
+/// The number of indexes of a dimension: as many as records for the record dimension.
+fn size_at(contents: &Contents, id: u32) -> u32
+    ensures { result ≡ size_at contents.now id }
+{
+    let length = length_of(contents.dimensions.items(), id);
+    if length == 0 {
+        contents.records
+    } else {
+        length
+    }
+}
+
+/// The name of a dimension.
+#[tactic(auto, unfolding(crate::specs::Mapping::name_at))]
+fn name_at(contents: &Contents, id: u32) -> &[u8]
+    ensures { result.now ≡ name_at contents.now id }
+{
+    match contents.dimensions.items().get(id as usize) {
+        Some(dimension) => dimension.name.bytes(),
+        None => &[],
+    }
+}
+
+fn dim_of(alloc: Global, contents: &Contents, id: u32) -> Result<Dim, Memory>
+    ensures { IfOk result (λ d. d ≡ dim_of contents.now id) }
+{
+    let name = Id::of_file(alloc, name_at(contents, id))?;
+    Ok(Dim {
+        name: Some(name),
+        size: size_at(contents, id),
+    })
+}
+
+fn dims_of(alloc: Global, contents: &Contents, ids: &[u32]) -> Result<List<Dim>, Memory>
+    ensures { IfOk result (λ ds. ds ≡ map (dim_of contents.now) ids.now) }
+{
+    let mut dims = List::new(alloc);
+    for id in ids {
+        dims.push(dim_of(alloc, contents, *id)?)?;
+    }
+    Ok(dims)
+}
+
+fn column_of(alloc: Global, variable: &Variable) -> Result<Column, Memory>
+    ensures { IfOk result (λ x. x ≡ column_of variable.now) }
+{
+    let name = Id::of_file(alloc, variable.name.bytes())?;
+    Ok(Column {
+        name,
+        base: base_of(variable.external_type),
+    })
+}
+
+fn array_of(alloc: Global, contents: &Contents, variable: &Variable) -> Result<ArrayDecl, Memory>
+    ensures { IfOk result (λ a. a ≡ array_of contents.now variable.now) }
+{
+    let name = Id::of_file(alloc, variable.name.bytes())?;
+    let dims = dims_of(alloc, contents, element_dimensions(contents, variable))?;
+    Ok(ArrayDecl {
+        name,
+        base: base_of(variable.external_type),
+        dims,
+    })
+}
+
+/// Whether no dimension comes twice.
+#[tactic(auto, unfolding(crate::specs::Mapping::differ))]
+fn differ(ids: &[u32]) -> bool
+    ensures { result ≡ differ ids.now }
+{
+    for (i, id) in ids.iter().enumerate() {
+        if ids[i + 1..].contains(id) {
+            return false;
+        }
+    }
+    true
+}
+
+/// Whether each dimension has a coordinate variable.
+fn have_coordinates(contents: &Contents, table: &[Option<u32>], ids: &[u32]) -> bool
+    requires { AreCoordinates contents.now table.now }
+    ensures { result ≡ list_all (λ i. is_some (coordinate_at contents.now i)) ids.now }
+{
+    for id in ids {
+        if coordinate(contents, table, *id).is_none() {
+            return false;
+        }
+    }
+    true
+}
+
+/// Whether a variable is the array of a Grid.
+#[tactic(auto, unfolding(crate::specs::Mapping::is_grid))]
+pub fn is_grid(contents: &Contents, table: &[Option<u32>], variable: &Variable) -> bool
+    requires { AreCoordinates contents.now table.now }
+    ensures { result ≡ is_grid contents.now variable.now }
+{
+    let ids = variable.dimensions.items();
+    !is_char(variable)
+        && own_dimension(contents, variable).is_none()
+        && !ids.is_empty()
+        && differ(ids)
+        && have_coordinates(contents, table, ids)
+}
+
+/// The coordinate variables of some dimensions, as the maps of a Grid.
+fn maps_of(
+    alloc: Global,
+    contents: &Contents,
+    table: &[Option<u32>],
+    ids: &[u32],
+) -> Result<List<ArrayDecl>, Memory>
+    requires { AreCoordinates contents.now table.now }
+    ensures { IfOk result (λ maps. maps ≡ maps_of contents.now ids.now) }
+{
+    let mut maps = List::new(alloc);
+    for id in ids {
+        if let Some(variable) = coordinate_variable(contents, table, *id) {
+            maps.push(array_of(alloc, contents, variable)?)?;
+        }
+    }
+    Ok(maps)
+}
+
+/// What a variable becomes in the dataset.
+#[tactic(auto, unfolding(crate::specs::Mapping::member_of), using(dap_types::proofs::Views::views))]
+fn member_of(
+    alloc: Global,
+    contents: &Contents,
+    table: &[Option<u32>],
+    variable: &Variable,
+) -> Result<Decl, Memory>
+    requires { AreCoordinates contents.now table.now }
+    ensures { IfOk result (λ d. member_view d ≡ member_of contents.now variable.now) }
+{
+    if element_dimensions(contents, variable).is_empty() {
+        return Ok(Decl::Base(column_of(alloc, variable)?));
+    }
+    let array = array_of(alloc, contents, variable)?;
+    if !is_grid(contents, table, variable) {
+        return Ok(Decl::Array(array));
+    }
+    let maps = maps_of(alloc, contents, table, variable.dimensions.items())?;
+    let name = Id::of_file(alloc, variable.name.bytes())?;
+    Ok(Decl::Grid(name, array, maps))
+}
+
+fn members_of(
+    alloc: Global,
+    contents: &Contents,
+    table: &[Option<u32>],
+) -> Result<List<Decl>, Memory>
+    requires { AreCoordinates contents.now table.now }
+    ensures { IfOk result (λ ds. map member_view ds ≡ map (member_of contents.now) (filter (is_offered contents.now) contents.now.variables)) }
+{
+    let mut members = List::new(alloc);
+    for variable in contents.variables.items() {
+        if is_offered(contents, variable) {
+            members.push(member_of(alloc, contents, table, variable)?)?;
+        }
+    }
+    Ok(members)
+}
+
+/// The dataset of a file with that name.
+pub fn dataset_of(
+    alloc: Global,
+    contents: &Contents,
+    table: &[Option<u32>],
+    file_name: &[u8],
+) -> Result<Dataset, Memory>
+    requires { AreCoordinates contents.now table.now }
+    ensures { IfOk result (λ d. dataset_view d ≡ dataset_of contents.now file_name.now) }
+{
+    let name = dataset_id(alloc, file_name)?;
+    let members = members_of(alloc, contents, table)?;
+    Ok(Dataset { name, members })
+}
