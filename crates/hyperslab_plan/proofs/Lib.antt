@@ -1,0 +1,17 @@
+pub mod NestedLemmas
+pub mod CutLemmas
+pub mod PickedLemmas
+pub mod RowLemmas
+pub mod ShapeLemmas
+pub mod PositionLemmas
+pub mod SpentLemmas
+pub mod ShapedLemmas
+pub mod BoundedLemmas
+pub mod RunLemmas
+pub mod FetchedLemmas
+pub mod DenseLemmas
+pub mod MadeLemmas
+pub mod FullLemmas
+pub mod LargestLemmas
+pub mod ReadLemmas
+pub mod NewLemmas

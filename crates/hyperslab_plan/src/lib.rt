@@ -1,0 +1,17 @@
+//! From a layout and hyperslabs (DAP 2.0, constraint expressions) to the places of the picked
+//! elements in a file, in row-major order, and to the reads that fetch them in batches of at most
+//! 65,536 bytes. `specs/Nested` says which places these are, `specs/Batches` what is read.
+#![tactic(auto)]
+
+mod batch;
+mod limits;
+mod plan;
+mod shape;
+mod slabs;
+mod spacing;
+#[cfg(test)]
+mod tests;
+
+pub use batch::{Batch, Run};
+pub use plan::Plan;
+pub use spacing::Spacing;
