@@ -1,0 +1,7 @@
+pub mod FormLemmas
+pub mod RowLemmas
+pub mod SpotLemmas
+pub mod ChunkLemmas
+pub mod PartLemmas
+pub mod WholeLemmas
+pub mod WorkerLemmas

@@ -1,0 +1,53 @@
+-- The elements of a batch out of its raw bytes, and their XDR forms.
+use Rattle.std.specs.Prelude.{ℕ, ◌/◌, ◌%◌, List, [], ◌∷◌, map, take, drop, pos, slice_index}
+use Rattle.std.specs.Int.{from_be_bytes, cast_signed, w8, w16, w32, w64}
+use Rattle.std.specs.List.{flat_map, range_with_len}
+use Rattle.dap_types.specs.declared.declarations.BaseType.{BaseType}
+use Rattle.dap_types.specs.declared.declarations.BaseType.TheVariants.{Byte, Int16, UInt16, Int32, UInt32, Float32, Float64, Text, Url}
+use Rattle.dap_types.specs.declared.values.Value.{Value}
+use Rattle.dap_types.specs.declared.values.Value.TheVariants as values
+use Rattle.dap_model.specs.Xdr.{Field, packed, value_fields, bytes_of}
+use Rattle.hyperslab_plan.specs.Numbers.{number_size, width_of}
+use Rattle.hyperslab_plan.specs.Plans.{base_in, size_in, width_in, place_in}
+use Rattle.hyperslab_plan.specs.declared.batch.Batch.{Batch}
+use Rattle.hyperslab_plan.specs.declared.plan.Plan.{Plan}
+use Rattle.slab_fill.specs.Spots.{spot}
+
+-- the value of a type that stands in some bytes of a file: the high byte first, signed numbers in
+-- two's complement, floats as their bits (netCDF classic format, external types)
+abbrev pub value_of : BaseType → List ℕ → Value
+value_of Byte bytes = values.Whole (pos (from_be_bytes w8 bytes))
+value_of Int16 bytes = values.Whole (cast_signed w16 (from_be_bytes w16 bytes))
+value_of UInt16 bytes = values.Whole (pos (from_be_bytes w16 bytes))
+value_of Int32 bytes = values.Whole (cast_signed w32 (from_be_bytes w32 bytes))
+value_of UInt32 bytes = values.Whole (pos (from_be_bytes w32 bytes))
+value_of Float32 bytes = values.Bits32 (from_be_bytes w32 bytes)
+value_of Float64 bytes = values.Bits64 (from_be_bytes w64 bytes)
+value_of Text bytes = values.Text bytes
+value_of Url bytes = values.Text bytes
+
+-- an element of an array: a Byte is packed, another value is as it is outside of arrays (DAP 2.0, arrays)
+abbrev pub element_fields : BaseType → Value → List Field
+element_fields Byte value = packed value ∷ []
+element_fields base value = value_fields base value
+
+-- the values of a batch's elements, in order
+unfoldable pub values_of : Plan → Batch → List ℕ → List Value
+values_of plan batch raw = map (λ j. value_of (base_in plan) (take (size_in plan) (drop (place_in plan j) raw))) (range_with_len 0 batch.count)
+
+-- their XDR forms, one after the other
+unfoldable pub xdr_of : Plan → Batch → List ℕ → List ℕ
+xdr_of plan batch raw = bytes_of (flat_map (element_fields (base_in plan)) (values_of plan batch raw))
+
+-- the XDR form of the element that some bytes are
+unfoldable pub form_of : BaseType → List ℕ → List ℕ
+form_of base bytes = bytes_of (element_fields base (value_of base bytes))
+
+-- byte k of what is written for elements that stand `step` bytes apart from `at` on
+unfoldable pub row_byte : BaseType → List ℕ → ℕ → ℕ → ℕ → ℕ
+row_byte base raw at step k = slice_index (form_of base (take (number_size base) (drop (spot at step (k / width_of base)) raw))) (k % width_of base)
+
+-- byte i of what is written for the elements of a batch
+unfoldable pub batch_byte : Plan → List ℕ → ℕ → ℕ
+batch_byte plan raw i =
+    slice_index (form_of (base_in plan) (take (size_in plan) (drop (place_in plan (i / width_in plan)) raw))) (i % width_in plan)

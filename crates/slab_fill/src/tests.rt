@@ -1,0 +1,253 @@
+ghost use Rattle.std.specs.Prelude.{◌≡◌, ◌+◌, ◌*◌, ◌^◌, ◌<◌, ◌≤◌, [], ◌∷◌, All, IfOk, IsTrue};
+ghost use Rattle.hyperslab_plan.specs.Numbers.{is_number, HasSize};
+ghost use Rattle.hyperslab_plan.specs.Picked.{count_of, highest};
+ghost use Rattle.hyperslab_plan.specs.Plans.{base_in};
+
+use crate::chunk::xdr_width;
+use crate::{Gate, NoGate, fill};
+use dap_types::{BaseType, Layout, List, Memory, Slab};
+use hyperslab_plan::Plan;
+use std::alloc::Global;
+use std::process::Abort;
+use std::sync::atomic::{AtomicBool, Ordering};
+use std::test::Fail;
+use std::thread::Threads;
+
+/// The elements that two hyperslabs pick out of an array that stands at the front of its file.
+fn plan(
+    alloc: Global,
+    base: BaseType,
+    size: u32,
+    steps: (u64, u64),
+    slabs: &[Slab; 2],
+) -> Result<Plan, Memory>
+    requires strided { All (λ s. 0 < s.stride) slabs.now }
+    requires below { highest slabs.now (steps.0 ∷ steps.1 ∷ []) < 2 ^ 63 }
+    requires few { count_of slabs.now ≤ 2147483647 }
+    requires sized { 0 < size }
+    requires small { size ≤ 65536 }
+    requires typed { HasSize base size }
+    ensures { IfOk result (λ plan. base_in plan ≡ base) }
+{
+    let mut list = List::new(alloc);
+    list.push(steps.0)?;
+    list.push(steps.1)?;
+    let layout = Layout {
+        base: 0,
+        steps: list,
+        size,
+    };
+    Plan::new(alloc, &layout, base, slabs)
+}
+
+/// Fills `out` with the first batch.
+fn fill_first<R: Threads + Abort + Sync, G: Gate>(
+    rt: &R,
+    plan: &Plan,
+    raw: &[u8],
+    out: &mut [u8],
+    workers: u32,
+    gate: &G,
+)
+    requires { IsTrue (is_number (base_in plan.now)) }
+{
+    assert!(rt; plan.total() > 0);
+    let batch = plan.batch(0);
+    assert!(rt; raw.len() == batch.raw_len as usize);
+    assert!(rt; out.len() == batch.count as usize * xdr_width(plan.base()));
+    assert!(rt; workers >= 1 && workers <= 64);
+    fill(rt, plan, &batch, raw, out, workers, gate);
+}
+
+/// Two rows of three elements, every second one of a row.
+const APART: [Slab; 2] = [
+    Slab {
+        start: 0,
+        stride: 1,
+        count: 2,
+    },
+    Slab {
+        start: 0,
+        stride: 2,
+        count: 3,
+    },
+];
+
+/// Two rows of three elements, end to end.
+const DENSE: [Slab; 2] = [
+    Slab {
+        start: 0,
+        stride: 1,
+        count: 2,
+    },
+    Slab {
+        start: 0,
+        stride: 1,
+        count: 3,
+    },
+];
+
+#[test]
+fn any_number_of_workers(rt: HostRuntime) -> Result<(), Fail> {
+    let alloc = rt.alloc();
+    let bytes = [1u8, 9, 2, 9, 0xff, 0x80, 9, 0, 9, 7];
+    let shorts = [
+        0u8, 1, 9, 9, 0xff, 0xfe, 9, 9, 0x80, 0, 0x7f, 0xff, 9, 9, 0, 0, 9, 9, 0xff, 0xff,
+    ];
+    let words = [
+        1u8, 2, 3, 4, 9, 9, 9, 9, 5, 6, 7, 8, 9, 9, 9, 9, 10, 11, 12, 13, 14, 15, 16, 17, 9, 9, 9,
+        9, 18, 19, 20, 21, 9, 9, 9, 9, 22, 23, 24, 25,
+    ];
+    let byte_plan = plan(alloc, BaseType::Byte, 1, (100, 1), &APART)?;
+    let signed_plan = plan(alloc, BaseType::Int16, 2, (100, 2), &APART)?;
+    let unsigned_plan = plan(alloc, BaseType::UInt16, 2, (100, 2), &APART)?;
+    let word_plan = plan(alloc, BaseType::Int32, 4, (100, 4), &APART)?;
+    for workers in [1, 2, 7, 64] {
+        let mut out = [3u8; 6];
+        fill_first(&rt, &byte_plan, &bytes, &mut out, workers, &NoGate);
+        assert_eq!(rt; out, [1, 2, 0xff, 0x80, 0, 7]);
+        let mut out = [3u8; 24];
+        fill_first(&rt, &signed_plan, &shorts, &mut out, workers, &NoGate);
+        assert_eq!(rt;
+            out,
+            [
+                0, 0, 0, 1, 0xff, 0xff, 0xff, 0xfe, 0xff, 0xff, 0x80, 0, 0, 0, 0x7f, 0xff, 0, 0, 0,
+                0, 0xff, 0xff, 0xff, 0xff
+            ]
+        );
+        fill_first(&rt, &unsigned_plan, &shorts, &mut out, workers, &NoGate);
+        assert_eq!(rt;
+            out,
+            [
+                0, 0, 0, 1, 0, 0, 0xff, 0xfe, 0, 0, 0x80, 0, 0, 0, 0x7f, 0xff, 0, 0, 0, 0, 0, 0,
+                0xff, 0xff
+            ]
+        );
+        fill_first(&rt, &word_plan, &words, &mut out, workers, &NoGate);
+        assert_eq!(rt;
+            out,
+            [
+                1, 2, 3, 4, 5, 6, 7, 8, 10, 11, 12, 13, 14, 15, 16, 17, 18, 19, 20, 21, 22, 23, 24,
+                25
+            ]
+        );
+    }
+    Ok(())
+}
+
+#[test]
+fn elements_end_to_end(rt: HostRuntime) -> Result<(), Fail> {
+    let alloc = rt.alloc();
+    let shorts = [0u8, 1, 0xff, 0xfe, 0x80, 0, 0x7f, 0xff, 0, 0, 0xff, 0xff];
+    let doubles = [
+        1u8, 2, 3, 4, 5, 6, 7, 8, 9, 10, 11, 12, 13, 14, 15, 16, 17, 18, 19, 20, 21, 22, 23, 24,
+        25, 26, 27, 28, 29, 30, 31, 32, 33, 34, 35, 36, 37, 38, 39, 40, 41, 42, 43, 44, 45, 46, 47,
+        48,
+    ];
+    let signed_plan = plan(alloc, BaseType::Int16, 2, (6, 2), &DENSE)?;
+    let double_plan = plan(alloc, BaseType::Float64, 8, (24, 8), &DENSE)?;
+    for workers in [1, 2, 7, 64] {
+        let mut out = [3u8; 24];
+        fill_first(&rt, &signed_plan, &shorts, &mut out, workers, &NoGate);
+        assert_eq!(rt;
+            out,
+            [
+                0, 0, 0, 1, 0xff, 0xff, 0xff, 0xfe, 0xff, 0xff, 0x80, 0, 0, 0, 0x7f, 0xff, 0, 0, 0,
+                0, 0xff, 0xff, 0xff, 0xff
+            ]
+        );
+        let mut out = [3u8; 48];
+        fill_first(&rt, &double_plan, &doubles, &mut out, workers, &NoGate);
+        assert_eq!(rt; out, doubles);
+    }
+    Ok(())
+}
+
+/// Two workers who each look for the other.
+#[derive(Drop)]
+struct Meeting {
+    arrived: [AtomicBool; 2],
+    met: [AtomicBool; 2],
+}
+
+/// How often a worker looks.
+const TURNS: u32 = 100_000_000;
+
+impl Meeting {
+    fn new() -> Meeting {
+        Meeting {
+            arrived: [AtomicBool::new(false), AtomicBool::new(false)],
+            met: [AtomicBool::new(false), AtomicBool::new(false)],
+        }
+    }
+
+    fn both_met(&self) -> bool {
+        self.met[0].load(Ordering::SeqCst) && self.met[1].load(Ordering::SeqCst)
+    }
+}
+
+impl Gate for Meeting {
+    fn enter(&self, worker: u32) {
+        let mine = if worker == 0 { 0 } else { 1 };
+        self.arrived[mine].store(true, Ordering::SeqCst);
+        for _ in 0..TURNS {
+            if self.arrived[1 - mine].load(Ordering::SeqCst) {
+                self.met[mine].store(true, Ordering::SeqCst);
+                return;
+            }
+        }
+    }
+}
+
+/// The machine has to give the process a second thread.
+#[test]
+fn two_workers_meet(rt: HostRuntime) -> Result<(), Fail> {
+    let bytes = [1u8, 9, 2, 9, 3, 4, 9, 5, 9, 6];
+    let plan = plan(rt.alloc(), BaseType::Byte, 1, (100, 1), &APART)?;
+    let mut met = false;
+    for _ in 0..8 {
+        if !met {
+            let gate = Meeting::new();
+            let mut out = [0u8; 6];
+            fill_first(&rt, &plan, &bytes, &mut out, 2, &gate);
+            met = gate.both_met();
+        }
+    }
+    assert!(rt; met, "two workers met");
+    Ok(())
+}
+
+/// Which workers came.
+#[derive(Drop)]
+struct Seen {
+    came: [AtomicBool; 4],
+}
+
+impl Gate for Seen {
+    fn enter(&self, worker: u32) {
+        if worker < 4 {
+            self.came[worker as usize].store(true, Ordering::SeqCst);
+        }
+    }
+}
+
+/// Four workers for six elements: three get two each, and are numbered from 0.
+#[test]
+fn numbers_of_workers(rt: HostRuntime) -> Result<(), Fail> {
+    let bytes = [1u8, 9, 2, 9, 3, 4, 9, 5, 9, 6];
+    let plan = plan(rt.alloc(), BaseType::Byte, 1, (100, 1), &APART)?;
+    let seen = Seen {
+        came: [
+            AtomicBool::new(false),
+            AtomicBool::new(false),
+            AtomicBool::new(false),
+            AtomicBool::new(false),
+        ],
+    };
+    let mut out = [0u8; 6];
+    fill_first(&rt, &plan, &bytes, &mut out, 4, &seen);
+    for (worker, came) in [(0, true), (1, true), (2, true), (3, false)] {
+        assert_eq!(rt; seen.came[worker].load(Ordering::SeqCst), came);
+    }
+    Ok(())
+}
