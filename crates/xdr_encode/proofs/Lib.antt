@@ -1,0 +1,2 @@
+pub mod StringParts
+pub mod RowSteps
