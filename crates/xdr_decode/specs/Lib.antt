@@ -1,0 +1,4 @@
+pub mod Bads
+pub mod Heads
+pub mod Progress
+pub mod Verdict
