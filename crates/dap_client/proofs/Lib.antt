@@ -1,0 +1,6 @@
+pub mod Judged
+pub mod Passing
+pub mod Rows
+pub mod Tables
+pub mod Taken
+pub mod Texts

@@ -1,0 +1,5 @@
+pub mod Buffered
+pub mod Gathered
+pub mod Lines
+pub mod Showing
+pub mod Shows
