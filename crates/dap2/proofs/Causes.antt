@@ -1,0 +1,137 @@
+-- Each status over told files, from what the others mean.
+use Rattle.std.proofs.Common.{◌≡◌, ◌≢◌, ℕ, List, [], ◌∷◌, ◌++◌, length, get_or, Option, Some, None, IsSome, inl, inr, codes, refl, sym, ap, ◌∙◌, arith}
+use Rattle.std.specs.Prelude.{◌⊎◌}
+use Rattle.std.proofs.lemmas.List.{append_cancel_right}
+use Rattle.csv_source.specs.Plain.{plain_table}
+use Rattle.dap_outside.specs.Files.{Told}
+use Rattle.dap2.specs.Answer.{AnswersBody, Asks, HasFile, HasNoFile, IsMissing, IsOtherFile, IsUnbuilt}
+use Rattle.dap2.specs.Show.{IsFor, status_for}
+use Rattle.dap2.specs.Words.{AreAnswer, IsBuilt, IsCommand, IsShow, Names}
+use Rattle.xdr_decode.specs.Verdict.{Verdict}
+use Rattle.dap2.specs.declared.status.Status.{Status}
+use Rattle.dap2.specs.declared.status.Status.TheVariants.{Complete, Words, Refused, BadReply, ReadFault, WriteFault, Memory, Unbuilt}
+
+-- words have one target, and a target names one file
+same_target : (words : List (List ℕ)) (t u : List ℕ) → AreAnswer words t → AreAnswer words u → t ≡ u
+same_target words t u p q = ap (λ ws. get_or ws 1 t) (sym p ∙ q)
+
+same_file : (t u f g : List ℕ) → t ≡ u → Names t f → Names u g → f ≡ g
+same_file t u f g is p q = append_cancel_right f g (codes ".dods") (sym p.3 ∙ is ∙ q.3)
+
+some_is_not_none : (x y : Option (List ℕ)) (bytes : List ℕ) → x ≡ y → x ≡ Some bytes → y ≡ None → ⊥
+some_is_not_none x y bytes same p q = cc (sym p ∙ same ∙ q)
+
+module _ (files : List ℕ → Option (List ℕ)) (words : List (List ℕ)) where
+  -- no words ask for two of these
+  found_and_missing : (t u : List ℕ) (bytes f g : List ℕ) → AreAnswer words t → AreAnswer words u → Names t f → Names u g → files f ≡ Some bytes → files g ≡ None → ⊥
+  found_and_missing t u bytes f g p q names other there not_there =
+      some_is_not_none (files f) (files g) bytes (ap files (same_file t u f g (same_target words t u p q) names other)) there not_there
+
+  table_and_none : (t u : List ℕ) (text : List ℕ) → AreAnswer words t → AreAnswer words u → AnswersBody t (Some files) text → IsUnbuilt u (Some files) → ⊥
+  table_and_none t u text p q body (inl other) =
+      let same = same_target words t u p q in other (body.file, (body.names.0, body.names.1, body.names.2, sym same ∙ body.names.3))
+  table_and_none t u text p q body (inr other) =
+      let file : body.file ≡ other.file = same_file t u body.file other.file (same_target words t u p q) body.names other.names in
+      let bytes : Some body.bytes ≡ Some other.bytes = sym body.there ∙ ap files file ∙ other.there in
+      let same : body.bytes ≡ other.bytes = cc bytes in
+      cc (sym body.is_body.is_table ∙ ap (λ f. plain_table f body.bytes) file ∙ ap (plain_table other.file) same ∙ other.no_table)
+
+  missing_and_unbuilt : (t u : List ℕ) → AreAnswer words t → AreAnswer words u → IsMissing t (Some files) → IsUnbuilt u (Some files) → ⊥
+  missing_and_unbuilt t u p q missing (inl other) =
+      let same = same_target words t u p q in other (missing.file, (missing.names.0, missing.names.1, missing.names.2, sym same ∙ missing.names.3))
+  missing_and_unbuilt t u p q missing (inr other) =
+      found_and_missing u t other.bytes other.file missing.file q p other.names missing.names other.there missing.not_there
+
+-- words that are `answer` and a target are not `show`
+not_show : (words : List (List ℕ)) (t : List ℕ) → AreAnswer words t → IsShow words → ⊥
+not_show words t p q = let lengths : 2 ≡ 1 = ap length (sym p ∙ q) in omega (arith, lengths)
+
+answers_only : {X Y : Type 0} (words : List (List ℕ)) (t : List ℕ) → AreAnswer words t → X ⊎ (IsShow words × Y) → X
+answers_only words t p (inl x) = x
+answers_only words t p (inr (is, y)) = absurd (not_show words t p is)
+
+-- what a status means over told files
+pub record Means (told : Told) (words : List (List ℕ)) (s : Status) : Type 0 where
+  pub complete : s ≡ Complete → Asks words (λ t. (text : List ℕ) × AnswersBody t told text)
+  pub refused : s ≡ Refused → Asks words (λ t. IsMissing t told)
+  pub unbuilt : s ≡ Unbuilt → Asks words (λ t. IsUnbuilt t told)
+  pub no_words : s ≢ Words
+  pub no_bad_reply : s ≢ BadReply
+  pub no_read_fault : s ≢ ReadFault
+  pub no_write_fault : s ≢ WriteFault
+  pub no_memory : s ≢ Memory
+
+-- from the clauses of a command with a target, where no count of a fault rose and memory was had
+pub means : (told : Told) (words : List (List ℕ)) (s : Status) (t : List ℕ) (P Q X Y Z V W : Type 0) (R : List ℕ → Type 0) → AreAnswer words t
+    → (s ≡ Complete → Asks words (λ u. (text : List ℕ) × AnswersBody u told text × R text) ⊎ (IsShow words × X × Y))
+    → (s ≡ Refused → Asks words (λ u. IsMissing u told)) → (s ≡ Unbuilt → Asks words (λ u. IsUnbuilt u told) ⊎ (IsShow words × Z))
+    → (s ≡ Words → ¬ (IsCommand words)) → (s ≡ BadReply → IsShow words × V) → (s ≡ ReadFault → Asks words (λ u. P) ⊎ (IsShow words × W)) → (s ≡ WriteFault → Q)
+    → (P → ⊥) → (Q → ⊥) → s ≢ Memory → Means told words s
+means told words s t P Q X Y Z V W R p complete refused unbuilt words_only bad_reply read_fault write_fault no_p no_q had =
+    record {
+      complete = λ is. elim (complete is) [ inl (u, q, (text, body, rest)) ↦ (u, q, (text, body)) | inr (shown, x, y) ↦ absurd (not_show words t p shown) ];
+      refused = refused;
+      unbuilt = λ is. answers_only words t p (unbuilt is);
+      no_words = λ is. words_only is (inl (t, p));
+      no_bad_reply = λ is. not_show words t p (bad_reply is).0;
+      no_read_fault = λ is. let (u, q, rose) = answers_only words t p (read_fault is) in no_p rose;
+      no_write_fault = λ is. no_q (write_fault is);
+      no_memory = had;
+    }
+
+pub completes : (told : Told) (words : List (List ℕ)) (s : Status) → IsSome told → Means told words s → Asks words (λ t. (text : List ℕ) × AnswersBody t told text) → s ≡ Complete
+completes None words s tells means asks = cc tells
+completes (Some files) words Complete tells means asks = refl
+completes (Some files) words Words tells means asks = absurd (means.no_words refl)
+completes (Some files) words BadReply tells means asks = absurd (means.no_bad_reply refl)
+completes (Some files) words Refused tells means (t, p, (text, body)) =
+    let (u, q, missing) = means.refused refl in
+    absurd (found_and_missing files words t u body.bytes body.file missing.file p q body.names missing.names body.there missing.not_there)
+completes (Some files) words ReadFault tells means asks = absurd (means.no_read_fault refl)
+completes (Some files) words WriteFault tells means asks = absurd (means.no_write_fault refl)
+completes (Some files) words Memory tells means asks = absurd (means.no_memory refl)
+completes (Some files) words Unbuilt tells means (t, p, (text, body)) =
+    let (u, q, other) = means.unbuilt refl in absurd (table_and_none files words t u text p q body other)
+
+pub refuses : (told : Told) (words : List (List ℕ)) (s : Status) → IsSome told → Means told words s → Asks words (λ t. IsMissing t told) → s ≡ Refused
+refuses None words s tells means asks = cc tells
+refuses (Some files) words Refused tells means asks = refl
+refuses (Some files) words Words tells means asks = absurd (means.no_words refl)
+refuses (Some files) words BadReply tells means asks = absurd (means.no_bad_reply refl)
+refuses (Some files) words Complete tells means (t, p, missing) =
+    let (u, q, (text, body)) = means.complete refl in
+    absurd (found_and_missing files words u t body.bytes body.file missing.file q p body.names missing.names body.there missing.not_there)
+refuses (Some files) words ReadFault tells means asks = absurd (means.no_read_fault refl)
+refuses (Some files) words WriteFault tells means asks = absurd (means.no_write_fault refl)
+refuses (Some files) words Memory tells means asks = absurd (means.no_memory refl)
+refuses (Some files) words Unbuilt tells means (t, p, missing) =
+    let (u, q, other) = means.unbuilt refl in absurd (missing_and_unbuilt files words t u p q missing other)
+
+pub unbuilds : (told : Told) (words : List (List ℕ)) (s : Status) → IsSome told → Means told words s → Asks words (λ t. IsUnbuilt t told) → s ≡ Unbuilt
+unbuilds None words s tells means asks = cc tells
+unbuilds (Some files) words Unbuilt tells means asks = refl
+unbuilds (Some files) words Words tells means asks = absurd (means.no_words refl)
+unbuilds (Some files) words BadReply tells means asks = absurd (means.no_bad_reply refl)
+unbuilds (Some files) words Complete tells means (t, p, other) =
+    let (u, q, (text, body)) = means.complete refl in absurd (table_and_none files words u t text q p body other)
+unbuilds (Some files) words Refused tells means (t, p, other) =
+    let (u, q, missing) = means.refused refl in absurd (missing_and_unbuilt files words u t q p missing other)
+unbuilds (Some files) words ReadFault tells means asks = absurd (means.no_read_fault refl)
+unbuilds (Some files) words WriteFault tells means asks = absurd (means.no_write_fault refl)
+unbuilds (Some files) words Memory tells means asks = absurd (means.no_memory refl)
+
+-- the status for a verdict, where nothing failed and memory was had
+pub shows : (v : Verdict) (s : Status) → IsFor v s → s ≢ ReadFault → s ≢ WriteFault → s ≢ Memory → s ≡ status_for v
+shows v Complete is no_read no_write had = is
+shows v Words is no_read no_write had = is
+shows v Refused is no_read no_write had = is
+shows v BadReply is no_read no_write had = is
+shows v Unbuilt is no_read no_write had = is
+shows v ReadFault is no_read no_write had = absurd (no_read refl)
+shows v WriteFault is no_read no_write had = absurd (no_write refl)
+shows v Memory is no_read no_write had = absurd (had refl)
+
+-- words that are `show` ask for no target
+pub shows_only : {X Y : Type 0} (words : List (List ℕ)) → IsShow words → Asks words (λ t. X) ⊎ (IsShow words × Y) → Y
+shows_only words is (inl (t, p, x)) = absurd (not_show words t p is)
+shows_only words is (inr (q, y)) = y

@@ -1,0 +1,4 @@
+pub mod BothEnds
+pub mod Causes
+pub mod Pieces
+pub mod Tables

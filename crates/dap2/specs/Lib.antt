@@ -1,0 +1,5 @@
+pub mod Answer
+pub mod Laws
+pub mod Lines
+pub mod Show
+pub mod Words

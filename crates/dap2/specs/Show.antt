@@ -1,0 +1,27 @@
+-- What the command `show` answers: the verdict on the data response that comes in.
+use Rattle.std.specs.Prelude.{◌≡◌, ℕ, List, Option, ⊤}
+use Rattle.std.specs.Io.KnownBytes.{Appends}
+use Rattle.dap_outside.specs.Causes.{Rose}
+use Rattle.xdr_decode.specs.Verdict.{Verdict, good, wrong, unbuilt, IsVerdict}
+use Rattle.xdr_decode.specs.declared.bad.BadField.{BadField}
+use Rattle.dap2.specs.declared.status.Status.{Status}
+use Rattle.dap2.specs.declared.status.Status.TheVariants.{Complete, Words, Refused, BadReply, ReadFault, WriteFault, Memory, Unbuilt}
+use Rattle.dap2.specs.Lines.{bad_reply_line}
+
+-- the status for a verdict
+abbrev pub status_for : Verdict → Status
+status_for (good d ts) = Complete
+status_for (wrong kind place) = BadReply
+status_for unbuilt = Unbuilt
+
+-- nothing but a fault, or want of memory, comes in its place
+abbrev pub IsFor : Verdict → Status → Type 0
+IsFor v ReadFault = ⊤
+IsFor v WriteFault = ⊤
+IsFor v Memory = ⊤
+IsFor v status = status ≡ status_for v
+
+-- something is wrong with the body, and unless the count rose the sink gained the line that says what
+abbrev pub IsRefusedBy : List ℕ → ℕ → ℕ → Option (List ℕ) → Option (List ℕ) → Type 0
+IsRefusedBy body before now old new =
+    (bad : BadField) × IsVerdict body (wrong bad.kind bad.place) × (¬ (Rose before now) → Appends old new (bad_reply_line bad))

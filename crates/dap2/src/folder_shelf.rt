@@ -1,0 +1,137 @@
+ghost use Rattle.std.specs.Prelude.{◌<◌, ◌^◌};
+
+use dap_outside::{Failed, Shelf};
+use std::fs::OpenFile;
+use std::io::{ErrorKind, Read, Seek, SeekFrom};
+use std::rt::Files;
+use std::{fs, io};
+
+/// An open file of a folder, and how many bytes it had when it was opened.
+#[derive(Drop)]
+pub struct Opened<F> {
+    file: F,
+    size: u64,
+    ghost small: { size < 2 ^ 63 },
+}
+
+/// The regular files below the folder in which the program was started, by their names in it. It
+/// tells nothing of them. A want of memory inside a call is a fault.
+#[derive(Drop)]
+pub struct FolderShelf<'a, R> {
+    files: &'a R,
+    faults: u64,
+    asked: u128,
+    greatest: u64,
+}
+
+impl<'a, R: Files> FolderShelf<'a, R> {
+    /// The shelf of the folder in which the program was started.
+    pub fn new(files: &'a R) -> FolderShelf<'a, R> {
+        FolderShelf {
+            files,
+            faults: 0,
+            asked: 0,
+            greatest: 0,
+        }
+    }
+}
+
+/// Whether a name stays in the folder: it has segments between `/`, of which none is empty and none
+/// begins with a point.
+fn is_below(name: &str) -> bool {
+    name.split('/')
+        .all(|segment| !segment.is_empty() && !segment.starts_with('.'))
+}
+
+/// Whether the name leads to a regular file through folders alone. A link leads out of the folder,
+/// so it is passed over.
+fn leads_to_file<R: Files>(files: &R, name: &str) -> io::Result<bool> {
+    for (end, _) in name.match_indices('/') {
+        if !fs::symlink_metadata(files, &name[..end])?.is_dir() {
+            return Ok(false);
+        }
+    }
+    Ok(fs::symlink_metadata(files, name)?.is_file())
+}
+
+/// Opens a file, `None` where no regular file of that name stands below the folder.
+fn open_file<R: Files>(files: &R, name: &str) -> io::Result<Option<Opened<R::File>>> {
+    if !is_below(name) || !leads_to_file(files, name)? {
+        return Ok(None);
+    }
+    let file = fs::open(files, name)?;
+    let data = file.metadata()?;
+    let size = data.len();
+    if data.is_file() && size < 1 << 63 {
+        return Ok(Some(Opened { file, size }));
+    }
+    Ok(None)
+}
+
+/// Fills the buffer from a byte of the file on. A file that got shorter fails.
+fn fill<F: Read + Seek>(file: &mut F, at: u64, into: &mut [u8]) -> Result<(), Failed> {
+    if file.seek(SeekFrom::Start(at)).is_err() {
+        return Err(Failed);
+    }
+    let mut filled = 0;
+    while filled < into.len() {
+        match file.read(&mut into[filled..]) {
+            Ok(0) => return Err(Failed),
+            Ok(count) => filled += count,
+            Err(_) => return Err(Failed),
+        }
+    }
+    Ok(())
+}
+
+impl<'a, R: Files> Shelf for FolderShelf<'a, R> {
+    ghost use Rattle.std.specs.Prelude.{None};
+
+    type File = Opened<R::File>;
+
+    ghost files = { λ _. None };
+
+    ghost content = { λ _ _. None };
+
+    ghost name_of = { λ _ _. None };
+
+    ghost size_of = { λ _ file. file.size };
+
+    ghost faults = { λ s. s.faults };
+
+    ghost asked = { λ s. s.asked };
+
+    ghost greatest = { λ s. s.greatest };
+
+    fn find(&mut self, name: &str) -> Result<Option<Opened<R::File>>, Failed> {
+        match open_file(self.files, name) {
+            Ok(found) => Ok(found),
+            Err(e) if e.kind() == ErrorKind::NotFound => Ok(None),
+            Err(_) => {
+                self.faults = self.faults.saturating_add(1);
+                Err(Failed)
+            }
+        }
+    }
+
+    fn size(&self, file: &Opened<R::File>) -> u64 {
+        file.size
+    }
+
+    fn read_at(
+        &mut self,
+        file: &mut Opened<R::File>,
+        at: u64,
+        into: &mut [u8],
+    ) -> Result<(), Failed> {
+        self.asked = self.asked.saturating_add(into.len() as u128);
+        self.greatest = self.greatest.max(into.len() as u64);
+        match fill(&mut file.file, at, into) {
+            Ok(()) => Ok(()),
+            Err(Failed) => {
+                self.faults = self.faults.saturating_add(1);
+                Err(Failed)
+            }
+        }
+    }
+}

@@ -1,0 +1,36 @@
+ghost use Rattle.std.specs.Prelude.{◌≡◌, OnErr, OnOk};
+ghost use Rattle.std.specs.Io.KnownBytes.{Appends};
+ghost use Rattle.std.specs.List.{flat_map};
+ghost use Rattle.dap_outside.specs.Causes.{HasCause};
+ghost use Rattle.dap_outside.specs.Streams.{AppendsFront};
+ghost use Rattle.dap2.specs.Lines.{bad_reply_line};
+
+use dap_outside::{Failed, Sink, put_all};
+use xdr_decode::BadField;
+
+/// Puts the pieces, one after the other. Fails only where the count of faults rose, and then a front
+/// of them is put.
+fn put_each<O: Sink>(out: &mut O, pieces: &[&[u8]]) -> Result<(), Failed>
+    ensures ok { OnOk result (Appends (O.written out.old) (O.written out.new) (flat_map (λ piece. piece.now) pieces.now)) }
+    ensures err { OnErr result (AppendsFront (O.written out.old) (O.written out.new) (flat_map (λ piece. piece.now) pieces.now)) }
+    ensures cause { HasCause (O.put_faults out.old) (O.put_faults out.new) result }
+    ensures beside { O.beside_writing out.new ≡ O.beside_writing out.old }
+{
+    for piece in pieces {
+        put_all(out, piece)?;
+    }
+    Ok(())
+}
+
+/// Puts the line that says what is wrong with a data response.
+pub fn put_bad_reply<E: Sink>(err: &mut E, bad: BadField) -> Result<(), Failed>
+    ensures ok { OnOk result (Appends (E.written err.old) (E.written err.new) (bad_reply_line bad)) }
+    ensures err { OnErr result (AppendsFront (E.written err.old) (E.written err.new) (bad_reply_line bad)) }
+    ensures cause { HasCause (E.put_faults err.old) (E.put_faults err.new) result }
+    ensures beside { E.beside_writing err.new ≡ E.beside_writing err.old }
+{
+    let mut digits = itoa::Buffer::new();
+    let place = digits.format(bad.place).as_bytes();
+    let name = bad.kind.name().as_bytes();
+    put_each(err, &[b"dap2: bad reply: ", name, b" at ", place, b"\n"])
+}

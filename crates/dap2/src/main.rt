@@ -1,0 +1,59 @@
+//! The program `dap2`: a server and a client for OPeNDAP DAP 2.0. Words, a folder and the standard
+//! streams come in; a status, the output and a line for each other status go out. `run` does it over
+//! every shelf, source and sink, and `main` hands in the real ones.
+#![tactic(auto)]
+
+mod answer;
+mod command;
+mod folder_shelf;
+mod laws;
+mod lines;
+mod run;
+mod show;
+mod status;
+mod std_streams;
+#[cfg(test)]
+mod tests;
+mod words;
+
+use dap_types::{List, Memory, Name};
+use folder_shelf::FolderShelf;
+use run::run;
+use status::Status;
+use std::env;
+use std::process::ExitCode;
+use std::rt::Env;
+use std_streams::{StdSink, StdSource};
+
+/// The words after the program's name.
+fn words_of<R: Env + AllocGlobal>(rt: &R) -> Result<List<Name>, Memory> {
+    let mut words = List::new(rt.alloc());
+    let Ok(args) = env::args(rt) else {
+        return Err(Memory);
+    };
+    for word in args.skip(1) {
+        words.push(Name::new(rt.alloc(), word.as_str())?)?;
+    }
+    Ok(words)
+}
+
+fn main(rt: HostRuntime) -> ExitCode {
+    let status = match words_of(&rt) {
+        Ok(words) => {
+            let mut shelf = FolderShelf::new(&rt);
+            let mut input = StdSource::new(rt.stdin());
+            let mut out = StdSink::new(rt.stdout());
+            let mut err = StdSink::new(rt.stderr());
+            run(
+                rt.alloc(),
+                words.items(),
+                &mut shelf,
+                &mut input,
+                &mut out,
+                &mut err,
+            )
+        }
+        Err(Memory) => Status::Memory,
+    };
+    ExitCode::from(status.number())
+}

@@ -1,0 +1,95 @@
+ghost use Rattle.std.specs.Prelude.{◌≡◌};
+
+use dap_outside::{Failed, Sink, Source};
+use std::io::{Read, Write};
+
+/// A reader as a source. It tells nothing of what is left.
+#[derive(Drop)]
+pub struct StdSource<R> {
+    inner: R,
+    faults: u64,
+    ended: bool,
+}
+
+impl<R: Read> StdSource<R> {
+    /// A source of what the reader gives.
+    pub fn new(inner: R) -> StdSource<R> {
+        StdSource {
+            inner,
+            faults: 0,
+            ended: false,
+        }
+    }
+}
+
+impl<R: Read> Source for StdSource<R> {
+    ghost use Rattle.std.specs.Prelude.{None};
+
+    ghost Rest = { Unit {0} };
+
+    ghost beside_reading = { λ _. tt };
+
+    ghost whole = { λ _. None };
+
+    ghost left = { λ _. None };
+
+    ghost ended = { λ s. s.ended };
+
+    ghost take_faults = { λ s. s.faults };
+
+    ghost ends_whole = { λ _. tt };
+
+    ghost ended_empty = { λ _ _. tt };
+
+    fn take(&mut self, into: &mut [u8]) -> Result<usize, Failed> {
+        if self.ended {
+            return Ok(0);
+        }
+        match self.inner.read(into) {
+            Ok(count) => {
+                self.ended = count == 0;
+                Ok(count)
+            }
+            Err(_) => {
+                self.faults = self.faults.saturating_add(1);
+                Err(Failed)
+            }
+        }
+    }
+}
+
+/// A writer as a sink. It tells nothing of what was written.
+#[derive(Drop)]
+pub struct StdSink<W> {
+    inner: W,
+    faults: u64,
+}
+
+impl<W: Write> StdSink<W> {
+    /// A sink into the writer.
+    pub fn new(inner: W) -> StdSink<W> {
+        StdSink { inner, faults: 0 }
+    }
+}
+
+impl<W: Write> Sink for StdSink<W> {
+    ghost use Rattle.std.specs.Prelude.{None};
+
+    ghost Rest = { Unit {0} };
+
+    ghost beside_writing = { λ _. tt };
+
+    ghost written = { λ _. None };
+
+    ghost put_faults = { λ s. s.faults };
+
+    fn put(&mut self, bytes: &[u8]) -> Result<usize, Failed> {
+        match self.inner.write(bytes) {
+            Ok(count) if count > 0 => Ok(count),
+            _ => {
+                self.faults = self.faults.saturating_add(1);
+                Err(Failed)
+            }
+        }
+    }
+}

@@ -1,0 +1,350 @@
+ghost use Rattle.std.specs.Prelude.{◌≤◌};
+
+use crate::folder_shelf::FolderShelf;
+use crate::run::run;
+use crate::status::Status;
+use dap_outside::{MemFile, MemShelf, MemSink, MemSource, Shelf};
+use dap_types::{Bytes, List, Memory, Name};
+use std::alloc::Global;
+use std::fs;
+use std::os::unix::fs as unix;
+use std::test::Fail;
+
+const BUOYS: &[u8] = b"station,depth:Int32\nA1,5\nB22,-7\n";
+
+const HEAD: &[u8] = b"station,depth:Int32\n";
+
+const BUOYS_BODY: &[u8] =
+    b"Dataset {\n    Sequence {\n        String station;\n        Int32 depth;\n    } buoys;\n} buoys.csv;\nData:\n\x5a\0\0\0\0\0\0\x02A1\0\0\0\0\0\x05\x5a\0\0\0\0\0\0\x03B22\0\xff\xff\xff\xf9\xa5\0\0\0";
+
+const BUOYS_SHOWN: &[u8] =
+    b"Dataset {\n    Sequence {\n        String station;\n        Int32 depth;\n    } buoys;\n} buoys.csv;\nbuoys[0].station = \"A1\"\nbuoys[0].depth = 5\nbuoys[1].station = \"B22\"\nbuoys[1].depth = -7\ncomplete 138\n";
+
+const HEAD_BODY: &[u8] =
+    b"Dataset {\n    Sequence {\n        String station;\n        Int32 depth;\n    } head;\n} head.csv;\nData:\n\xa5\0\0\0";
+
+/// What a run wrote, and how it ended.
+#[derive(Drop)]
+struct Written {
+    status: Status,
+    out: Bytes,
+    err: Bytes,
+}
+
+/// The outside of a run: what comes in, the calls that fail, and how much moves at once.
+#[derive(Clone, Copy)]
+struct Outside<'a> {
+    input: &'a [u8],
+    take_piece: u32,
+    shelf_fails: &'a [u64],
+    take_fails: &'a [u64],
+    out_fails: &'a [u64],
+    room: u32,
+    piece: u32,
+}
+
+const SURE: Outside<'static> = Outside {
+    input: b"",
+    take_piece: 64,
+    shelf_fails: &[],
+    take_fails: &[],
+    out_fails: &[],
+    room: 1000,
+    piece: 64,
+};
+
+fn numbers(alloc: Global, all: &[u64]) -> Result<List<u64>, Memory> {
+    let mut list = List::new(alloc);
+    for number in all {
+        list.push(*number)?;
+    }
+    Ok(list)
+}
+
+fn file(alloc: Global, name: &str, bytes: &[u8]) -> Result<MemFile, Memory> {
+    Ok(MemFile {
+        name: Name::new(alloc, name)?,
+        bytes: Bytes::new(alloc, bytes)?,
+    })
+}
+
+fn files(alloc: Global) -> Result<List<MemFile>, Memory> {
+    let mut files = List::new(alloc);
+    files.push(file(alloc, "buoys.csv", BUOYS)?)?;
+    files.push(file(alloc, "head.csv", HEAD)?)?;
+    files.push(file(alloc, "ragged.csv", b"a,b\n1\n")?)?;
+    Ok(files)
+}
+
+fn ran(alloc: Global, words: &[&str], outside: Outside<'_>) -> Result<Written, Memory> {
+    let mut named = List::new(alloc);
+    for word in words {
+        named.push(Name::new(alloc, *word)?)?;
+    }
+    let piece = outside.piece.max(1);
+    let mut shelf = MemShelf::new(files(alloc)?, numbers(alloc, outside.shelf_fails)?);
+    let take_piece = outside.take_piece.max(1);
+    let take_fails = numbers(alloc, outside.take_fails)?;
+    let mut input = MemSource::new(Bytes::new(alloc, outside.input)?, take_piece, take_fails);
+    let out_fails = numbers(alloc, outside.out_fails)?;
+    let mut out = MemSink::new(alloc, outside.room, piece, out_fails)?;
+    let mut err = MemSink::new(alloc, 100, 7, numbers(alloc, &[])?)?;
+    let words = named.items();
+    let status = run(alloc, words, &mut shelf, &mut input, &mut out, &mut err);
+    Ok(Written {
+        status,
+        out: Bytes::new(alloc, out.bytes())?,
+        err: Bytes::new(alloc, err.bytes())?,
+    })
+}
+
+#[test]
+fn each_status_comes_from_its_cause(rt: HostRuntime) -> Result<(), Fail> {
+    let buoys = ["answer", "buoys.csv.dods"];
+    let none: &[u8] = b"";
+    let rows: [(&[&str], Outside<'_>, Status, &[u8], &[u8]); 12] = [
+        (&buoys, SURE, Status::Complete, BUOYS_BODY, none),
+        (
+            &["answer", "head.csv.dods"],
+            SURE,
+            Status::Complete,
+            HEAD_BODY,
+            none,
+        ),
+        (
+            &buoys,
+            Outside { piece: 1, ..SURE },
+            Status::Complete,
+            BUOYS_BODY,
+            none,
+        ),
+        (
+            &["answer"],
+            SURE,
+            Status::Words,
+            none,
+            b"usage: dap2 answer TARGET | show\n",
+        ),
+        (
+            &["show", "head.csv.dods"],
+            SURE,
+            Status::Words,
+            none,
+            b"usage: dap2 answer TARGET | show\n",
+        ),
+        (
+            &["answer", "none.csv.dods"],
+            SURE,
+            Status::Refused,
+            none,
+            b"dap2: refused: no such file\n",
+        ),
+        (
+            &["answer", "ragged.csv.dods"],
+            SURE,
+            Status::Unbuilt,
+            none,
+            b"dap2: not built\n",
+        ),
+        (
+            &["answer", "buoys.csv.dds"],
+            SURE,
+            Status::Unbuilt,
+            none,
+            b"dap2: not built\n",
+        ),
+        (
+            &["answer", "../buoys.csv.dods"],
+            SURE,
+            Status::Unbuilt,
+            none,
+            b"dap2: not built\n",
+        ),
+        (
+            &buoys,
+            Outside {
+                shelf_fails: &[1],
+                ..SURE
+            },
+            Status::ReadFault,
+            none,
+            b"dap2: read fault\n",
+        ),
+        (
+            &buoys,
+            Outside {
+                shelf_fails: &[2],
+                ..SURE
+            },
+            Status::ReadFault,
+            none,
+            b"dap2: read fault\n",
+        ),
+        (
+            &buoys,
+            Outside { room: 100, ..SURE },
+            Status::WriteFault,
+            &BUOYS_BODY[..100],
+            b"dap2: write fault\n",
+        ),
+    ];
+    for (words, outside, status, out, err) in rows {
+        let found = ran(rt.alloc(), words, outside)?;
+        assert_eq!(rt; found.status, status);
+        assert_eq!(rt; found.out.bytes(), out);
+        assert_eq!(rt; found.err.bytes(), err);
+    }
+    Ok(())
+}
+
+#[test]
+fn a_put_that_fails_leaves_a_front(rt: HostRuntime) -> Result<(), Fail> {
+    for (n, left) in [(1, 0usize), (2, 64), (3, 128)] {
+        let outside = Outside {
+            out_fails: &[n],
+            ..SURE
+        };
+        let found = ran(rt.alloc(), &["answer", "buoys.csv.dods"], outside)?;
+        assert_eq!(rt; found.status, Status::WriteFault);
+        assert_eq!(rt; found.out.bytes(), &BUOYS_BODY[..left]);
+    }
+    let last = Outside {
+        out_fails: &[4],
+        ..SURE
+    };
+    let found = ran(rt.alloc(), &["answer", "buoys.csv.dods"], last)?;
+    assert_eq!(rt; found.status, Status::Complete);
+    Ok(())
+}
+
+/// The body of the worked table with other bytes from a place on.
+fn changed(alloc: Global, place: usize, bytes: &[u8]) -> Result<Vec<u8>, Memory>
+    requires { place ≤ 138 }
+{
+    let mut body = Vec::from_slice(alloc, &BUOYS_BODY[..place])?;
+    body.extend_from_slice(bytes)?;
+    Ok(body)
+}
+
+#[test]
+fn a_data_response_is_shown(rt: HostRuntime) -> Result<(), Fail> {
+    let wrong_mark = changed(
+        rt.alloc(),
+        118,
+        b"\x5b\0\0\0\0\0\0\x03B22\0\xff\xff\xff\xf9\xa5\0\0\0",
+    )?;
+    let trailing = changed(rt.alloc(), 138, b"\0")?;
+    let none: &[u8] = b"";
+    let rows: [(&[u8], Status, &[u8], &[u8]); 6] = [
+        (BUOYS_BODY, Status::Complete, BUOYS_SHOWN, none),
+        (
+            &BUOYS_BODY[..137],
+            Status::BadReply,
+            none,
+            b"dap2: bad reply: Cut at 137\n",
+        ),
+        (
+            wrong_mark.as_slice(),
+            Status::BadReply,
+            none,
+            b"dap2: bad reply: WrongMark at 118\n",
+        ),
+        (
+            trailing.as_slice(),
+            Status::BadReply,
+            none,
+            b"dap2: bad reply: Trailing at 138\n",
+        ),
+        (none, Status::BadReply, none, b"dap2: bad reply: Cut at 0\n"),
+        (b"<html>", Status::Unbuilt, none, b"dap2: not built\n"),
+    ];
+    for (input, status, out, err) in rows {
+        for take_piece in [1, 7, 1000] {
+            let found = ran(
+                rt.alloc(),
+                &["show"],
+                Outside {
+                    input,
+                    take_piece,
+                    ..SURE
+                },
+            )?;
+            assert_eq!(rt; found.status, status);
+            assert_eq!(rt; found.out.bytes(), out);
+            assert_eq!(rt; found.err.bytes(), err);
+        }
+    }
+    Ok(())
+}
+
+#[test]
+fn each_take_and_each_put_of_a_showing_may_fail(rt: HostRuntime) -> Result<(), Fail> {
+    let sure = Outside {
+        input: BUOYS_BODY,
+        ..SURE
+    };
+    for n in 1..4 {
+        let found = ran(
+            rt.alloc(),
+            &["show"],
+            Outside {
+                take_fails: &[n],
+                ..sure
+            },
+        )?;
+        assert_eq!(rt; found.status, Status::ReadFault);
+        assert_eq!(rt; found.out.bytes(), b"".as_slice());
+        let found = ran(
+            rt.alloc(),
+            &["show"],
+            Outside {
+                out_fails: &[n],
+                ..sure
+            },
+        )?;
+        assert_eq!(rt; found.status, Status::WriteFault);
+        assert!(rt; BUOYS_SHOWN.starts_with(found.out.bytes()));
+    }
+    let late = Outside {
+        take_fails: &[9],
+        out_fails: &[9],
+        ..sure
+    };
+    assert_eq!(rt; ran(rt.alloc(), &["show"], late)?.status, Status::Complete);
+    Ok(())
+}
+
+#[test]
+fn a_folder_lends_its_regular_files(rt: HostRuntime) -> Result<(), Fail> {
+    fs::write(&rt, "buoys.csv", BUOYS)?;
+    fs::create_dir(&rt, "folder.csv")?;
+    fs::write(&rt, "folder.csv/inside.csv", HEAD)?;
+    unix::symlink(&rt, "buoys.csv", "link.csv")?;
+    let mut shelf = FolderShelf::new(&rt);
+    let not_there = [
+        "none.csv",
+        "folder.csv",
+        "link.csv",
+        "/etc/passwd",
+        "../buoys.csv",
+        "./buoys.csv",
+        "folder.csv//inside.csv",
+        "buoys.csv/",
+        "",
+    ];
+    for name in not_there {
+        assert!(rt; matches!(shelf.find(name), Ok(None)), "{name}");
+    }
+    assert!(rt; matches!(shelf.find("folder.csv/inside.csv"), Ok(Some(_))));
+    let Ok(Some(mut found)) = shelf.find("buoys.csv") else {
+        return Err(Fail::from("not found"));
+    };
+    let mut bytes = [0u8; 5];
+    let size = shelf.size(&found);
+    assert_eq!(rt; size, 32);
+    assert!(rt; shelf.read_at(&mut found, 20, &mut bytes).is_ok());
+    assert_eq!(rt; bytes.as_slice(), b"A1,5\n".as_slice());
+    fs::write(&rt, "buoys.csv", b"short")?;
+    assert!(rt; shelf.read_at(&mut found, 20, &mut bytes).is_err());
+    Ok(())
+}
