@@ -6,7 +6,8 @@ use Rattle.dap_types.specs.declared.declarations.Decl.{Decl, Sequence}
 use Rattle.dap_types.specs.declared.values.Value.{Value}
 use Rattle.dap_types.proofs.Views.{view-Sequence}
 use Rattle.csv_source.specs.Dataset.{table_dataset}
-use Rattle.csv_source.specs.Names.{dataset_name, sequence_name}
+use Rattle.file_names.specs.Names.{dataset_name}
+use Rattle.csv_source.specs.Names.{sequence_name}
 use Rattle.csv_source.specs.PlainTable.{table}
 
 pub table-dataset : (file_name : List ℕ) (columns : List Column) (rows : List (List Value)) (name sequence : List ℕ) (copies : List Column) (members : List Decl)

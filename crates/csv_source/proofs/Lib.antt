@@ -10,7 +10,6 @@ mod PlainNames
 mod Reading
 mod Recorded
 mod Rows
-mod Segments
 mod Sizes
 mod Standings
 mod Tabled

@@ -9,8 +9,9 @@ use Rattle.std.proofs.lemmas.List.Elements.{All-append, All-cons, All-head, All-
 use Rattle.std.proofs.lemmas.List.Sums.{suffix_len_is}
 use Rattle.dap_types.specs.Names.{escaped_byte, file_id, is_kept_byte}
 use Rattle.dap_model.specs.Plain.{IsPlainName, is_word_byte, plain_dataset}
+use Rattle.file_names.specs.Names.{dataset_name, dataset_name_byte, segment}
 use Rattle.csv_source.specs.Dataset.{table_dataset}
-use Rattle.csv_source.specs.Names.{dataset_name, dataset_name_byte, last_segment, sequence_name, without_suffix}
+use Rattle.csv_source.specs.Names.{sequence_name, without_suffix}
 use Rattle.csv_source.specs.PlainTable.{PlainTable}
 
 -- the byte of a word is kept in a name, and is neither a `.` nor a `/`
@@ -46,8 +47,8 @@ suffix-no-slash = All-cons NoSlash 46 (codes "csv") refl (All-cons NoSlash 99 (c
 file-no-slash : (name : List ℕ) → AllPass is_word_byte name → All NoSlash (name ++ codes ".csv")
 file-no-slash name all = All-append NoSlash name (codes ".csv") (λ k d lt. word-no-slash (get_or name k d) (all k d lt)) suffix-no-slash
 
-whole-segment : (file_name : List ℕ) → All NoSlash file_name → last_segment file_name ≡ file_name
-unfolding last_segment
+whole-segment : (file_name : List ℕ) → All NoSlash file_name → segment file_name ≡ file_name
+unfolding segment
 whole-segment file_name all =
     let count = suffix_len_is (λ b. not (b == 47)) file_name 0 0 (omega arith) (λ k le lt. all k 0 lt) (λ lt. absurd (omega (arith, lt))) in
     let start : length file_name - suffix_len (λ b. not (b == 47)) file_name ≡ 0 = omega (arith, count) in

@@ -3,7 +3,8 @@
 use Rattle.std.specs.Prelude.{List, [], ◌∷◌, map}
 use Rattle.dap_types.specs.Model.{Dataset, sequence, members_of, Tree, one, many, trees_of}
 use Rattle.dap_types.specs.declared.values.Value.{Value}
-use Rattle.csv_source.specs.Names.{dataset_name, sequence_name}
+use Rattle.file_names.specs.Names.{dataset_name}
+use Rattle.csv_source.specs.Names.{sequence_name}
 use Rattle.csv_source.specs.PlainTable.{PlainTable}
 
 abbrev pub table_dataset : PlainTable → Dataset

@@ -1,49 +1,15 @@
-ghost use Rattle.std.specs.Prelude.{◌≡◌, ◌++◌, IfOk, OnOk, codes};
-ghost use Rattle.csv_source.specs.Names.{dataset_name, dataset_name_byte, last_segment, sequence_name, without_suffix};
+ghost use Rattle.std.specs.Prelude.{◌≡◌, IfOk, codes};
+ghost use Rattle.csv_source.specs.Names.{sequence_name, without_suffix};
 
 use dap_types::{Id, Memory};
+use file_names::last_segment;
 use std::alloc::Global;
-
-/// The name of the dataset of a file: the last segment of the file's name, its bytes escaped as in
-/// every name, but that a `.` stays (DAP 2.0, names; this project's profile).
-pub(crate) fn dataset_id(alloc: Global, file_name: &[u8]) -> Result<Id, Memory>
-    ensures { IfOk result (λ id. id ≡ dataset_name file_name.now) }
-{
-    let mut name = Vec::new(alloc);
-    for byte in segment(file_name) {
-        push_name_byte(alloc, &mut name, *byte)?;
-    }
-    Id::raw(alloc, name.as_slice())
-}
 
 /// The name of the Sequence of a table: as the dataset's, without `.csv` and with every `.` escaped.
 pub(crate) fn sequence_id(alloc: Global, file_name: &[u8]) -> Result<Id, Memory>
     ensures { IfOk result (λ id. id ≡ sequence_name file_name.now) }
 {
-    Id::of_file(alloc, without_csv(segment(file_name)))
-}
-
-fn push_name_byte(alloc: Global, name: &mut Vec<u8>, byte: u8) -> Result<(), Memory>
-    ensures { OnOk result (name.new.items ≡ name.old.items ++ dataset_name_byte byte) }
-{
-    if byte == b'.' {
-        name.push(b'.')?;
-        return Ok(());
-    }
-    let escaped = Id::of_file(alloc, &[byte])?;
-    name.extend_from_slice(escaped.bytes())?;
-    Ok(())
-}
-
-/// What stands behind the last `/`.
-fn segment(file_name: &[u8]) -> &[u8]
-    ensures { result.now ≡ last_segment file_name.now }
-{
-    let mut start = file_name.len();
-    while start > 0 && file_name[start - 1] != b'/' {
-        start -= 1;
-    }
-    &file_name[start..]
+    Id::of_file(alloc, without_csv(last_segment(file_name)))
 }
 
 fn without_csv(name: &[u8]) -> &[u8]

@@ -5,9 +5,10 @@ ghost use Rattle.csv_source.specs.Dataset.{table_dataset};
 ghost use Rattle.csv_source.specs.PlainTable.{value_at};
 
 use crate::cell::{Cell, whole};
-use crate::names::{dataset_id, sequence_id};
+use crate::names::sequence_id;
 use csv::ByteRecord;
 use dap_types::{BaseType, Bytes, Column, Dataset, Decl, Id, List, Memory};
+use file_names::dataset_id;
 use std::alloc::Global;
 use std::marker::Model;
 

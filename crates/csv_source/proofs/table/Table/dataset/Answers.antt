@@ -1,7 +1,8 @@
 use Rattle.std.proofs.Common.{ap, ◌∙◌}
 use Rattle.csv.specs.Records.{fields_of}
 use Rattle.csv_source.specs.Held.{held_rows}
-use Rattle.csv_source.specs.Names.{dataset_name, sequence_name}
+use Rattle.file_names.specs.Names.{dataset_name}
+use Rattle.csv_source.specs.Names.{sequence_name}
 use Rattle.csv_source.proofs.Datasets.{table-dataset}
 use Rattle.csv_source.proofs.table.Table.dataset.Goals as goal
 

@@ -2,13 +2,13 @@ use Rattle.std.proofs.Common.{◌≡◌, ◌-◌, ◌∙◌, arith, sym, ap, len
 use Rattle.std.specs.Prelude.{not, ◌==◌}
 use Rattle.std.specs.List.{suffix_len}
 use Rattle.std.proofs.lemmas.List.{length-drop, take_all}
-use Rattle.csv_source.specs.Names.{last_segment}
-use Rattle.csv_source.proofs.Segments.{nothing-behind, some-behind}
-use Rattle.csv_source.proofs.names.segment.Goals as goal
-use Rattle.csv_source.proofs.names.segment.Goals.{then-loop-start-test+else-file_name-start-ne47, else-loop-start-test}
+use Rattle.file_names.specs.Names.{segment}
+use Rattle.file_names.proofs.Segments.{nothing-behind, some-behind}
+use Rattle.file_names.proofs.names.last_segment.Goals as goal
+use Rattle.file_names.proofs.names.last_segment.Goals.{then-loop-start-test+else-file_name-start-ne47, else-loop-start-test}
 
 pub returns : goal.returns
-unfolding last_segment
+unfolding segment
 returns c =
     let xs = c.args.file_name.now in
     let inv = c.loop-start.invariant in

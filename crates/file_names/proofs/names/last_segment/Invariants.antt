@@ -1,7 +1,7 @@
 use Rattle.std.proofs.Common.{◌≡◌, ◌≤◌, ◌+◌, length, take}
 use Rattle.std.specs.Prelude.{◌==◌, not}
 use Rattle.std.specs.List.{suffix_len}
-use Rattle.csv_source.proofs.names.segment.Given as goal
+use Rattle.file_names.proofs.names.last_segment.Given as goal
 
 -- no byte from the start on is a `/`
 abbrev pub invariant-loop-start : goal.invariant-loop-start
