@@ -1,4 +1,4 @@
-ghost use Rattle.std.specs.Prelude.{◌≡◌, [], ◌∷◌, ◌++◌, OnOk, OnErr};
+ghost use Rattle.std.specs.Prelude.{◌≡◌, [], ◌∷◌, ◌++◌, IfOk, OnOk, OnErr};
 ghost use Rattle.std.specs.Borrow.{sem};
 
 use crate::Memory;
@@ -32,6 +32,15 @@ impl<T> List<T> {
         List {
             vec: Vec::new(alloc),
         }
+    }
+
+    /// An empty list with room for so many items, which keeps the allocator.
+    pub fn with_capacity(alloc: Global, count: usize) -> Result<List<T>, Memory>
+        ensures { IfOk result (λ l. l ≡ []) }
+    {
+        Ok(List {
+            vec: Vec::with_capacity(alloc, count)?,
+        })
     }
 
     /// The items, in order.

@@ -19,6 +19,9 @@ fn values_are_kept_and_may_be_lent_to_threads(rt: HostRuntime) -> Result<(), Fai
         *first = 6;
     }
     assert_eq!(rt; list.items(), [6, 8].as_slice());
+    let mut roomy = List::with_capacity(rt.alloc(), 2)?;
+    roomy.push(7u64)?;
+    assert_eq!(rt; roomy.items(), [7].as_slice());
     crosses(&bytes);
     crosses(&list);
     Ok(())
