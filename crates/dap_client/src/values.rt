@@ -1,5 +1,5 @@
-ghost use Rattle.std.specs.Prelude.{◌≡◌, ◌<◌, ◌≤◌, [], ◌∷◌, ◌++◌, codes, false, IsTrue, IfOk, OnErr, length, take};
-ghost use Rattle.std.specs.Fmt.{decimal, digit_glyph, signed_decimal};
+ghost use Rattle.std.specs.Prelude.{◌≡◌, ◌<◌, ◌≤◌, [], ◌∷◌, ◌++◌, codes, IsTrue, IfOk, OnErr, length, take};
+ghost use Rattle.std.specs.Fmt.{decimal, signed_decimal};
 ghost use Rattle.std.specs.List.{flat_map};
 ghost use Rattle.dap_client.specs.Buffered.{Passes, PassesFront, Puts};
 ghost use Rattle.dap_model.specs.Shown.{hex, shown_byte, shown_value};
@@ -8,18 +8,7 @@ ghost use Rattle.dap_outside.specs.Causes.{HasCause};
 use crate::buffer::Buffer;
 use dap_outside::{Failed, Sink};
 use dap_types::Value;
-
-/// A digit in hexadecimal, in lower case.
-fn digit(value: u8) -> u8
-    requires { value < 16 }
-    ensures { result ≡ digit_glyph false value }
-{
-    if value < 10 {
-        b'0' + value
-    } else {
-        b'a' + (value - 10)
-    }
-}
+use text_lines::hex_digit;
 
 /// Puts so many digits of the bits in hexadecimal.
 fn put_hex<O: Sink>(buffer: &mut Buffer, out: &mut O, digits: u32, bits: u64) -> Result<(), Failed>
@@ -31,7 +20,7 @@ fn put_hex<O: Sink>(buffer: &mut Buffer, out: &mut O, digits: u32, bits: u64) ->
         return Ok(());
     }
     put_hex(buffer, out, digits - 1, bits / 16)?;
-    buffer.put(out, &[digit((bits % 16) as u8)])
+    buffer.put(out, &[hex_digit((bits % 16) as u8)])
 }
 
 /// Whether a byte of a text stands for itself.
@@ -51,7 +40,10 @@ fn put_byte<O: Sink>(buffer: &mut Buffer, out: &mut O, byte: u8) -> Result<(), F
         b'"' => buffer.put(out, b"\\\""),
         b'\\' => buffer.put(out, b"\\\\"),
         b' '..=b'~' => buffer.put(out, &[byte]),
-        _ => buffer.put(out, &[b'\\', b'x', digit(byte / 16), digit(byte % 16)]),
+        _ => buffer.put(
+            out,
+            &[b'\\', b'x', hex_digit(byte / 16), hex_digit(byte % 16)],
+        ),
     }
 }
 

@@ -1,25 +1,9 @@
 ghost use Rattle.std.specs.Prelude.{◌≡◌, ◌<◌, ◌^◌, ◌++◌, OnOk};
 ghost use Rattle.std.specs.List.{flat_map};
-ghost use Rattle.dap_model.specs.Dds.{array_text, column_text, dim_text, type_word};
+ghost use Rattle.dap_model.specs.Dds.{array_text, column_text, dim_text};
 
-use crate::lines::{put, put_number, put_spaces};
-use dap_types::{ArrayDecl, BaseType, Column, Dim, Memory};
-
-fn type_word(base: BaseType) -> &'static [u8]
-    ensures { result.now ≡ type_word base }
-{
-    match base {
-        BaseType::Byte => b"Byte",
-        BaseType::Int16 => b"Int16",
-        BaseType::UInt16 => b"UInt16",
-        BaseType::Int32 => b"Int32",
-        BaseType::UInt32 => b"UInt32",
-        BaseType::Float32 => b"Float32",
-        BaseType::Float64 => b"Float64",
-        BaseType::Text => b"String",
-        BaseType::Url => b"Url",
-    }
-}
+use dap_types::{ArrayDecl, Column, Dim, Memory};
+use text_lines::{put, put_number, put_spaces, type_word};
 
 fn put_dim(out: &mut Vec<u8>, dim: &Dim) -> Result<(), Memory>
     ensures { OnOk result (out.new.items ≡ out.old.items ++ dim_text dim.now) }

@@ -3,9 +3,10 @@ ghost use Rattle.dap_types.specs.View.{dataset_view, member_view, members_view};
 ghost use Rattle.dap_model.specs.Dds.{dds, member_text, members_text};
 
 use crate::declarations::{put_array, put_arrays, put_column, put_columns};
-use crate::lines::{put_closing, put_line};
+use crate::lines::put_closing;
 use dap_types::{Bytes, Dataset, Decl, Memory};
 use std::alloc::Global;
+use text_lines::put_line;
 
 /// Depths at which no member of a dataset in memory stands.
 const TOO_DEEP: u32 = 1 << 23;

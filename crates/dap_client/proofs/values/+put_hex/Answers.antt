@@ -1,6 +1,6 @@
 use Rattle.std.proofs.Common.{sym}
 use Rattle.dap_client.proofs.Passing.{front_as, front_first, puts_as, puts_failed, puts_two}
-use Rattle.dap_client.proofs.Texts.{hex-more}
+use Rattle.text_lines.proofs.Hex.{hex-more}
 use Rattle.dap_client.proofs.values.+put_hex.Goals as goal
 
 pub returns-in_err-put_hex-clause-puts : goal.returns-in_err-put_hex-clause-puts
@@ -11,4 +11,4 @@ returns-in_err-put_hex-clause-puts g t c =
 pub returns-clause-puts : goal.returns-clause-puts
 returns-clause-puts g t c =
     puts_as c.put.result _ _ _ _ _ _ (sym (hex-more c.args.digits c.args.bits c.if-digits-eq0.false))
-    (puts_two c.put.result _ _ _ _ _ _ _ _ c.in_ok-put_hex.ensures.puts (rw c.digit.ensures at c.put.ensures.puts))
+    (puts_two c.put.result _ _ _ _ _ _ _ _ c.in_ok-put_hex.ensures.puts (rw c.hex_digit.ensures at c.put.ensures.puts))

@@ -2,7 +2,7 @@ use Rattle.std.proofs.Common.{ap, ◌∙◌}
 use Rattle.dap_types.proofs.Views.{view-Structure, view-Grid, view-Sequence}
 use Rattle.dap_types.specs.View.{member_view}
 use Rattle.dap_model.specs.Dds.{member_text}
-use Rattle.dds_text.proofs.Grown.{grown_by_three, grown_by_six}
+use Rattle.dap_model.proofs.Grown.{grown_by_three, grown_by_six}
 use Rattle.dds_text.proofs.printing.+printing.Goals as goal
 
 pub put_member-returns-in_ok-put_closing-in-Structure : goal.put_member-returns-in_ok-put_closing-in-Structure
