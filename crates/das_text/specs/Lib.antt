@@ -1,0 +1,3 @@
+pub mod Model
+pub mod View
+pub mod Das
