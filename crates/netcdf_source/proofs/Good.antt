@@ -1,13 +1,14 @@
 -- Fields that all stand without a fault, and what their trees then are.
-use Rattle.std.proofs.Common.{◌≡◌, ◌≢◌, ℕ, ◌+◌, ◌^◌, ◌<◌, inl, inr, Bool, true, false, cond, not, ◌||◌, ◌&&◌, List, [], ◌∷◌, ◌++◌, length, map, eqb, ltb, leb, Option, Some, None, Result, Ok, Err, MatchOption, refl, sym, ap, subst, ◌∙◌, arith}
+use Rattle.std.proofs.Common.{◌≡◌, ◌≢◌, ℕ, ◌+◌, ◌^◌, ◌<◌, ◌≤◌, inl, inr, Bool, true, false, cond, not, ◌||◌, ◌&&◌, List, [], ◌∷◌, ◌++◌, length, map, sum_by, eqb, ltb, leb, Option, Some, None, Result, Ok, Err, MatchOption, refl, sym, ap, subst, ◌∙◌, arith}
 use Rattle.std.specs.List.{list_any}
 use Rattle.std.proofs.lemmas.Bool.Decides.{nat_tests}
 use Rattle.std.proofs.lemmas.Bool.{ltb-false, leb-false, eqb-false}
 use Rattle.std.proofs.lemmas.List.{length-map}
 use Rattle.netcdf_source.specs.Fields.{Field, word, long, run, unread, Fault, bad_if, failure, Judged, Spells, Ends}
 use Rattle.netcdf_source.specs.Grammar.{VariableTree, HeaderTree, attribute, variable, contents, external_type, in_turn, list_fields, dimension_fields, attribute_fields, id_fields, variable_fields, header_fields, records_fault, repeat_fault, length_fault, rank_fault, dimension_fault, part_fault, begin_fault, is_record_dimension}
+use Rattle.netcdf_source.specs.Header.{Stands}
 use Rattle.netcdf_source.specs.Parts.{length_at, is_record, part, share, shares}
-use Rattle.netcdf_source.specs.Sound.{InTurn, IsDimension, IsId, IsVariable, IsSound}
+use Rattle.netcdf_source.specs.Sound.{InTurn, IsDimension, IsId, IsVariable, IsSound, most_members}
 use Rattle.netcdf_source.specs.declared.header.Contents.{Contents}
 use Rattle.netcdf_source.specs.declared.header.Dimension.{Dimension}
 use Rattle.netcdf_source.specs.declared.header.Variable.{Variable}
@@ -15,6 +16,7 @@ use Rattle.netcdf_source.specs.declared.stop.Failure.{Failure}
 use Rattle.netcdf_source.specs.declared.stop.Failure.TheVariants.{Cut}
 use Rattle.netcdf_source.specs.Reading.{contents_at}
 use Rattle.netcdf_source.proofs.Ends.{IsBytes, with_value}
+use Rattle.netcdf_source.proofs.FieldLengths.{ends_len, header_len}
 use Rattle.netcdf_source.proofs.Trees.{map-same}
 use Rattle.netcdf_source.proofs.Headers.{rest2, rest3, more2, more3, FlatHeader, header_of, header_sound}
 
@@ -134,9 +136,9 @@ not_streaming : (b : Bool) (f : Fault) (o : Option Fault) → cond b (Some f) o 
 not_streaming true f o e = absurd cc
 not_streaming false f o e = e
 
-header_good : (h : HeaderTree) → AreGood (header_fields h) → IsSound (contents h)
+header_good : (h : HeaderTree) → AreGood (header_fields h) → sum_by most_members (contents h).variables ≤ 1000000 → IsSound (contents h)
 unfolding header_fields records_fault
-header_good h good =
+header_good h good few =
     let dims = h.dimensions.items in
     let d = list_fields 10 dimension_fields (λ x. x) h.dimensions in
     let a = list_fields 12 attribute_fields attribute h.attributes in
@@ -149,19 +151,27 @@ header_good h good =
       dimensions = subst (InTurn IsDimension []) (map-same dims) (in_turn_good dimension_fields (λ x. x) IsDimension dimension_good [] dims (good_front d (more2 h.version dims h.attributes h.variables) good.2).2.2);
       count = omega (arith, length-map h.variables.items variable, of_variables.2.1);
       variables = in_turn_good (variable_fields h.version dims) variable (IsVariable dims) (variable_good h.version dims) [] h.variables.items of_variables.2.2;
+      members = few;
     }
 
 -- what is read whole has no fault
-pub read_sound : (version : ℕ) (bytes : List ℕ) (c : Contents) (rest : List ℕ) → IsBytes bytes → contents_at version bytes ≡ Ok (c, rest) → IsSound c
-read_sound version bytes c rest fits e =
+pub read_sound : (version : ℕ) (bytes : List ℕ) (c : Contents) (rest : List ℕ) → IsBytes bytes → length bytes ≤ 1048576 → contents_at version bytes ≡ Ok (c, rest) → IsSound c
+read_sound version bytes c rest fits short e =
     let a = (header_sound version).found bytes fits in
     go a.0 a.1 a.2 (sym a.3 ∙ e)
   where
     go : (p : FlatHeader) (end : Result (List ℕ) Failure) → Ends (header_fields (header_of version p)) bytes end → with_value (contents (header_of version p)) end ≡ Ok (c, rest) → IsSound c
     go p (Ok r) h same =
         let is : contents (header_of version p) ≡ c = ap (λ (x : Contents × List ℕ). x.0) (ok_is (contents (header_of version p), r) (c, rest) same) in
-        subst IsSound is (header_good (header_of version p) (good_ends (header_fields (header_of version p)) bytes r h))
+        let few : sum_by most_members (contents (header_of version p)).variables ≤ 1000000 = omega (arith, short, header_len (header_of version p), ends_len (header_fields (header_of version p)) bytes r h) in
+        subst IsSound is (header_good (header_of version p) (good_ends (header_fields (header_of version p)) bytes r h) few)
       where
         ok_is : (x y : Contents × List ℕ) → Path (Result (Contents × List ℕ) Failure) (Ok x) (Ok y) → x ≡ y
         ok_is x y q = cc
     go p (Err f) h same = absurd cc
+
+-- the header that some bytes begin with is sound
+pub stands_sound : (h : HeaderTree) (front rest : List ℕ) → length front ≤ 1048576 → Stands h front (Ok rest) → IsSound (contents h)
+stands_sound h front rest short s =
+    let few : sum_by most_members (contents h).variables ≤ 1000000 = omega (arith, short, header_len h, ends_len (header_fields h) s.body rest s.ends, ap length s.begins) in
+    header_good h (good_ends (header_fields h) s.body rest s.ends) few

@@ -1,116 +1,144 @@
--- The members of the dataset and the table of its leaves are in the same order.
-use Rattle.std.proofs.Common.{◌≡◌, ℕ, suc, ◌+◌, Bool, true, false, not, ◌&&◌, cond, List, [], ◌∷◌, ◌++◌, length, map, filter, take, ◌-◌, Option, Some, None, refl, sym, ap, subst, ◌∙◌, arith}
-use Rattle.std.specs.Prelude.{is_some, is_none, option_map, option_and_then, slice_get}
-use Rattle.std.specs.List.{list_all, position_from, cons_option}
-use Rattle.dap_types.specs.Names.{file_id}
+-- The members of the dataset and the table of its leaves are in the same order, and have the same
+-- numbers.
+use Rattle.std.proofs.Common.{◌≡◌, ℕ, zero, suc, ◌<◌, ◌-◌, eqb, ◌+◌, true, false, Bool, cond, List, [], ◌∷◌, ◌++◌, length, map, filter, Option, Some, None, refl, sym, ap, subst, ◌∙◌, append_assoc, arith, length-append}
+use Rattle.std.specs.Prelude.{is_some, option_map, option_and_then, slice_get}
+use Rattle.std.specs.List.{list_all, cons_option, enumerate_from, find}
+use Rattle.std.proofs.lemmas.Bool.Decides.{nat_tests}
 use Rattle.std.proofs.lemmas.List.{map-append}
-use Rattle.dap_types.specs.Model.{scalar, array, grid, members_of, name_of}
-use Rattle.dap_types.specs.WellFormed.{Place, places, part_places, leaf_places, places_of, is_leaf}
+use Rattle.dap_types.specs.Model.{Dataset, Member, scalar, array, grid, members_of, name_of}
+use Rattle.dap_types.specs.Names.{file_id}
+use Rattle.dap_types.specs.WellFormed.{Place, places, part_places, leaf_places, places_of}
 use Rattle.dap_types.specs.declared.declarations.ArrayDecl.{ArrayDecl}
-use Rattle.netcdf_source.specs.Mapping.{is_char, has_texts, has_single_bytes, element_dimensions, is_offered, own_dimension, is_coordinate_of, coordinate_at, differ, is_empty, is_grid, column_of, array_of, maps_of, member_of, dataset_of, leaves_of, leaves_from}
-use Rattle.netcdf_source.specs.Parts.{lengths}
+use Rattle.dap_model.proofs.Tests.{both_true}
+use Rattle.netcdf_source.specs.Laws.{leaf_of, own_leaf, LeavesAgree}
+use Rattle.netcdf_source.specs.Mapping.{element_dimensions, is_offered, coordinate_at, is_empty, is_grid, column_of, array_of, maps_of, member_of, dataset_of, leaves_of, leaves_from, leaf_in, leaf_variable}
 use Rattle.netcdf_source.specs.declared.header.Contents.{Contents}
 use Rattle.netcdf_source.specs.declared.header.Variable.{Variable}
+use Rattle.netcdf_source.proofs.LeafTable.{slice_get-map}
+use Rattle.netcdf_source.proofs.GridMaps.{coordinate_found, grid_array, own_alone, at_front}
 
-abbrev flags : List Place → List Bool
-flags ps = map (λ p. is_leaf p.variable) ps
+-- the leaf of the variable with that number, none where there is no number
+abbrev numbered_leaf : Contents → Option ℕ → Option Member
+numbered_leaf c number = option_map (leaf_of c) (option_and_then (slice_get c.variables) number)
 
--- an array and maps are leaves
-leaf_flags : (depth : ℕ) (earlier : List (List ℕ)) (xs : List ArrayDecl) → flags (leaf_places depth earlier (map array xs)) ≡ map (λ x. true) xs
-leaf_flags depth earlier [] = refl
-leaf_flags depth earlier (x ∷ xs) = ap (λ bs. true ∷ bs) (leaf_flags depth (x.name ∷ earlier) xs)
+abbrev leaves : List Place → List (Option Member)
+leaves ps = map (λ p. own_leaf p.variable) ps
 
-found_within : {X : Type 0} (p : X → Bool) (j : ℕ) (xs : List X) (k : ℕ) → position_from p j xs ≡ Some k → (i : ℕ) × (k ≡ j + i) × (is_some (slice_get xs i) ≡ true)
-found_within p j [] k e = absurd cc
-found_within {X} p j (x ∷ xs) k e = go (p x) e (λ h. found_within p (j + 1) xs k h)
+array_leaves : (depth : ℕ) (earlier : List (List ℕ)) (xs : List ArrayDecl) → leaves (leaf_places depth earlier (map array xs)) ≡ map (λ x. Some (array x)) xs
+array_leaves depth earlier [] = refl
+array_leaves depth earlier (x ∷ xs) = ap (λ ls. Some (array x) ∷ ls) (array_leaves depth (x.name ∷ earlier) xs)
+
+map_leaves : (c : Contents) (ids : List ℕ) → list_all (λ i. is_some (coordinate_at c i)) ids ≡ true → map (numbered_leaf c) (map (coordinate_at c) ids) ≡ map (λ x. Some (array x)) (maps_of c ids)
+map_leaves c [] e = refl
+map_leaves c (i ∷ ids) e =
+    let parts = both_true (is_some (coordinate_at c i)) (list_all (λ j. is_some (coordinate_at c j)) ids) e in
+    let f = coordinate_found c i parts.0 in
+    here (option_and_then (slice_get c.variables) (coordinate_at c i)) f.0 f.1 (own_alone c f.0 i f.2.1) (map_leaves c ids parts.1)
   where
-    go : (b : Bool) → cond b (Some j) (position_from p (j + 1) xs) ≡ Some k → (position_from p (j + 1) xs ≡ Some k → (i : ℕ) × (k ≡ (j + 1) + i) × (is_some (slice_get xs i) ≡ true))
-        → (i : ℕ) × (k ≡ j + i) × (is_some (slice_get (x ∷ xs) i) ≡ true)
-    go true h more = (0, here j k h, refl)
-      where
-        here : (a b : ℕ) → Path (Option ℕ) (Some a) (Some b) → b ≡ a + 0
-        here a b q = let same : a ≡ b = cc in omega (arith, same)
-    go false h more = let m = more h in (suc m.0, omega (arith, m.1), m.2)
+    here : (o : Option Variable) (w : Variable) → o ≡ Some w → element_dimensions c w ≡ i ∷ [] → map (numbered_leaf c) (map (coordinate_at c) ids) ≡ map (λ x. Some (array x)) (maps_of c ids)
+        → option_map (leaf_of c) o ∷ map (numbered_leaf c) (map (coordinate_at c) ids) ≡ map (λ x. Some (array x)) (cons_option (option_map (array_of c) o) (maps_of c ids))
+    here o w is alone more =
+        let leaf : leaf_of c w ≡ array (array_of c w) = ap (λ ids. cond (is_empty ids) (scalar (column_of w)) (array (array_of c w))) alone in
+        rw is (ap (λ l. Some l ∷ map (numbered_leaf c) (map (coordinate_at c) ids)) leaf ∙ ap (λ ls. Some (array (array_of c w)) ∷ ls) more)
 
--- a coordinate variable that is found is a variable
-variable_found : (c : Contents) (i : ℕ) (o : Option ℕ) → coordinate_at c i ≡ o → is_some (option_and_then (slice_get c.variables) o) ≡ is_some o
-unfolding coordinate_at
-variable_found c i None e = refl
-variable_found c i (Some k) e =
-    let f = found_within (is_coordinate_of c i) 0 c.variables k e in
-    let same : f.0 ≡ k = omega (arith, f.1) in
-    subst (λ (n : ℕ). is_some (slice_get c.variables n) ≡ true) same f.2
-
-map_flags : (c : Contents) (ids : List ℕ) → list_all (λ i. is_some (coordinate_at c i)) ids ≡ true → map is_some (map (coordinate_at c) ids) ≡ map (λ x. true) (maps_of c ids)
-map_flags c [] e = refl
-map_flags c (i ∷ ids) e = go (coordinate_at c i) refl e (map_flags c ids)
-  where
-    push : (o : Option ArrayDecl) → is_some o ≡ true → (rest : List ArrayDecl) → map (λ x. true) (cons_option o rest) ≡ true ∷ map (λ x. true) rest
-    push None q rest = absurd cc
-    push (Some a) q rest = refl
-
-    mapped : (o : Option Variable) → is_some o ≡ true → is_some (option_map (array_of c) o) ≡ true
-    mapped None q = absurd cc
-    mapped (Some v) q = refl
-
-    go : (o : Option ℕ) → coordinate_at c i ≡ o → (is_some o && list_all (λ j. is_some (coordinate_at c j)) ids) ≡ true
-        → (list_all (λ j. is_some (coordinate_at c j)) ids ≡ true → map is_some (map (coordinate_at c) ids) ≡ map (λ x. true) (maps_of c ids))
-        → is_some o ∷ map is_some (map (coordinate_at c) ids) ≡ map (λ x. true) (cons_option (option_map (array_of c) (option_and_then (slice_get c.variables) o)) (maps_of c ids))
-    go None q h more = absurd cc
-    go (Some k) q h more = ap (λ bs. true ∷ bs) (more h) ∙ sym (push (option_map (array_of c) (slice_get c.variables k)) (mapped (slice_get c.variables k) (variable_found c i (Some k) q)) (maps_of c ids))
-
-both : (a b : Bool) → (a && b) ≡ true → (a ≡ true) × (b ≡ true)
-both true b e = (refl, e)
-both false b e = absurd cc
-
--- a Grid's elements have all its dimensions, and there are some
-grid_dimensions : (c : Contents) (v : Variable) → is_grid c v ≡ true → (is_empty (element_dimensions c v) ≡ false) × (list_all (λ i. is_some (coordinate_at c i)) v.dimensions ≡ true)
-unfolding is_grid element_dimensions has_texts
-grid_dimensions c v e =
-    let four = both (not (is_char v) && is_none (own_dimension c v) && not (is_empty v.dimensions) && differ v.dimensions) (list_all (λ i. is_some (coordinate_at c i)) v.dimensions) e in
-    let three = both (not (is_char v) && is_none (own_dimension c v) && not (is_empty v.dimensions)) (differ v.dimensions) four.0 in
-    let two = both (not (is_char v) && is_none (own_dimension c v)) (not (is_empty v.dimensions)) three.0 in
-    let one = both (not (is_char v)) (is_none (own_dimension c v)) two.0 in
-    (no_texts (is_char v) (has_single_bytes (lengths c.dimensions v.dimensions)) one.0 ∙ no (is_empty v.dimensions) two.1, four.1)
-  where
-    no : (b : Bool) → not b ≡ true → b ≡ false
-    no true q = absurd cc
-    no false q = refl
-
-    no_texts : (b s : Bool) → not b ≡ true → is_empty (cond (b && not s) (take (length v.dimensions - 1) v.dimensions) v.dimensions) ≡ is_empty v.dimensions
-    no_texts true s q = absurd cc
-    no_texts false s q = refl
-
-one_member : (c : Contents) (k : ℕ) (v : Variable) → map is_some (leaves_of c k v) ≡ is_leaf (member_of c v) ∷ flags (part_places (1 + 1) (member_of c v))
+-- a variable is a leaf, or the array of a Grid
+one_member : (c : Contents) (k : ℕ) (v : Variable) → slice_get c.variables k ≡ Some v → map (numbered_leaf c) (leaves_of c k v) ≡ own_leaf (member_of c v) ∷ leaves (part_places 2 (member_of c v))
 unfolding member_of
-one_member c k v = go (is_grid c v) refl
+one_member c k v at = go (is_grid c v) refl
   where
-    plain : (b : Bool) → true ∷ [] ≡ is_leaf (cond b (scalar (column_of v)) (array (array_of c v))) ∷ flags (part_places (1 + 1) (cond b (scalar (column_of v)) (array (array_of c v))))
+    self : numbered_leaf c (Some k) ≡ Some (leaf_of c v)
+    self = ap (option_map (leaf_of c)) at
+
+    plain : (b : Bool) → Some (cond b (scalar (column_of v)) (array (array_of c v))) ∷ []
+        ≡ own_leaf (cond b (scalar (column_of v)) (array (array_of c v))) ∷ leaves (part_places 2 (cond b (scalar (column_of v)) (array (array_of c v))))
     plain true = refl
     plain false = refl
 
-    go : (b : Bool) → is_grid c v ≡ b → map is_some (cond b (None ∷ Some k ∷ map (coordinate_at c) v.dimensions) (Some k ∷ []))
-        ≡ is_leaf (cond (is_empty (element_dimensions c v)) (scalar (column_of v)) (cond b (grid (file_id v.name) (array_of c v) (maps_of c v.dimensions)) (array (array_of c v))))
-        ∷ flags (part_places (1 + 1) (cond (is_empty (element_dimensions c v)) (scalar (column_of v)) (cond b (grid (file_id v.name) (array_of c v) (maps_of c v.dimensions)) (array (array_of c v)))))
+    go : (b : Bool) → is_grid c v ≡ b → map (numbered_leaf c) (cond b (None ∷ Some k ∷ map (coordinate_at c) v.dimensions) (Some k ∷ []))
+        ≡ own_leaf (cond (is_empty (element_dimensions c v)) (scalar (column_of v)) (cond b (grid (file_id v.name) (array_of c v) (maps_of c v.dimensions)) (array (array_of c v))))
+        ∷ leaves (part_places 2 (cond (is_empty (element_dimensions c v)) (scalar (column_of v)) (cond b (grid (file_id v.name) (array_of c v) (maps_of c v.dimensions)) (array (array_of c v)))))
     go true e =
-        let g = grid_dimensions c v e in
-        rw g.0 (ap (λ bs. false ∷ true ∷ bs) (map_flags c v.dimensions g.1) ∙ ap (λ bs. false ∷ bs) (sym (leaf_flags (1 + 1) [] (array_of c v ∷ maps_of c v.dimensions))))
-    go false e = plain (is_empty (element_dimensions c v))
+        let g = grid_array c v e in
+        let some : is_empty (element_dimensions c v) ≡ false = ap is_empty g.whole ∙ g.some in
+        let leaf : leaf_of c v ≡ array (array_of c v) = ap (λ b. cond b (scalar (column_of v)) (array (array_of c v))) some in
+        rw some (ap (λ l. None ∷ l ∷ map (numbered_leaf c) (map (coordinate_at c) v.dimensions)) (self ∙ ap Some leaf)
+        ∙ ap (λ ls. None ∷ Some (array (array_of c v)) ∷ ls) (map_leaves c v.dimensions g.coordinates)
+        ∙ ap (λ ls. None ∷ ls) (sym (array_leaves 2 [] (array_of c v ∷ maps_of c v.dimensions))))
+    go false e = ap (λ l. l ∷ []) self ∙ plain (is_empty (element_dimensions c v))
 
-members_agree : (c : Contents) (k : ℕ) (earlier : List (List ℕ)) (vs : List Variable) → map is_some (leaves_from c k vs) ≡ flags (places 1 earlier (members_of (map (member_of c) (filter (is_offered c) vs))))
+members_agree : (c : Contents) (before vs : List Variable) (k : ℕ) (earlier : List (List ℕ)) → c.variables ≡ before ++ vs → length before ≡ k
+    → map (numbered_leaf c) (leaves_from c k vs) ≡ leaves (places 1 earlier (members_of (map (member_of c) (filter (is_offered c) vs))))
 unfolding leaves_from
-members_agree c k earlier [] = refl
-members_agree c k earlier (v ∷ vs) = go (is_offered c v) (members_agree c (k + 1) (name_of (member_of c v) ∷ earlier) vs) (members_agree c (k + 1) earlier vs)
+members_agree c before [] k earlier whole len = refl
+members_agree c before (v ∷ vs) k earlier whole len =
+    let later : c.variables ≡ (before ++ v ∷ []) ++ vs = whole ∙ sym (append_assoc before (v ∷ []) vs) in
+    let next : length (before ++ v ∷ []) ≡ k + 1 = omega (arith, len, length-append before (v ∷ [])) in
+    let at : slice_get c.variables k ≡ Some v = ap (λ xs. slice_get xs k) whole ∙ ap (slice_get (before ++ v ∷ vs)) (sym len) ∙ at_front before vs v in
+    go (is_offered c v) (one_member c k v at) (members_agree c (before ++ v ∷ []) vs (k + 1) (name_of (member_of c v) ∷ earlier) later next) (members_agree c (before ++ v ∷ []) vs (k + 1) earlier later next)
   where
-    go : (b : Bool) → map is_some (leaves_from c (k + 1) vs) ≡ flags (places 1 (name_of (member_of c v) ∷ earlier) (members_of (map (member_of c) (filter (is_offered c) vs))))
-        → map is_some (leaves_from c (k + 1) vs) ≡ flags (places 1 earlier (members_of (map (member_of c) (filter (is_offered c) vs))))
-        → map is_some (cond b (leaves_of c k v) [] ++ leaves_from c (k + 1) vs) ≡ flags (places 1 earlier (members_of (map (member_of c) (cond b (v ∷ filter (is_offered c) vs) (filter (is_offered c) vs)))))
-    go true behind same =
-        map-append is_some (leaves_of c k v) (leaves_from c (k + 1) vs)
-        ∙ ap (λ bs. bs ++ map is_some (leaves_from c (k + 1) vs)) (one_member c k v)
-        ∙ ap (λ bs. is_leaf (member_of c v) ∷ flags (part_places (1 + 1) (member_of c v)) ++ bs) behind
-        ∙ ap (λ bs. is_leaf (member_of c v) ∷ bs) (sym (map-append (λ p. is_leaf p.variable) (part_places (1 + 1) (member_of c v)) (places 1 (name_of (member_of c v) ∷ earlier) (members_of (map (member_of c) (filter (is_offered c) vs))))))
-    go false behind same = same
+    go : (b : Bool) → map (numbered_leaf c) (leaves_of c k v) ≡ own_leaf (member_of c v) ∷ leaves (part_places 2 (member_of c v))
+        → map (numbered_leaf c) (leaves_from c (k + 1) vs) ≡ leaves (places 1 (name_of (member_of c v) ∷ earlier) (members_of (map (member_of c) (filter (is_offered c) vs))))
+        → map (numbered_leaf c) (leaves_from c (k + 1) vs) ≡ leaves (places 1 earlier (members_of (map (member_of c) (filter (is_offered c) vs))))
+        → map (numbered_leaf c) (cond b (leaves_of c k v) [] ++ leaves_from c (k + 1) vs) ≡ leaves (places 1 earlier (members_of (map (member_of c) (cond b (v ∷ filter (is_offered c) vs) (filter (is_offered c) vs)))))
+    go true one behind same =
+        map-append (numbered_leaf c) (leaves_of c k v) (leaves_from c (k + 1) vs)
+        ∙ ap (λ ls. ls ++ map (numbered_leaf c) (leaves_from c (k + 1) vs)) one
+        ∙ ap (λ ls. own_leaf (member_of c v) ∷ leaves (part_places 2 (member_of c v)) ++ ls) behind
+        ∙ ap (λ ls. own_leaf (member_of c v) ∷ ls) (sym (map-append (λ p. own_leaf p.variable) (part_places 2 (member_of c v)) (places 1 (name_of (member_of c v) ∷ earlier) (members_of (map (member_of c) (filter (is_offered c) vs))))))
+    go false one behind same = same
 
-pub leaves_agree : (c : Contents) (file_name : List ℕ) → map is_some (leaves_from c 0 c.variables) ≡ map (λ p. is_leaf p.variable) (places_of (dataset_of c file_name))
-leaves_agree c file_name = members_agree c 0 [] c.variables
+-- ---- numbers
+
+found : {X : Type 0} (a i : ℕ) (xs : List X) → option_map (λ p. p.1) (find (λ p. eqb p.0 (a + i)) (enumerate_from a xs)) ≡ slice_get xs i
+found a i [] = refl
+found a zero (x ∷ xs) = let e : eqb a (a + 0) ≡ true = grind (arith, nat_tests) in rw e refl
+found a (suc i) (x ∷ xs) =
+    let e : eqb a (a + suc i) ≡ false = grind (arith, nat_tests) in
+    let same : a + suc i ≡ (a + 1) + i = omega arith in
+    rw e (ap (λ (n : ℕ). option_map (λ p. p.1) (find (λ p. eqb p.0 n) (enumerate_from (a + 1) xs))) same ∙ found (a + 1) i xs)
+
+before_first : {X : Type 0} (a n : ℕ) (xs : List X) → n < a → find (λ p. eqb p.0 n) (enumerate_from a xs) ≡ None
+before_first a n [] lt = refl
+before_first a n (x ∷ xs) lt = let e : eqb a n ≡ false = grind (arith, nat_tests) in rw e (before_first (a + 1) n xs (omega arith))
+
+joined : {X Y : Type 0} (f : X → Option Y) (o : Option X) → option_and_then (λ y. y) (option_map f o) ≡ option_and_then f o
+joined f None = refl
+joined f (Some x) = refl
+
+variable_of : (d : Dataset) (o : Option (ℕ × Place)) (p : Option Place) → option_map (λ x. x.1) o ≡ p → option_and_then own_leaf (option_map (λ x. x.1.variable) o) ≡ option_and_then (λ x. own_leaf x.variable) p
+variable_of d None p e = rw (← e) refl
+variable_of d (Some x) p e = rw (← e) refl
+
+leaf_after : (ls : List (Option ℕ)) (m : ℕ) → leaf_in ls (suc m) ≡ option_and_then (λ leaf. leaf) (slice_get ls m)
+leaf_after ls m =
+    let some : eqb (suc m) 0 ≡ false = grind (arith, nat_tests) in
+    let last : suc m - 1 ≡ m = omega arith in
+    rw (some, last) refl
+
+leaf_at : (c : Contents) (m : ℕ) → option_and_then (numbered_leaf c) (slice_get (leaves_from c 0 c.variables) m) ≡ option_map (leaf_of c) (leaf_variable c (suc m))
+unfolding leaf_variable
+leaf_at c m =
+    go (slice_get (leaves_from c 0 c.variables) m) ∙ ap (λ o. option_map (leaf_of c) (option_and_then (slice_get c.variables) o)) (sym (leaf_after (leaves_from c 0 c.variables) m))
+  where
+    go : (o : Option (Option ℕ)) → option_and_then (numbered_leaf c) o ≡ option_map (leaf_of c) (option_and_then (slice_get c.variables) (option_and_then (λ leaf. leaf) o))
+    go None = refl
+    go (Some number) = refl
+
+pub leaves_agree : LeavesAgree
+unfolding leaf_variable
+leaves_agree c file_name zero =
+    ap (λ o. option_and_then own_leaf (option_map (λ p. p.1.variable) o)) (before_first 1 0 (places_of (dataset_of c file_name)) (omega arith)) ∙ none
+  where
+    none : Path (Option Member) None (option_map (leaf_of c) (leaf_variable c 0))
+    none = refl
+leaves_agree c file_name (suc m) =
+    let d = dataset_of c file_name in
+    let number : 1 + m ≡ suc m = omega arith in
+    let at = subst (λ (n : ℕ). option_map (λ p. p.1) (find (λ p. eqb p.0 n) (enumerate_from 1 (places_of d))) ≡ slice_get (places_of d) m) number (found 1 m (places_of d)) in
+    variable_of d (find (λ p. eqb p.0 (suc m)) (enumerate_from 1 (places_of d))) (slice_get (places_of d) m) at
+    ∙ sym (joined (λ p. own_leaf p.variable) (slice_get (places_of d) m))
+    ∙ ap (option_and_then (λ leaf. leaf)) (sym (slice_get-map (λ p. own_leaf p.variable) (places_of d) m))
+    ∙ ap (λ ls. option_and_then (λ leaf. leaf) (slice_get ls m)) (sym (members_agree c [] c.variables 0 [] refl refl))
+    ∙ ap (option_and_then (λ leaf. leaf)) (slice_get-map (numbered_leaf c) (leaves_from c 0 c.variables) m)
+    ∙ joined (numbered_leaf c) (slice_get (leaves_from c 0 c.variables) m)
+    ∙ leaf_at c m

@@ -24,7 +24,7 @@ slice_slice xs a p d w le =
     let one : drop d (take p (drop a xs)) ≡ take (p - d) (drop d (drop a xs)) = ap (λ (k : ℕ). drop d (take k (drop a xs))) split ∙ drop-take d (p - d) (drop a xs) in
     ap (take w) one ∙ take-take w (p - d) (drop d (drop a xs)) (omega arith) ∙ ap (take w) (drop-drop d a xs)
 
-length-slice : (xs : List ℕ) (a p : ℕ) → a + p ≤ length xs → length (slice xs a p) ≡ p
+pub length-slice : (xs : List ℕ) (a p : ℕ) → a + p ≤ length xs → length (slice xs a p) ≡ p
 length-slice xs a p le = omega (arith, length-take p (drop a xs), length-drop a xs)
 
 -- ---- pieces

@@ -1,11 +1,12 @@
 -- Where the elements of a variable stand (netCDF classic format, "Computing file offsets"): the bytes
 -- of a variable chopped into equal pieces, and the steps that lead to the same places.
-use Rattle.std.specs.Prelude.{◌≡◌, ℕ, ◌+◌, ◌*◌, ◌/◌, ◌^◌, ◌<◌, ◌≤◌, List, [], ◌∷◌, ◌++◌, length, map, take, drop, if◌then◌else◌, Option, Some, MatchOption}
+use Rattle.std.specs.Prelude.{◌≡◌, ℕ, ◌+◌, ◌*◌, ◌/◌, ◌^◌, ◌<◌, ◌≤◌, false, List, [], ◌∷◌, ◌++◌, length, map, take, drop, if◌then◌else◌, Option, Some, MatchOption}
 use Rattle.std.specs.List.{AllByRecursion}
 use Rattle.dap_types.specs.Model.{product}
 use Rattle.dap_types.specs.declared.slabs.Layout.{Layout}
-use Rattle.netcdf_source.specs.Mapping.{leaf_variable, size_at, element_dimensions, element_size}
+use Rattle.netcdf_source.specs.Mapping.{is_char, leaf_variable, size_at, element_dimensions, element_size}
 use Rattle.netcdf_source.specs.Parts.{lengths, inner, is_record, part, record_size}
+use Rattle.netcdf_source.specs.Types.{size_of}
 use Rattle.netcdf_source.specs.declared.header.Contents.{Contents}
 use Rattle.netcdf_source.specs.declared.header.Variable.{Variable}
 
@@ -98,3 +99,14 @@ HaveSteps c vs = AllByRecursion (HasSteps c) vs
 -- the layout of a leaf places each element of its variable
 unfoldable pub LeafIsPlaced : Contents → ℕ → ℕ → Option Layout → Type 0
 LeafIsPlaced c file_len leaf found = MatchOption found (Unit {0}) (λ l. (v : Variable) × (leaf_variable c leaf ≡ Some v) × IsPlaced c file_len v l)
+
+-- A layout has a step for each dimension of the elements, and an element has 1 to 65,536 bytes: those
+-- of its type, unless it is a text.
+pub record IsShaped (c : Contents) (v : Variable) (l : Layout) : Type 0 where
+  pub steps : length l.steps ≡ length (element_dimensions c v)
+  pub some : 0 < l.size
+  pub few : l.size ≤ 65536
+  pub typed : is_char v ≡ false → l.size ≡ size_of v.external_type
+
+unfoldable pub LeafIsShaped : Contents → ℕ → Option Layout → Type 0
+LeafIsShaped c leaf found = MatchOption found (Unit {0}) (λ l. (v : Variable) × (leaf_variable c leaf ≡ Some v) × IsShaped c v l)

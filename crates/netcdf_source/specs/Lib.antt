@@ -5,8 +5,10 @@ pub mod Grammar
 pub mod Reading
 pub mod Sound
 pub mod Header
-pub mod Names
 pub mod Mapping
 pub mod Coordinates
 pub mod File
 pub mod Layouts
+pub mod Values
+pub mod Laws
+pub mod Attributes

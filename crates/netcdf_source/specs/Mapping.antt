@@ -1,18 +1,17 @@
 -- The dataset of a netCDF classic file: which variables are offered, and what each becomes (DAP 2.0,
 -- DDS; the mapping is this project's).
-use Rattle.std.specs.Prelude.{◌≡◌, ℕ, ◌+◌, ◌-◌, Bool, true, false, ◌&&◌, not, List, [], ◌∷◌, ◌++◌, length, map, filter, filter_map, take, ◌==◌, nat_lt, if◌then◌else◌, Option, Some, None, is_some, is_none, option_map, option_and_then, slice_get, slice_index}
+use Rattle.std.specs.Prelude.{ℕ, ◌+◌, ◌-◌, Bool, true, false, ◌&&◌, not, List, [], ◌∷◌, ◌++◌, length, map, filter, filter_map, take, ◌==◌, nat_lt, if◌then◌else◌, Option, Some, None, is_some, is_none, option_map, option_and_then, slice_get, slice_index}
 use Rattle.std.specs.List.{list_all, list_any, position_from}
 use Rattle.std.specs.Option.{option_map_or}
 use Rattle.std.specs.Str.{bytes_eq}
 use Rattle.dap_types.specs.Model.{Member, scalar, array, grid, Dataset, members_of}
 use Rattle.dap_types.specs.Names.{file_id}
-use Rattle.dap_types.specs.WellFormed.{places_of, is_leaf}
 use Rattle.dap_types.specs.declared.declarations.ArrayDecl.{ArrayDecl}
 use Rattle.dap_types.specs.declared.declarations.BaseType.{BaseType}
 use Rattle.dap_types.specs.declared.declarations.BaseType.TheVariants as base
 use Rattle.dap_types.specs.declared.declarations.Column.{Column}
 use Rattle.dap_types.specs.declared.declarations.Dim.{Dim}
-use Rattle.netcdf_source.specs.Names.{dataset_name}
+use Rattle.file_names.specs.Names.{dataset_name}
 use Rattle.netcdf_source.specs.Parts.{length_at, lengths}
 use Rattle.netcdf_source.specs.Types.{size_of}
 use Rattle.netcdf_source.specs.declared.external_type.ExternalType.{ExternalType}
@@ -28,6 +27,10 @@ size_at c i = if length_at c.dimensions i == 0 then c.records else length_at c.d
 
 unfoldable pub name_at : Contents → ℕ → List ℕ
 name_at c i = option_map_or (λ d. d.name) (slice_get c.dimensions i) []
+
+-- the names of all dimensions as those of variables
+abbrev pub dimension_ids : Contents → List (List ℕ)
+dimension_ids c = map (λ d. file_id d.name) c.dimensions
 
 abbrev pub base_of : ExternalType → BaseType
 base_of Byte = base.Byte
@@ -149,8 +152,3 @@ leaf_in leaves n = if n == 0 then None else option_and_then (λ leaf. leaf) (sli
 -- the variable of the leaf with that number as a member: none where that member is no leaf
 unfoldable pub leaf_variable : Contents → ℕ → Option Variable
 leaf_variable c n = option_and_then (slice_get c.variables) (leaf_in (leaves_from c 0 c.variables) n)
-
--- Member by member in preorder, the table of leaves has a variable exactly where the member of the
--- dataset is a leaf.
-abbrev pub LeavesAgree : Type 0
-LeavesAgree = (c : Contents) (file_name : List ℕ) → map is_some (leaves_from c 0 c.variables) ≡ map (λ p. is_leaf p.variable) (places_of (dataset_of c file_name))

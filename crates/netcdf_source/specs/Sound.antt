@@ -1,6 +1,6 @@
 -- What holds of each header that has no fault (netCDF classic format specification; the limits on
 -- names, rank and bytes are this project's).
-use Rattle.std.specs.Prelude.{◌≡◌, ◌≢◌, ℕ, ◌+◌, ◌^◌, ◌<◌, ◌≤◌, true, false, List, [], ◌∷◌, ◌++◌, length, map}
+use Rattle.std.specs.Prelude.{◌≡◌, ◌≢◌, ℕ, ◌+◌, ◌^◌, ◌<◌, ◌≤◌, true, false, List, [], ◌∷◌, ◌++◌, length, map, sum_by}
 use Rattle.std.specs.List.{list_any, AllByRecursion}
 use Rattle.std.specs.Str.{bytes_eq}
 use Rattle.netcdf_source.specs.Grammar.{is_record_dimension}
@@ -39,8 +39,13 @@ HasSize dims v = part dims v.dimensions v.external_type ≤ 2 ^ 62
 unfoldable pub HaveSizes : List Dimension → List Variable → Type 0
 HaveSizes dims vs = AllByRecursion (HasSize dims) vs
 
+-- A variable becomes at most a Grid, its array, and a map for each dimension.
+abbrev pub most_members : Variable → ℕ
+most_members v = length v.dimensions + 2
+
 pub record IsSound (c : Contents) : Type 0 where
   pub records : c.records ≤ 2147483647
   pub dimensions : InTurn IsDimension [] c.dimensions
   pub count : length c.variables < 2 ^ 32
   pub variables : InTurn (IsVariable c.dimensions) [] c.variables
+  pub members : sum_by most_members c.variables ≤ 1000000

@@ -12,12 +12,14 @@ use std::alloc::Global;
 
 /// The tag of a list of dimensions.
 const TAG: u32 = 10;
+/// The bytes of the least dimension.
+const LEAST: usize = 12;
 
 /// A name that differs from all of these, and is one of them from now on.
 #[tactic(auto, unfolding(crate::specs::Reading::new_name_at, crate::specs::Grammar::repeat_fault))]
 pub fn new_name<'a>(
     alloc: Global,
-    names: &mut Names,
+    names: &mut Names<'a>,
     bytes: &'a [u8],
 ) -> Result<(Bytes, &'a [u8]), Stop>
     ensures reading { Gives (λ x. (x.0, x.1.now)) result (new_name_at names.old bytes.now) }
@@ -25,7 +27,7 @@ pub fn new_name<'a>(
 {
     let (length, rest) = name_length(bytes)?;
     let (name, after) = run(u64::from(length), rest)?;
-    if !names.insert(alloc, name)? {
+    if !names.insert(name)? {
         return Err(Stop::Failed(Failure::Bad(rest.len() + 4)));
     }
     Ok((Bytes::new(alloc, name)?, after))
@@ -46,7 +48,7 @@ fn length(has_records: bool, bytes: &[u8]) -> Result<(u32, &[u8]), Stop>
 #[tactic(auto, unfolding(crate::specs::Reading::dimension_at))]
 fn dimension<'a>(
     alloc: Global,
-    names: &mut Names,
+    names: &mut Names<'a>,
     has_records: bool,
     bytes: &'a [u8],
 ) -> Result<(Dimension, &'a [u8]), Stop>
@@ -68,8 +70,9 @@ fn with_records(has_records: bool, dimension: &Dimension) -> bool
 fn items(alloc: Global, count: u32, bytes: &[u8]) -> Result<(List<Dimension>, &[u8]), Stop>
     ensures { Gives (λ x. (x.0, x.1.now)) result (times next_dimension count [] bytes.now) }
 {
-    let mut dimensions = List::new(alloc);
-    let mut names = Names::new(alloc);
+    let room = (bytes.len() / LEAST).min(count as usize);
+    let mut dimensions = List::with_capacity(alloc, room)?;
+    let mut names = Names::with_capacity(alloc, room)?;
     let mut has_records = false;
     let mut rest = bytes;
     for _ in 0..count {

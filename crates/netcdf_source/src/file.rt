@@ -1,12 +1,16 @@
 ghost use Rattle.std.specs.Prelude.{◌≡◌, ℕ, ◌+◌, Bool, false, None, IfOk, option_map, slice_get};
 ghost use Rattle.std.specs.Option.{option_copied, option_map_or};
 ghost use Rattle.dap_types.specs.View.{dataset_view};
-ghost use Rattle.netcdf_source.specs.Layouts.{layout_of, LeafIsPlaced};
+ghost use Rattle.dap_types.specs.WellFormed.{IsWellFormed};
+ghost use Rattle.das_text.specs.View.{attributes_view};
+ghost use Rattle.netcdf_source.specs.Attributes.{attributes_of};
+ghost use Rattle.netcdf_source.specs.Layouts.{layout_of, LeafIsPlaced, LeafIsShaped};
 ghost use Rattle.netcdf_source.specs.Mapping.{dataset_of, is_char, leaf_variable};
 ghost use Rattle.netcdf_source.specs.Parts.{past_end};
 ghost use Rattle.netcdf_source.specs.Sound.{IsSound};
 
 use crate::coordinates::coordinates;
+use crate::das::attributes_of;
 use crate::extents::record_size;
 use crate::header::Contents;
 use crate::layouts::layouts;
@@ -14,6 +18,7 @@ use crate::leaves::{leaf_in, leaves};
 use crate::mapping::dataset_of;
 use crate::texts::is_char;
 use dap_types::{Dataset, Layout, List, Memory};
+use das_text::Attributes;
 use std::alloc::Global;
 use std::marker::Model;
 
@@ -76,9 +81,19 @@ impl Header {
     /// arrays, variables over coordinate variables as Grids, and chars as Strings (DAP 2.0, DDS; the
     /// mapping is this project's).
     pub fn dataset(&self, alloc: Global, file_name: &[u8]) -> Result<Dataset, Memory>
-        ensures { IfOk result (λ d. dataset_view d ≡ dataset_of self.now.contents file_name.now) }
+        ensures mapped { IfOk result (λ d. dataset_view d ≡ dataset_of self.now.contents file_name.now) }
+        ensures well_formed { IfOk result (λ d. IsWellFormed (dataset_view d)) }
     {
         dataset_of(alloc, &self.contents, &self.coordinates, file_name)
+    }
+
+    /// The attributes of the file: a container for each variable of the dataset in the file's order,
+    /// then `NC_GLOBAL` for those of the file itself (DAP 2.0, DAS; which type stands for which is
+    /// this project's). Fails where memory is wanted.
+    pub fn attributes(&self, alloc: Global) -> Result<Attributes, Memory>
+        ensures { IfOk result (λ a. attributes_view a ≡ attributes_of self.now.contents) }
+    {
+        attributes_of(alloc, &self.contents)
     }
 
     /// Where the elements of a leaf stand in the file, `leaf` being its number as a member of the
@@ -86,6 +101,7 @@ impl Header {
     pub fn layout(&self, leaf: u32) -> Option<&Layout>
         ensures leaf { option_copied result ≡ option_map (layout_of self.now.contents) (leaf_variable self.now.contents leaf) }
         ensures placed { LeafIsPlaced self.now.contents self.now.length leaf (option_copied result) }
+        ensures shaped { LeafIsShaped self.now.contents leaf (option_copied result) }
     {
         match leaf_in(&self.leaves, leaf) {
             Some(number) => layout_at(self.layouts.items(), number),

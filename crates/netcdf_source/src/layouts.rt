@@ -9,11 +9,16 @@ use crate::{Dimension, Variable};
 use dap_types::{Layout, List, Memory};
 use std::alloc::Global;
 
-/// The step over records, where there is one.
-fn record_steps(alloc: Global, is_record: bool, step: u64) -> Result<List<u64>, Memory>
+/// The step over records, where there is one, with room for so many steps.
+fn record_steps(
+    alloc: Global,
+    count: usize,
+    is_record: bool,
+    step: u64,
+) -> Result<List<u64>, Memory>
     ensures { IfOk result (λ steps. steps ≡ (if is_record then step ∷ [] else [])) }
 {
-    let mut steps = List::new(alloc);
+    let mut steps = List::with_capacity(alloc, count)?;
     if is_record {
         steps.push(step)?;
     }
@@ -52,7 +57,7 @@ fn layout(
     let dimensions = contents.dimensions.items();
     let ids = element_dimensions(contents, variable);
     let size = element_size(contents, variable);
-    let mut steps = record_steps(alloc, is_record(dimensions, ids), step)?;
+    let mut steps = record_steps(alloc, ids.len(), is_record(dimensions, ids), step)?;
     push_row_steps(&mut steps, dimensions, inner(dimensions, ids), size)?;
     Ok(Layout {
         base: variable.begin,
@@ -67,7 +72,7 @@ pub fn layouts(alloc: Global, contents: &Contents, step: u64) -> Result<List<Lay
     requires record { step ≡ record_size contents.now.dimensions contents.now.variables }
     ensures { IfOk result (λ ls. ls ≡ map (layout_of contents.now) contents.now.variables) }
 {
-    let mut layouts = List::new(alloc);
+    let mut layouts = List::with_capacity(alloc, contents.variables.items().len())?;
     for variable in contents.variables.items() {
         layouts.push(layout(alloc, contents, step, variable)?)?;
     }

@@ -1,16 +1,17 @@
 //! The header of a netCDF classic file, versions 1 and 2. The first bytes of a file come in; its
-//! dataset and the places of its elements go out, or the first thing that fails from the front, by
-//! `specs/Grammar`, `specs/Mapping` and `specs/Layouts`.
+//! dataset, its attributes and the places of its elements go out, or the first thing that fails from
+//! the front, by `specs/Grammar`, `specs/Mapping`, `specs/Attributes` and `specs/Layouts`.
 #![tactic(auto)]
 
 mod attributes;
 mod coordinates;
-mod dataset_name;
+mod das;
 mod dimensions;
 mod extents;
 mod external_type;
 mod file;
 mod header;
+mod ids;
 mod laws;
 mod layouts;
 mod leaves;
@@ -27,7 +28,7 @@ mod words;
 pub use external_type::ExternalType;
 pub use file::Header;
 pub use header::{Attribute, Dimension, Variable};
-pub use laws::leaves_agree;
+pub use laws::{leaves_agree, values_are_placed, values_fit, zeros_are_cut};
 pub use read::read_header;
 pub use refusal::HeaderRefusal;
 

@@ -3,15 +3,16 @@ ghost use Rattle.std.specs.List.{list_all};
 ghost use Rattle.std.specs.Prelude.{is_some};
 ghost use Rattle.netcdf_source.specs.Coordinates.{AreCoordinates};
 ghost use Rattle.dap_types.specs.View.{member_view, dataset_view};
-ghost use Rattle.netcdf_source.specs.Mapping.{size_at, name_at, base_of, is_char, has_texts, element_dimensions, element_size, is_offered, own_dimension, coordinate_at, differ, is_grid, dim_of, column_of, array_of, coordinate_variable, maps_of, member_of, dataset_of};
+ghost use Rattle.netcdf_source.specs.Mapping.{size_at, dimension_ids, base_of, is_char, has_texts, element_dimensions, element_size, is_offered, own_dimension, coordinate_at, differ, is_grid, dim_of, column_of, array_of, coordinate_variable, maps_of, member_of, dataset_of};
 
 use crate::coordinates::{coordinate, coordinate_variable, own_dimension};
-use crate::dataset_name::dataset_id;
 use crate::dimensions::length_of;
 use crate::header::Contents;
+use crate::ids::{dimension_id, dimension_ids, file_id};
 use crate::texts::{element_dimensions, is_char, is_offered};
 use crate::{ExternalType, Variable};
 use dap_types::{ArrayDecl, BaseType, Column, Dataset, Decl, Dim, Id, List, Memory};
+use file_names::dataset_id;
 use std::alloc::Global;
 
 /// The DAP type of values of a type. A char is a part of a String.
@@ -40,33 +41,30 @@ fn size_at(contents: &Contents, id: u32) -> u32
     }
 }
 
-/// The name of a dimension.
-#[tactic(auto, unfolding(crate::specs::Mapping::name_at))]
-fn name_at(contents: &Contents, id: u32) -> &[u8]
-    ensures { result.now ≡ name_at contents.now id }
-{
-    match contents.dimensions.items().get(id as usize) {
-        Some(dimension) => dimension.name.bytes(),
-        None => &[],
-    }
-}
-
-fn dim_of(alloc: Global, contents: &Contents, id: u32) -> Result<Dim, Memory>
+#[tactic(auto, using(crate::proofs::DimensionNames::dimension_names))]
+fn dim_of(alloc: Global, contents: &Contents, names: &[Id], id: u32) -> Result<Dim, Memory>
+    requires { names.now ≡ dimension_ids contents.now }
     ensures { IfOk result (λ d. d ≡ dim_of contents.now id) }
 {
-    let name = Id::of_file(alloc, name_at(contents, id))?;
+    let name = dimension_id(alloc, names, id)?;
     Ok(Dim {
         name: Some(name),
         size: size_at(contents, id),
     })
 }
 
-fn dims_of(alloc: Global, contents: &Contents, ids: &[u32]) -> Result<List<Dim>, Memory>
+fn dims_of(
+    alloc: Global,
+    contents: &Contents,
+    names: &[Id],
+    ids: &[u32],
+) -> Result<List<Dim>, Memory>
+    requires { names.now ≡ dimension_ids contents.now }
     ensures { IfOk result (λ ds. ds ≡ map (dim_of contents.now) ids.now) }
 {
-    let mut dims = List::new(alloc);
+    let mut dims = List::with_capacity(alloc, ids.len())?;
     for id in ids {
-        dims.push(dim_of(alloc, contents, *id)?)?;
+        dims.push(dim_of(alloc, contents, names, *id)?)?;
     }
     Ok(dims)
 }
@@ -74,18 +72,29 @@ fn dims_of(alloc: Global, contents: &Contents, ids: &[u32]) -> Result<List<Dim>,
 fn column_of(alloc: Global, variable: &Variable) -> Result<Column, Memory>
     ensures { IfOk result (λ x. x ≡ column_of variable.now) }
 {
-    let name = Id::of_file(alloc, variable.name.bytes())?;
+    let name = file_id(alloc, variable.name.bytes())?;
     Ok(Column {
         name,
         base: base_of(variable.external_type),
     })
 }
 
-fn array_of(alloc: Global, contents: &Contents, variable: &Variable) -> Result<ArrayDecl, Memory>
+fn array_of(
+    alloc: Global,
+    contents: &Contents,
+    names: &[Id],
+    variable: &Variable,
+) -> Result<ArrayDecl, Memory>
+    requires { names.now ≡ dimension_ids contents.now }
     ensures { IfOk result (λ a. a ≡ array_of contents.now variable.now) }
 {
-    let name = Id::of_file(alloc, variable.name.bytes())?;
-    let dims = dims_of(alloc, contents, element_dimensions(contents, variable))?;
+    let name = file_id(alloc, variable.name.bytes())?;
+    let dims = dims_of(
+        alloc,
+        contents,
+        names,
+        element_dimensions(contents, variable),
+    )?;
     Ok(ArrayDecl {
         name,
         base: base_of(variable.external_type),
@@ -138,15 +147,17 @@ fn maps_of(
     alloc: Global,
     contents: &Contents,
     table: &[Option<u32>],
+    names: &[Id],
     ids: &[u32],
 ) -> Result<List<ArrayDecl>, Memory>
-    requires { AreCoordinates contents.now table.now }
+    requires table { AreCoordinates contents.now table.now }
+    requires names { names.now ≡ dimension_ids contents.now }
     ensures { IfOk result (λ maps. maps ≡ maps_of contents.now ids.now) }
 {
     let mut maps = List::new(alloc);
     for id in ids {
         if let Some(variable) = coordinate_variable(contents, table, *id) {
-            maps.push(array_of(alloc, contents, variable)?)?;
+            maps.push(array_of(alloc, contents, names, variable)?)?;
         }
     }
     Ok(maps)
@@ -158,20 +169,22 @@ fn member_of(
     alloc: Global,
     contents: &Contents,
     table: &[Option<u32>],
+    names: &[Id],
     variable: &Variable,
 ) -> Result<Decl, Memory>
-    requires { AreCoordinates contents.now table.now }
+    requires table { AreCoordinates contents.now table.now }
+    requires names { names.now ≡ dimension_ids contents.now }
     ensures { IfOk result (λ d. member_view d ≡ member_of contents.now variable.now) }
 {
     if element_dimensions(contents, variable).is_empty() {
         return Ok(Decl::Base(column_of(alloc, variable)?));
     }
-    let array = array_of(alloc, contents, variable)?;
+    let array = array_of(alloc, contents, names, variable)?;
     if !is_grid(contents, table, variable) {
         return Ok(Decl::Array(array));
     }
-    let maps = maps_of(alloc, contents, table, variable.dimensions.items())?;
-    let name = Id::of_file(alloc, variable.name.bytes())?;
+    let maps = maps_of(alloc, contents, table, names, variable.dimensions.items())?;
+    let name = file_id(alloc, variable.name.bytes())?;
     Ok(Decl::Grid(name, array, maps))
 }
 
@@ -179,14 +192,16 @@ fn members_of(
     alloc: Global,
     contents: &Contents,
     table: &[Option<u32>],
+    names: &[Id],
 ) -> Result<List<Decl>, Memory>
-    requires { AreCoordinates contents.now table.now }
+    requires table { AreCoordinates contents.now table.now }
+    requires names { names.now ≡ dimension_ids contents.now }
     ensures { IfOk result (λ ds. map member_view ds ≡ map (member_of contents.now) (filter (is_offered contents.now) contents.now.variables)) }
 {
-    let mut members = List::new(alloc);
+    let mut members = List::with_capacity(alloc, contents.variables.items().len())?;
     for variable in contents.variables.items() {
         if is_offered(contents, variable) {
-            members.push(member_of(alloc, contents, table, variable)?)?;
+            members.push(member_of(alloc, contents, table, names, variable)?)?;
         }
     }
     Ok(members)
@@ -203,6 +218,7 @@ pub fn dataset_of(
     ensures { IfOk result (λ d. dataset_view d ≡ dataset_of contents.now file_name.now) }
 {
     let name = dataset_id(alloc, file_name)?;
-    let members = members_of(alloc, contents, table)?;
+    let names = dimension_ids(alloc, contents.dimensions.items())?;
+    let members = members_of(alloc, contents, table, names.items())?;
     Ok(Dataset { name, members })
 }

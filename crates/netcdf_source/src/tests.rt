@@ -1,2 +1,7 @@
+mod attributes;
+mod climate;
+mod files;
+mod made;
 mod mapping;
 mod refusals;
+mod seen;

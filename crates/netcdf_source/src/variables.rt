@@ -17,6 +17,8 @@ use std::alloc::Global;
 const TAG: u32 = 11;
 /// The most dimensions of a variable.
 const RANK_MAX: u32 = 32;
+/// The bytes of the least variable.
+const LEAST: usize = 32;
 
 #[tactic(auto, unfolding(crate::specs::Reading::judged_at, crate::specs::Grammar::rank_fault))]
 fn rank(bytes: &[u8]) -> Result<(u32, &[u8]), Stop>
@@ -53,7 +55,7 @@ fn dimension_items<'a>(
 ) -> Result<(List<u32>, &'a [u8]), Stop>
     ensures { Gives (λ x. (x.0, x.1.now)) result (times (next_id dimensions.now) rank [] bytes.now) }
 {
-    let mut ids = List::new(alloc);
+    let mut ids = List::with_capacity(alloc, rank as usize)?;
     let mut rest = bytes;
     for _ in 0..rank {
         let (id, after) = dimension(dimensions, ids.items().is_empty(), rest)?;
@@ -102,7 +104,7 @@ fn variable<'a>(
     alloc: Global,
     version: u8,
     dimensions: &[Dimension],
-    names: &mut Names,
+    names: &mut Names<'a>,
     sum: u64,
     bytes: &'a [u8],
 ) -> Result<(Variable, u64, &'a [u8]), Stop>
@@ -139,8 +141,9 @@ fn items<'a>(
 ) -> Result<(List<Variable>, &'a [u8]), Stop>
     ensures { Gives (λ x. (x.0, x.1.now)) result (times (next_variable version dimensions.now) count [] bytes.now) }
 {
-    let mut variables = List::new(alloc);
-    let mut names = Names::new(alloc);
+    let room = (bytes.len() / LEAST).min(count as usize);
+    let mut variables = List::with_capacity(alloc, room)?;
+    let mut names = Names::with_capacity(alloc, room)?;
     let mut sum = 0u64;
     let mut rest = bytes;
     for _ in 0..count {

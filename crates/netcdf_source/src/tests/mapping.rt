@@ -1,185 +1,7 @@
-use crate::{Header, read_header};
-use dap_types::{ArrayDecl, BaseType, Dataset, Decl};
+use crate::tests::made::{file, sample};
+use crate::tests::seen::{at, becomes};
 use std::alloc::Global;
 use std::test::Fail;
-
-/// A variable: its name, its dimensions, its type and its place.
-#[derive(Clone, Copy)]
-struct Variable<'a> {
-    name: &'a [u8],
-    dimensions: &'a [u32],
-    number: u32,
-    begin: u32,
-}
-
-fn sample<'a>(name: &'a [u8], dimensions: &'a [u32], number: u32, begin: u32) -> Variable<'a> {
-    Variable {
-        name,
-        dimensions,
-        number,
-        begin,
-    }
-}
-
-fn push_word(bytes: &mut Vec<u8>, word: u32) -> Result<(), Fail> {
-    bytes.extend_from_slice(&word.to_be_bytes())?;
-    Ok(())
-}
-
-fn push_name(bytes: &mut Vec<u8>, name: &[u8]) -> Result<(), Fail> {
-    push_word(bytes, (name.len() % 1000) as u32)?;
-    bytes.extend_from_slice(name)?;
-    for _ in 0..(4 - name.len() % 4) % 4 {
-        bytes.push(0xff)?;
-    }
-    Ok(())
-}
-
-/// A file of version 1 or 2 without attributes, its data of one byte.
-fn file(
-    alloc: Global,
-    version: u8,
-    records: u32,
-    dimensions: &[(&[u8], u32)],
-    variables: &[Variable],
-    data: usize,
-) -> Result<Vec<u8>, Fail> {
-    let mut bytes = Vec::from_slice(alloc, &[0x43, 0x44, 0x46, version])?;
-    push_word(&mut bytes, records)?;
-    push_word(&mut bytes, 10)?;
-    push_word(&mut bytes, (dimensions.len() % 1000) as u32)?;
-    for (name, length) in dimensions {
-        push_name(&mut bytes, name)?;
-        push_word(&mut bytes, *length)?;
-    }
-    push_word(&mut bytes, 12)?;
-    push_word(&mut bytes, 0)?;
-    push_word(&mut bytes, 11)?;
-    push_word(&mut bytes, (variables.len() % 1000) as u32)?;
-    for v in variables {
-        push_name(&mut bytes, v.name)?;
-        push_word(&mut bytes, (v.dimensions.len() % 1000) as u32)?;
-        for id in v.dimensions {
-            push_word(&mut bytes, *id)?;
-        }
-        push_word(&mut bytes, 0)?;
-        push_word(&mut bytes, 0)?;
-        push_word(&mut bytes, v.number)?;
-        push_word(&mut bytes, 7)?;
-        if version == 2 {
-            push_word(&mut bytes, 1)?;
-        }
-        push_word(&mut bytes, v.begin)?;
-    }
-    for _ in 0..data {
-        bytes.push(0)?;
-    }
-    Ok(bytes)
-}
-
-fn header(alloc: Global, bytes: &[u8], file_len: u64) -> Result<Header, Fail> {
-    if bytes.len() as u64 != file_len.min(1048576) || file_len >= 1 << 63 {
-        return Err("the front of the file")?;
-    }
-    Ok(read_header(alloc, bytes, file_len).ok().ok_or("a header")?)
-}
-
-fn type_word(base: BaseType) -> &'static [u8] {
-    match base {
-        BaseType::Byte => b"Byte ",
-        BaseType::Int16 => b"Int16 ",
-        BaseType::Int32 => b"Int32 ",
-        BaseType::Float32 => b"Float32 ",
-        BaseType::Float64 => b"Float64 ",
-        BaseType::Text => b"String ",
-        _ => b"other ",
-    }
-}
-
-fn describe_array(alloc: Global, out: &mut Vec<u8>, array: &ArrayDecl) -> Result<(), Fail> {
-    out.extend_from_slice(type_word(array.base))?;
-    out.extend_from_slice(array.name.bytes())?;
-    for dim in array.dims.items() {
-        out.push(b'[')?;
-        if let Some(name) = &dim.name {
-            out.extend_from_slice(name.bytes())?;
-        }
-        let size = dim.size;
-        let text = format!(in alloc; "={size}]")?;
-        out.extend_from_slice(text.as_bytes())?;
-    }
-    out.push(b';')?;
-    Ok(())
-}
-
-/// The variables of a dataset in a line.
-fn describe(alloc: Global, dataset: &Dataset) -> Result<Vec<u8>, Fail> {
-    let mut out = Vec::from_slice(alloc, dataset.name.bytes())?;
-    out.push(b':')?;
-    for member in dataset.members.items() {
-        match member {
-            Decl::Base(column) => {
-                out.extend_from_slice(type_word(column.base))?;
-                out.extend_from_slice(column.name.bytes())?;
-                out.push(b';')?;
-            }
-            Decl::Array(array) => describe_array(alloc, &mut out, array)?,
-            Decl::Grid(name, array, maps) => {
-                out.extend_from_slice(name.bytes())?;
-                out.push(b'(')?;
-                describe_array(alloc, &mut out, array)?;
-                for map in maps.items() {
-                    describe_array(alloc, &mut out, map)?;
-                }
-                out.push(b')')?;
-            }
-            _ => out.extend_from_slice(b"other;")?,
-        }
-    }
-    Ok(out)
-}
-
-/// Where the elements of a leaf stand: its place, its steps and the bytes of an element.
-#[derive(Clone, Copy)]
-struct Place<'a> {
-    base: u64,
-    steps: &'a [u64],
-    size: u32,
-}
-
-fn is_at(header: &Header, leaf: u32, place: &Option<Place>) -> bool {
-    match (header.layout(leaf), place) {
-        (Some(layout), Some(place)) => {
-            layout.base == place.base
-                && layout.steps.items() == place.steps
-                && layout.size == place.size
-        }
-        (None, None) => true,
-        _ => false,
-    }
-}
-
-/// Whether a file becomes this dataset, with leaves that stand there, numbered from 0.
-fn becomes(
-    alloc: Global,
-    bytes: &[u8],
-    file_len: u64,
-    dataset: &[u8],
-    places: &[Option<Place>],
-) -> Result<bool, Fail> {
-    let header = header(alloc, bytes, file_len)?;
-    let made = describe(alloc, &header.dataset(alloc, b"a/f.nc")?)?;
-    for (leaf, place) in places.iter().enumerate() {
-        if !is_at(&header, (leaf % 1000) as u32, place) {
-            return Ok(false);
-        }
-    }
-    Ok(made.as_slice() == dataset)
-}
-
-fn at(base: u64, steps: &[u64], size: u32) -> Option<Place<'_>> {
-    Some(Place { base, steps, size })
-}
 
 /// Coordinate variables, a Grid, a dimension that comes twice, and a scalar.
 fn grids(alloc: Global) -> Result<bool, Fail> {
@@ -209,7 +31,8 @@ fn grids(alloc: Global) -> Result<bool, Fail> {
     becomes(alloc, &bytes, bytes.len() as u64, dataset, &places)
 }
 
-/// Texts of one byte and of more, and one that is too long to be offered.
+/// Texts of one byte and of more, one that is too long to be offered, and a text that is named as
+/// its dimension: it is no coordinate variable.
 fn texts(alloc: Global) -> Result<bool, Fail> {
     let dims: [(&[u8], u32); 4] = [(b"t", 0), (b"k", 2), (b"w", 65536), (b"x", 65537)];
     let variables = [
@@ -218,6 +41,7 @@ fn texts(alloc: Global) -> Result<bool, Fail> {
         sample(b"c", &[1, 2], 2, 700),
         sample(b"e", &[1, 3], 2, 700),
         sample(b"k", &[1], 2, 700),
+        sample(b"h", &[1], 1, 720),
     ];
     let bytes = file(alloc, 1, 3, &dims, &variables, 140000)?;
     let places = [
@@ -226,9 +50,10 @@ fn texts(alloc: Global) -> Result<bool, Fail> {
         at(601, &[1], 1),
         at(700, &[65536], 65536),
         at(700, &[], 2),
+        at(720, &[1], 1),
         None,
     ];
-    let dataset = b"f.nc:String a;String b[t=3];String c[k=2];String k;";
+    let dataset = b"f.nc:String a;String b[t=3];String c[k=2];String k;Byte h[k=2];";
     becomes(alloc, &bytes, bytes.len() as u64, dataset, &places)
 }
 
@@ -252,11 +77,27 @@ fn one_record_variable(alloc: Global) -> Result<bool, Fail> {
     becomes(alloc, &bytes, 1 << 33, b"f.nc:Byte a[t=2][n=3];", &places)
 }
 
+/// Names of all kinds of bytes, and a list of dimensions with its tag and no item.
+fn names(alloc: Global) -> Result<bool, Fail> {
+    let variables = [
+        sample(b"\x00\x1f !", &[], 1, 300),
+        sample(b"%2F.,[]", &[], 1, 301),
+        sample(b"\x7f\x80\xc3\xa9\xff", &[], 1, 302),
+        sample(b"09AZaz_-+*/", &[], 1, 303),
+    ];
+    let bytes = file(alloc, 1, 0, &[], &variables, 200)?;
+    let places = [None, at(300, &[], 1), at(301, &[], 1), at(302, &[], 1)];
+    let dataset =
+        b"f.nc:Byte %00%1F%20%21;Byte %252F%2E%2C%5B%5D;Byte %7F%80%C3%A9%FF;Byte 09AZaz_-+*/;";
+    becomes(alloc, &bytes, bytes.len() as u64, dataset, &places)
+}
+
 #[test]
-fn grids_texts_and_records_are_mapped(rt: HostRuntime) -> Result<(), Fail> {
+fn grids_texts_records_and_names_are_mapped(rt: HostRuntime) -> Result<(), Fail> {
     assert!(rt; grids(rt.alloc())?);
     assert!(rt; texts(rt.alloc())?);
     assert!(rt; records(rt.alloc())?);
     assert!(rt; one_record_variable(rt.alloc())?);
+    assert!(rt; names(rt.alloc())?);
     Ok(())
 }

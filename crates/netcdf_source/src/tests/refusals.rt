@@ -60,45 +60,85 @@ fn refusal(alloc: Global, bytes: &[u8]) -> Option<HeaderRefusal> {
     read_header(alloc, bytes, bytes.len() as u64).err()
 }
 
+/// The first words of a file alone, whose last one is a count with nothing behind it.
+fn counted(alloc: Global, words: &[u32]) -> Result<Option<HeaderRefusal>, Fail> {
+    let bytes = changed(alloc, words, 1000, 0)?;
+    Ok(refusal(alloc, &bytes))
+}
+
+/// The refusal of a header that does not end within its first 1,048,576 bytes, those of a file of
+/// that length.
+fn endless(alloc: Global, file_len: u64) -> Result<Option<HeaderRefusal>, Fail> {
+    let words = [
+        0x4344_4601,
+        0,
+        0,
+        0,
+        0x0c,
+        1,
+        1,
+        0x6100_0000,
+        2,
+        0x7fff_ffff,
+    ];
+    let mut bytes = changed(alloc, &words, 1000, 0)?;
+    bytes.resize(1048576, 0)?;
+    if bytes.len() as u64 != file_len.min(1048576) || file_len >= 1 << 63 {
+        return Err("the front of the file")?;
+    }
+    Ok(read_header(alloc, &bytes, file_len).err())
+}
+
+/// A word of the file is changed: its place, the word, the refusal, and the length from which a
+/// front of the file is refused so.
+const CHANGES: [(usize, u32, HeaderRefusal, usize); 14] = [
+    (0, 0x4344_4603, HeaderRefusal::NotCdf, 0),
+    (4, 0xffff_ffff, HeaderRefusal::Streaming, 8),
+    (4, 0x8000_0000, HeaderRefusal::BadField { place: 4 }, 8),
+    (8, 0x0b, HeaderRefusal::BadField { place: 8 }, 12),
+    (8, 0, HeaderRefusal::BadField { place: 12 }, 16),
+    (12, 0xffff_ffff, HeaderRefusal::BadField { place: 40 }, 44),
+    (28, 257, HeaderRefusal::BadField { place: 28 }, 32),
+    (32, 0x7900_0000, HeaderRefusal::BadField { place: 28 }, 36),
+    (64, 33, HeaderRefusal::BadField { place: 64 }, 68),
+    (68, 2, HeaderRefusal::BadField { place: 68 }, 72),
+    (84, 7, HeaderRefusal::BadField { place: 84 }, 88),
+    (92, 0x7fff_ffff, HeaderRefusal::PastEnd { var: 1 }, 96),
+    (92, 0x61, HeaderRefusal::PastEnd { var: 1 }, 96),
+    (92, 0x60, HeaderRefusal::PastEnd { var: 1 }, 96),
+];
+
+/// What a front of that length is refused for.
+fn refusal_at(len: usize, whole: usize, refusal: HeaderRefusal) -> HeaderRefusal {
+    if len < 4 {
+        HeaderRefusal::NotCdf
+    } else if len < whole {
+        HeaderRefusal::HeaderCut
+    } else {
+        refusal
+    }
+}
+
 #[test]
 fn changed_words_and_cuts_are_refused_at_their_place(rt: HostRuntime) -> Result<(), Fail> {
     let alloc = rt.alloc();
-    let cases = [
-        (0, 0x4344_4603, HeaderRefusal::NotCdf),
-        (4, 0xffff_ffff, HeaderRefusal::Streaming),
-        (4, 0x8000_0000, HeaderRefusal::BadField { place: 4 }),
-        (8, 0x0b, HeaderRefusal::BadField { place: 8 }),
-        (8, 0, HeaderRefusal::BadField { place: 12 }),
-        (12, 0xffff_ffff, HeaderRefusal::BadField { place: 40 }),
-        (28, 257, HeaderRefusal::BadField { place: 28 }),
-        (32, 0x7900_0000, HeaderRefusal::BadField { place: 28 }),
-        (64, 33, HeaderRefusal::BadField { place: 64 }),
-        (68, 2, HeaderRefusal::BadField { place: 68 }),
-        (84, 7, HeaderRefusal::BadField { place: 84 }),
-        (92, 0x7fff_ffff, HeaderRefusal::PastEnd { var: 1 }),
-        (92, 0x61, HeaderRefusal::PastEnd { var: 1 }),
-    ];
-    for (place, word, expected) in cases {
+    for (place, word, expected, whole) in CHANGES {
         let bytes = changed(alloc, &FILE, place, word)?;
-        assert_eq!(rt;
-            refusal(alloc, &bytes),
-            Some(expected),
-            "{word:x} at {place}"
-        );
+        for len in 0..bytes.len() {
+            assert_eq!(rt;
+                refusal(alloc, &bytes[..len]),
+                Some(refusal_at(len, whole, expected)),
+                "{word:x} at {place}, cut at {len}"
+            );
+        }
+        let uncut = if word == 0x60 { None } else { Some(expected) };
+        assert_eq!(rt; refusal(alloc, &bytes), uncut, "{word:x} at {place}");
     }
-    let bytes = changed(alloc, &FILE, 0, 0x4344_4601)?;
-    for len in 0..bytes.len() {
-        let expected = match len {
-            0..=3 => HeaderRefusal::NotCdf,
-            4..=95 => HeaderRefusal::HeaderCut,
-            _ => HeaderRefusal::PastEnd { var: 1 },
-        };
-        assert_eq!(rt;
-            refusal(alloc, &bytes[..len]),
-            Some(expected),
-            "cut at {len}"
-        );
-    }
-    assert_eq!(rt; refusal(alloc, &bytes), None);
+    let cut = counted(alloc, &[0x4344_4601, 0, 0x0a, 0xffff_ffff])?;
+    assert_eq!(rt; cut, Some(HeaderRefusal::HeaderCut));
+    let whole = endless(alloc, 1048576)?;
+    assert_eq!(rt; whole, Some(HeaderRefusal::HeaderCut));
+    let longer = endless(alloc, 1048577)?;
+    assert_eq!(rt; longer, Some(HeaderRefusal::HeaderTooLong));
     Ok(())
 }

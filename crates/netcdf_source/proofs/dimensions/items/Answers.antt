@@ -9,7 +9,7 @@ use Rattle.netcdf_source.proofs.dimensions.items.Goals as goal
 
 pub returns-in_err-dimension : goal.returns-in_err-dimension
 returns-in_err-dimension c =
-    let p = err_from_is_err_and c.from_residual.result c.from_residual.ensures.1 in
+    let p = err_from_is_err_and c.from_residual-in_err-dimension.result c.from_residual-in_err-dimension.ensures.1 in
     let inv = c.loop.invariant in
     let read : Fails c.in_err-dimension.field-0.0 (next_dimension c.loop.dimensions c.loop.rest.now) = rw (← inv.1, ← inv.2) c.in_err-dimension.ensures.reading in
     rw (p.1, p.2) (ends next_dimension c.in_err-dimension.field-0.0 c.loop.dimensions c.args.count c.loop.counter c.loop.rest.now (times next_dimension c.args.count [] c.args.bytes.now) c.loop-test.true read inv.0)

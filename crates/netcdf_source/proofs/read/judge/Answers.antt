@@ -6,7 +6,7 @@ use Rattle.netcdf_source.proofs.Good.{read_sound}
 use Rattle.netcdf_source.proofs.read.judge.Goals as goal
 
 pub past_end-requires : goal.past_end-requires
-past_end-requires c = read_sound c.args.version c.args.body.now c.in-Ok.contents c.in-Ok.field-0-1.now (λ i. omega (arith, c.type_inv.body i)) c.in-Ok.ensures
+past_end-requires c = read_sound c.args.version c.args.body.now c.in-Ok.contents c.in-Ok.field-0-1.now (λ i. omega (arith, c.type_inv.body i)) c.requires c.in-Ok.ensures
 
 pub returns-in-Err-Failed-clause-verdict : goal.returns-in-Err-Failed-clause-verdict
 unfolding verdict
@@ -22,7 +22,7 @@ returns-in-Some-clause-verdict c =
     inr (rw (c.in-Ok.ensures, past) refl)
 
 pub new-requires-clause-sound : goal.new-requires-clause-sound
-new-requires-clause-sound c = read_sound c.args.version c.args.body.now c.in-Ok.contents c.in-Ok.field-0-1.now (λ i. omega (arith, c.type_inv.body i)) c.in-Ok.ensures
+new-requires-clause-sound c = read_sound c.args.version c.args.body.now c.in-Ok.contents c.in-Ok.field-0-1.now (λ i. omega (arith, c.type_inv.body i)) c.requires c.in-Ok.ensures
 
 pub returns-in_ok-new-in-None-clause-verdict : goal.returns-in_ok-new-in-None-clause-verdict
 unfolding verdict

@@ -9,11 +9,11 @@ use Rattle.netcdf_source.proofs.variables.items.Goals as goal
 
 pub loop-init : goal.loop-init
 unfolding shares
-loop-init c = rw (c.new-variables.ensures, c.new-names.ensures) (search rules)
+loop-init c = rw (c.in_ok-variables.ensures, c.in_ok-names.ensures) (search rules)
 
 pub returns-in_err-variable : goal.returns-in_err-variable
 returns-in_err-variable c =
-    let p = err_from_is_err_and c.from_residual.result c.from_residual.ensures.1 in
+    let p = err_from_is_err_and c.from_residual-in_err-variable.result c.from_residual-in_err-variable.ensures.1 in
     let inv = c.loop.invariant in
     let read : Fails c.in_err-variable.field-0.0 (next_variable c.args.version c.args.dimensions.now c.loop.variables c.loop.rest.now) = rw (← inv.1, ← inv.2) c.in_err-variable.ensures.reading in
     rw (p.1, p.2) (ends (next_variable c.args.version c.args.dimensions.now) c.in_err-variable.field-0.0 c.loop.variables c.args.count c.loop.counter c.loop.rest.now (times (next_variable c.args.version c.args.dimensions.now) c.args.count [] c.args.bytes.now) c.loop-test.true read inv.0)

@@ -1,7 +1,0 @@
-use Rattle.std.proofs.Common.{◌≡◌, take}
-use Rattle.std.specs.List.{flat_map}
-use Rattle.netcdf_source.specs.Names.{dataset_name_byte}
-use Rattle.netcdf_source.proofs.dataset_name.dataset_id.Given as goal
-
-abbrev pub invariant-loop-byte : goal.invariant-loop-byte
-invariant-loop-byte l = l.name.items ≡ flat_map dataset_name_byte (take l.byte-index l.byte-items)

@@ -1,0 +1,40 @@
+-- What the definitions of this crate promise of one another and to those of `dap_model`, each as a
+-- statement over all headers and files.
+use Rattle.std.specs.Prelude.{◌≡◌, ◌≢◌, ℕ, ◌<◌, List, [], ◌∷◌, ◌++◌, replicate, take, length, All, Option, Some, None, option_map, option_and_then, if◌then◌else◌}
+use Rattle.dap_types.specs.Model.{Member, scalar, array}
+use Rattle.dap_types.specs.WellFormed.{member_at, is_leaf}
+use Rattle.dap_model.specs.Fits.{FitsAll}
+use Rattle.netcdf_source.specs.Header.{IsHeader}
+use Rattle.netcdf_source.specs.Layouts.{layout_of}
+use Rattle.netcdf_source.specs.Mapping.{element_dimensions, is_empty, column_of, array_of, dataset_of, leaf_variable}
+use Rattle.netcdf_source.specs.Values.{without_zeros, tree_of, placed_tree, file_trees}
+use Rattle.netcdf_source.specs.declared.header.Contents.{Contents}
+use Rattle.netcdf_source.specs.declared.header.Variable.{Variable}
+
+-- a variable by itself: a scalar or an array
+abbrev pub leaf_of : Contents → Variable → Member
+leaf_of c v = if is_empty (element_dimensions c v) then scalar (column_of v) else array (array_of c v)
+
+abbrev pub own_leaf : Member → Option Member
+own_leaf m = if is_leaf m then Some m else None
+
+-- The member with a number is a leaf exactly where the header has a variable for it, and is then the
+-- leaf of that variable.
+abbrev pub LeavesAgree : Type 0
+LeavesAgree = (c : Contents) (file_name : List ℕ) (n : ℕ) → option_and_then own_leaf (member_at (dataset_of c file_name) n) ≡ option_map (leaf_of c) (leaf_variable c n)
+
+-- the file begins with a header that says this
+abbrev pub HasHeader : Contents → List ℕ → Type 0
+HasHeader c file = All (λ b. b < 256) file × IsHeader c (take 1048576 file) (length file)
+
+-- the values of a file are values of its dataset
+abbrev pub ValuesFit : Type 0
+ValuesFit = (c : Contents) (file_name file : List ℕ) → HasHeader c file → FitsAll (dataset_of c file_name).members (file_trees c file)
+
+-- the values of a leaf are those that stand at the places of its layout
+abbrev pub ValuesArePlaced : Type 0
+ValuesArePlaced = (c : Contents) (file : List ℕ) (leaf : ℕ) (v : Variable) → HasHeader c file → leaf_variable c leaf ≡ Some v → tree_of c file v ≡ placed_tree c file v (layout_of c v)
+
+-- a text lacks the zero bytes at its end, and nothing else
+abbrev pub ZerosAreCut : Type 0
+ZerosAreCut = (bytes : List ℕ) → ((n : ℕ) × (bytes ≡ without_zeros bytes ++ replicate n 0)) × ((front : List ℕ) → without_zeros bytes ≢ front ++ 0 ∷ [])

@@ -1,0 +1,80 @@
+use std::alloc::Global;
+use std::test::Fail;
+
+/// A variable: its name, its dimensions, the words of its attributes, its type and its place.
+#[derive(Clone, Copy)]
+pub struct Variable<'a> {
+    pub name: &'a [u8],
+    pub dimensions: &'a [u32],
+    pub attributes: &'a [u32],
+    pub number: u32,
+    pub begin: u32,
+}
+
+/// A variable without attributes.
+pub fn sample<'a>(name: &'a [u8], dimensions: &'a [u32], number: u32, begin: u32) -> Variable<'a> {
+    Variable {
+        name,
+        dimensions,
+        attributes: &[0, 0],
+        number,
+        begin,
+    }
+}
+
+pub fn push_word(bytes: &mut Vec<u8>, word: u32) -> Result<(), Fail> {
+    bytes.extend_from_slice(&word.to_be_bytes())?;
+    Ok(())
+}
+
+fn push_name(bytes: &mut Vec<u8>, name: &[u8]) -> Result<(), Fail> {
+    push_word(bytes, (name.len() % 1000) as u32)?;
+    bytes.extend_from_slice(name)?;
+    for _ in 0..(4 - name.len() % 4) % 4 {
+        bytes.push(0xff)?;
+    }
+    Ok(())
+}
+
+/// A file of version 1 or 2 without attributes of its own, and behind its header so many zero bytes.
+pub fn file(
+    alloc: Global,
+    version: u8,
+    records: u32,
+    dimensions: &[(&[u8], u32)],
+    variables: &[Variable],
+    data: usize,
+) -> Result<Vec<u8>, Fail> {
+    let mut bytes = Vec::from_slice(alloc, &[0x43, 0x44, 0x46, version])?;
+    push_word(&mut bytes, records)?;
+    push_word(&mut bytes, 10)?;
+    push_word(&mut bytes, (dimensions.len() % 1000) as u32)?;
+    for (name, length) in dimensions {
+        push_name(&mut bytes, name)?;
+        push_word(&mut bytes, *length)?;
+    }
+    push_word(&mut bytes, 12)?;
+    push_word(&mut bytes, 0)?;
+    push_word(&mut bytes, 11)?;
+    push_word(&mut bytes, (variables.len() % 1000) as u32)?;
+    for v in variables {
+        push_name(&mut bytes, v.name)?;
+        push_word(&mut bytes, (v.dimensions.len() % 1000) as u32)?;
+        for id in v.dimensions {
+            push_word(&mut bytes, *id)?;
+        }
+        for word in v.attributes {
+            push_word(&mut bytes, *word)?;
+        }
+        push_word(&mut bytes, v.number)?;
+        push_word(&mut bytes, 7)?;
+        if version == 2 {
+            push_word(&mut bytes, 1)?;
+        }
+        push_word(&mut bytes, v.begin)?;
+    }
+    for _ in 0..data {
+        bytes.push(0)?;
+    }
+    Ok(bytes)
+}
