@@ -8,7 +8,8 @@ use dap_types::{Bytes, Dataset, Decl, Memory};
 use std::alloc::Global;
 use text_lines::put_line;
 
-/// Depths at which no member of a dataset in memory stands.
+/// Nothing is printed at this depth: the text of a member there has more than 2^47 bytes, so memory
+/// for it is wanted.
 const TOO_DEEP: u32 = 1 << 23;
 
 /// The DDS of the dataset (DAP 2.0, Dataset Descriptor Structure, in this project's layout). Fails

@@ -1,0 +1,33 @@
+//! What is held of the front of a DDS.
+
+ghost use Rattle.std.specs.Prelude.{◌≤◌};
+
+use crate::parser::Parser;
+use dap_types::Dataset;
+
+/// A text has no more bytes than these.
+pub const LIMIT: usize = 16_777_216;
+
+/// What is held of a text that goes on.
+#[derive(Drop)]
+pub struct Front {
+    /// The number of its bytes.
+    pub length: usize,
+    /// The place of its last word, where that is not whole.
+    pub began: usize,
+    /// The bytes of that word.
+    pub word: Vec<u8>,
+    pub parser: Parser,
+    ghost within: { (length ≤ 16777216) × (began ≤ 16777216) },
+}
+
+/// What a piece of a text holds.
+#[derive(Drop)]
+pub enum Found {
+    /// Neither a bad token nor the end of the dataset.
+    Nothing,
+    /// The bad token, at this place of the text.
+    Bad(usize),
+    /// The end of the dataset, behind so many bytes of the piece.
+    Done(usize, Dataset),
+}
