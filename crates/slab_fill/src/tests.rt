@@ -87,8 +87,36 @@ const DENSE: [Slab; 2] = [
     },
 ];
 
+/// However many workers there are, they write these bytes.
+fn expect_filled<R: Threads + Abort + Sync>(
+    rt: &R,
+    alloc: Global,
+    plan: &Plan,
+    raw: &[u8],
+    expected: &[u8],
+) -> Result<(), Fail>
+    requires { IsTrue (is_number (base_in plan.now)) }
+{
+    for workers in [1, 2, 7, 64] {
+        let mut out = vec![in alloc; 3u8; expected.len()]?;
+        fill_first(rt, plan, raw, &mut out, workers, &NoGate);
+        assert_eq!(rt; out.as_slice(), expected);
+    }
+    Ok(())
+}
+
+/// Six numbers of 2 bytes as XDR, with and without a sign.
+const SIGNED: [u8; 24] = [
+    0, 0, 0, 1, 0xff, 0xff, 0xff, 0xfe, 0xff, 0xff, 0x80, 0, 0, 0, 0x7f, 0xff, 0, 0, 0, 0, 0xff,
+    0xff, 0xff, 0xff,
+];
+
+const UNSIGNED: [u8; 24] = [
+    0, 0, 0, 1, 0, 0, 0xff, 0xfe, 0, 0, 0x80, 0, 0, 0, 0x7f, 0xff, 0, 0, 0, 0, 0, 0, 0xff, 0xff,
+];
+
 #[test]
-fn any_number_of_workers(rt: HostRuntime) -> Result<(), Fail> {
+fn elements_apart(rt: HostRuntime) -> Result<(), Fail> {
     let alloc = rt.alloc();
     let bytes = [1u8, 9, 2, 9, 0xff, 0x80, 9, 0, 9, 7];
     let shorts = [
@@ -99,40 +127,44 @@ fn any_number_of_workers(rt: HostRuntime) -> Result<(), Fail> {
         9, 18, 19, 20, 21, 9, 9, 9, 9, 22, 23, 24, 25,
     ];
     let byte_plan = plan(alloc, BaseType::Byte, 1, (100, 1), &APART)?;
+    expect_filled(&rt, alloc, &byte_plan, &bytes, &[1, 2, 0xff, 0x80, 0, 7])?;
     let signed_plan = plan(alloc, BaseType::Int16, 2, (100, 2), &APART)?;
+    expect_filled(&rt, alloc, &signed_plan, &shorts, &SIGNED)?;
     let unsigned_plan = plan(alloc, BaseType::UInt16, 2, (100, 2), &APART)?;
+    expect_filled(&rt, alloc, &unsigned_plan, &shorts, &UNSIGNED)?;
     let word_plan = plan(alloc, BaseType::Int32, 4, (100, 4), &APART)?;
-    for workers in [1, 2, 7, 64] {
-        let mut out = [3u8; 6];
-        fill_first(&rt, &byte_plan, &bytes, &mut out, workers, &NoGate);
-        assert_eq!(rt; out, [1, 2, 0xff, 0x80, 0, 7]);
-        let mut out = [3u8; 24];
-        fill_first(&rt, &signed_plan, &shorts, &mut out, workers, &NoGate);
-        assert_eq!(rt;
-            out,
-            [
-                0, 0, 0, 1, 0xff, 0xff, 0xff, 0xfe, 0xff, 0xff, 0x80, 0, 0, 0, 0x7f, 0xff, 0, 0, 0,
-                0, 0xff, 0xff, 0xff, 0xff
-            ]
-        );
-        fill_first(&rt, &unsigned_plan, &shorts, &mut out, workers, &NoGate);
-        assert_eq!(rt;
-            out,
-            [
-                0, 0, 0, 1, 0, 0, 0xff, 0xfe, 0, 0, 0x80, 0, 0, 0, 0x7f, 0xff, 0, 0, 0, 0, 0, 0,
-                0xff, 0xff
-            ]
-        );
-        fill_first(&rt, &word_plan, &words, &mut out, workers, &NoGate);
-        assert_eq!(rt;
-            out,
-            [
-                1, 2, 3, 4, 5, 6, 7, 8, 10, 11, 12, 13, 14, 15, 16, 17, 18, 19, 20, 21, 22, 23, 24,
-                25
-            ]
-        );
-    }
-    Ok(())
+    expect_filled(
+        &rt,
+        alloc,
+        &word_plan,
+        &words,
+        &[
+            1, 2, 3, 4, 5, 6, 7, 8, 10, 11, 12, 13, 14, 15, 16, 17, 18, 19, 20, 21, 22, 23, 24, 25,
+        ],
+    )
+}
+
+#[test]
+fn doubles_apart(rt: HostRuntime) -> Result<(), Fail> {
+    let alloc = rt.alloc();
+    let doubles = [
+        1u8, 2, 3, 4, 5, 6, 7, 8, 99, 99, 99, 99, 99, 99, 99, 99, 9, 10, 11, 12, 13, 14, 15, 16,
+        99, 99, 99, 99, 99, 99, 99, 99, 17, 18, 19, 20, 21, 22, 23, 24, 25, 26, 27, 28, 29, 30, 31,
+        32, 99, 99, 99, 99, 99, 99, 99, 99, 33, 34, 35, 36, 37, 38, 39, 40, 99, 99, 99, 99, 99, 99,
+        99, 99, 41, 42, 43, 44, 45, 46, 47, 48,
+    ];
+    let double_plan = plan(alloc, BaseType::Float64, 8, (100, 8), &APART)?;
+    expect_filled(
+        &rt,
+        alloc,
+        &double_plan,
+        &doubles,
+        &[
+            1, 2, 3, 4, 5, 6, 7, 8, 9, 10, 11, 12, 13, 14, 15, 16, 17, 18, 19, 20, 21, 22, 23, 24,
+            25, 26, 27, 28, 29, 30, 31, 32, 33, 34, 35, 36, 37, 38, 39, 40, 41, 42, 43, 44, 45, 46,
+            47, 48,
+        ],
+    )
 }
 
 #[test]
@@ -144,23 +176,53 @@ fn elements_end_to_end(rt: HostRuntime) -> Result<(), Fail> {
         25, 26, 27, 28, 29, 30, 31, 32, 33, 34, 35, 36, 37, 38, 39, 40, 41, 42, 43, 44, 45, 46, 47,
         48,
     ];
+    let byte_plan = plan(alloc, BaseType::Byte, 1, (3, 1), &DENSE)?;
+    let bytes = [1u8, 2, 0xff, 0x80, 0, 7];
+    expect_filled(&rt, alloc, &byte_plan, &bytes, &bytes)?;
     let signed_plan = plan(alloc, BaseType::Int16, 2, (6, 2), &DENSE)?;
+    expect_filled(&rt, alloc, &signed_plan, &shorts, &SIGNED)?;
+    let unsigned_plan = plan(alloc, BaseType::UInt16, 2, (6, 2), &DENSE)?;
+    expect_filled(&rt, alloc, &unsigned_plan, &shorts, &UNSIGNED)?;
+    let word_plan = plan(alloc, BaseType::Float32, 4, (12, 4), &DENSE)?;
+    expect_filled(&rt, alloc, &word_plan, &doubles[..24], &doubles[..24])?;
     let double_plan = plan(alloc, BaseType::Float64, 8, (24, 8), &DENSE)?;
-    for workers in [1, 2, 7, 64] {
-        let mut out = [3u8; 24];
-        fill_first(&rt, &signed_plan, &shorts, &mut out, workers, &NoGate);
-        assert_eq!(rt;
-            out,
-            [
-                0, 0, 0, 1, 0xff, 0xff, 0xff, 0xfe, 0xff, 0xff, 0x80, 0, 0, 0, 0x7f, 0xff, 0, 0, 0,
-                0, 0xff, 0xff, 0xff, 0xff
-            ]
-        );
-        let mut out = [3u8; 48];
-        fill_first(&rt, &double_plan, &doubles, &mut out, workers, &NoGate);
-        assert_eq!(rt; out, doubles);
+    expect_filled(&rt, alloc, &double_plan, &doubles, &doubles)
+}
+
+/// Two rows of a hundred elements.
+const HUNDREDS: [Slab; 2] = [
+    Slab {
+        start: 0,
+        stride: 1,
+        count: 2,
+    },
+    Slab {
+        start: 0,
+        stride: 1,
+        count: 100,
+    },
+];
+
+/// Parts that are long enough for loops which go many elements at a time: the numbers with the high
+/// bytes 56 to 255 and the low byte 7, those from 128 on negative.
+#[test]
+fn long_parts(rt: HostRuntime) -> Result<(), Fail> {
+    let alloc = rt.alloc();
+    let mut shorts = Vec::new(alloc);
+    let mut signed = Vec::new(alloc);
+    let mut unsigned = Vec::new(alloc);
+    for high in 56..=255u8 {
+        let sign = if high < 128 { 0 } else { 0xff };
+        shorts.extend_from_slice(&[high, 7])?;
+        signed.extend_from_slice(&[sign, sign, high, 7])?;
+        unsigned.extend_from_slice(&[0, 0, high, 7])?;
     }
-    Ok(())
+    let signed_plan = plan(alloc, BaseType::Int16, 2, (200, 2), &HUNDREDS)?;
+    expect_filled(&rt, alloc, &signed_plan, &shorts, &signed)?;
+    let unsigned_plan = plan(alloc, BaseType::UInt16, 2, (200, 2), &HUNDREDS)?;
+    expect_filled(&rt, alloc, &unsigned_plan, &shorts, &unsigned)?;
+    let word_plan = plan(alloc, BaseType::UInt32, 4, (400, 4), &HUNDREDS)?;
+    expect_filled(&rt, alloc, &word_plan, &unsigned, &unsigned)
 }
 
 /// Two workers who each look for the other.
