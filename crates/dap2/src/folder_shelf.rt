@@ -1,4 +1,4 @@
-ghost use Rattle.std.specs.Prelude.{◌<◌, ◌^◌};
+ghost use Rattle.std.specs.Prelude.{◌≡◌, ◌<◌, ◌^◌};
 
 use dap_outside::{Failed, Shelf};
 use std::fs::OpenFile;
@@ -26,7 +26,9 @@ pub struct FolderShelf<'a, R> {
 
 impl<'a, R: Files> FolderShelf<'a, R> {
     /// The shelf of the folder in which the program was started.
-    pub fn new(files: &'a R) -> FolderShelf<'a, R> {
+    pub fn new(files: &'a R) -> FolderShelf<'a, R>
+        ensures fresh { (result.faults ≡ 0) × (result.asked ≡ 0) × (result.greatest ≡ 0) }
+    {
         FolderShelf {
             files,
             faults: 0,

@@ -1,4 +1,4 @@
-ghost use Rattle.std.specs.Prelude.{◌≡◌};
+ghost use Rattle.std.specs.Prelude.{◌≡◌, false};
 
 use dap_outside::{Failed, Sink, Source};
 use std::io::{Read, Write};
@@ -13,7 +13,9 @@ pub struct StdSource<R> {
 
 impl<R: Read> StdSource<R> {
     /// A source of what the reader gives.
-    pub fn new(inner: R) -> StdSource<R> {
+    pub fn new(inner: R) -> StdSource<R>
+        ensures fresh { (result.inner ≡ inner) × (result.faults ≡ 0) × (result.ended ≡ false) }
+    {
         StdSource {
             inner,
             faults: 0,
@@ -67,7 +69,9 @@ pub struct StdSink<W> {
 
 impl<W: Write> StdSink<W> {
     /// A sink into the writer.
-    pub fn new(inner: W) -> StdSink<W> {
+    pub fn new(inner: W) -> StdSink<W>
+        ensures fresh { (result.inner ≡ inner) × (result.faults ≡ 0) }
+    {
         StdSink { inner, faults: 0 }
     }
 }
