@@ -2,6 +2,7 @@ ghost use Rattle.std.specs.Prelude.{◌≡◌, ℕ, ◌+◌, ◌<◌, ◌≤◌,
 ghost use Rattle.dap_types.specs.Names.{is_kept_byte, is_hex_digit, upper_case, hex_digit, escaped_byte, begins_with_digits, constraint_id, constraint_id_from, file_id};
 
 use crate::Memory;
+use smallvec::SmallVec;
 use std::alloc::Global;
 use std::hash::{Hash, Hasher};
 use std::marker::Model;
@@ -43,11 +44,14 @@ impl Bytes {
     }
 }
 
+/// The bytes of a name that is kept in place. Most names are no longer.
+const IN_PLACE: usize = 24;
+
 /// The name of a variable or of a dimension (DAP 2.0, identifiers), of any bytes. Contracts see
 /// it as its list of bytes.
 #[derive(Debug, Drop)]
 pub struct Id {
-    vec: Vec<u8>,
+    vec: SmallVec<u8, IN_PLACE>,
 }
 
 impl Model for Id {
@@ -97,7 +101,7 @@ impl Id {
         ensures { IfOk result (λ b. b ≡ bytes.now) }
     {
         Ok(Id {
-            vec: Vec::from_slice(alloc, bytes)?,
+            vec: SmallVec::from_slice(alloc, bytes)?,
         })
     }
 
@@ -176,7 +180,7 @@ fn is_escape(bytes: &[u8]) -> bool
     }
 }
 
-fn push_escaped(out: &mut Vec<u8>, byte: u8) -> Result<(), Memory>
+fn push_escaped(out: &mut SmallVec<u8, IN_PLACE>, byte: u8) -> Result<(), Memory>
     ensures { OnOk result (out.new.items ≡ out.old.items ++ escaped_byte byte) }
 {
     if is_kept(byte) {
@@ -192,7 +196,12 @@ fn push_escaped(out: &mut Vec<u8>, byte: u8) -> Result<(), Memory>
 /// Pushes what the next byte becomes. Before it `left` digits of an escape were still to come, and
 /// after it as many as the answer.
 #[tactic(auto, using(crate::proofs::Escapes::escape_laws))]
-fn push_next(out: &mut Vec<u8>, left: usize, byte: u8, rest: &[u8]) -> Result<usize, Memory>
+fn push_next(
+    out: &mut SmallVec<u8, IN_PLACE>,
+    left: usize,
+    byte: u8,
+    rest: &[u8],
+) -> Result<usize, Memory>
     ensures { IfOk result (λ next. out.new.items ++ constraint_id_from next rest.now ≡ out.old.items ++ constraint_id_from left (byte ∷ rest.now)) }
 {
     if left > 0 {
@@ -207,20 +216,20 @@ fn push_next(out: &mut Vec<u8>, left: usize, byte: u8, rest: &[u8]) -> Result<us
     Ok(0)
 }
 
-fn file_name(alloc: Global, bytes: &[u8]) -> Result<Vec<u8>, Memory>
+fn file_name(alloc: Global, bytes: &[u8]) -> Result<SmallVec<u8, IN_PLACE>, Memory>
     ensures { IfOk result (λ v. v.items ≡ file_id bytes.now) }
 {
-    let mut out = Vec::new(alloc);
+    let mut out = SmallVec::new(alloc);
     for byte in bytes {
         push_escaped(&mut out, *byte)?;
     }
     Ok(out)
 }
 
-fn constraint_name(alloc: Global, bytes: &[u8]) -> Result<Vec<u8>, Memory>
+fn constraint_name(alloc: Global, bytes: &[u8]) -> Result<SmallVec<u8, IN_PLACE>, Memory>
     ensures { IfOk result (λ v. v.items ≡ constraint_id bytes.now) }
 {
-    let mut out = Vec::new(alloc);
+    let mut out = SmallVec::new(alloc);
     let mut left = 0usize;
     for (i, byte) in bytes.iter().enumerate() {
         left = push_next(&mut out, left, *byte, &bytes[i + 1..])?;

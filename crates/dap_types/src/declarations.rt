@@ -1,3 +1,7 @@
+ghost use Rattle.std.specs.Prelude.{◌≡◌};
+ghost use Rattle.dap_types.specs.Model.{name_of};
+ghost use Rattle.dap_types.specs.View.{member_view};
+
 use crate::{Id, List};
 
 /// The type of a value (DAP 2.0, base types).
@@ -57,6 +61,20 @@ pub enum Decl {
     Grid(Id, ArrayDecl, List<ArrayDecl>),
     /// A name and the columns of each row.
     Sequence(Id, List<Column>),
+}
+
+impl Decl {
+    /// The name of the variable.
+    #[tactic(auto, using(crate::proofs::Views::views))]
+    pub fn name(&self) -> &Id
+        ensures { result.now ≡ name_of (member_view self.now) }
+    {
+        match self {
+            Decl::Base(column) => &column.name,
+            Decl::Array(array) => &array.name,
+            Decl::Structure(name, _) | Decl::Grid(name, _, _) | Decl::Sequence(name, _) => name,
+        }
+    }
 }
 
 /// A dataset: its name and its variables in order (DAP 2.0, DDS).

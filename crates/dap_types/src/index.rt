@@ -4,7 +4,6 @@ ghost use Rattle.dap_types.specs.Model.{count, count_all, name_of};
 ghost use Rattle.dap_types.specs.View.{dataset_view, member_view, members_view};
 ghost use Rattle.dap_types.specs.WellFormed.{IsWellFormed, number_of, part_paths, paths};
 
-use crate::names::name_of;
 use crate::{ArrayDecl, Column, Dataset, Decl, Id, Memory};
 use indexmap::IndexMap;
 use std::alloc::Global;
@@ -75,7 +74,7 @@ fn add_level(
 {
     let mut number = first;
     for decl in decls {
-        index.add(joined(alloc, whole, name_of(decl))?, number)?;
+        index.add(joined(alloc, whole, decl.name())?, number)?;
         number = add_parts(alloc, index, whole, number + 1, decl)?;
     }
     Ok(number)

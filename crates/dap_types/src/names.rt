@@ -1,10 +1,8 @@
 ghost use Rattle.std.specs.Prelude.{◌≡◌, List, ℕ, [], ◌∷◌, map, reverse, IfOk, if◌then◌else◌, not};
 ghost use Rattle.std.specs.List.{list_any};
 ghost use Rattle.std.specs.Str.{bytes_eq};
-ghost use Rattle.dap_types.specs.Model.{name_of};
-ghost use Rattle.dap_types.specs.View.{member_view};
 
-use crate::{Decl, Id, Memory};
+use crate::Memory;
 use indexmap::IndexSet;
 use std::alloc::Global;
 use std::marker::Model;
@@ -38,17 +36,5 @@ impl<'a> Names<'a> {
     {
         let (_, is_new) = self.set.insert_full(name)?;
         Ok(is_new)
-    }
-}
-
-/// The name of a variable.
-#[tactic(auto, using(crate::proofs::Views::views))]
-pub fn name_of(decl: &Decl) -> &Id
-    ensures { result.now ≡ name_of (member_view decl.now) }
-{
-    match decl {
-        Decl::Base(column) => &column.name,
-        Decl::Array(array) => &array.name,
-        Decl::Structure(name, _) | Decl::Grid(name, _, _) | Decl::Sequence(name, _) => name,
     }
 }

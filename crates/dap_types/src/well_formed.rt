@@ -5,7 +5,7 @@ ghost use Rattle.dap_types.specs.Model.{Member, array, count, count_all, name_of
 ghost use Rattle.dap_types.specs.View.{dataset_view, member_view, members_view};
 ghost use Rattle.dap_types.specs.WellFormed.{IsWellFormed, fault, has_maps, has_sizes, is_sized, leaf_places, part_places, places};
 
-use crate::names::{Names, name_of};
+use crate::names::Names;
 use crate::size::has_too_many;
 use crate::{ArrayDecl, Column, Dataset, Decl, Dim, Id, Unfit};
 use std::alloc::Global;
@@ -125,7 +125,7 @@ fn check_member<'a>(
 {
     let is_sized = has_sizes(decl);
     let is_mapped = has_maps(decl);
-    check_one(names, number, depth, name_of(decl), is_sized, is_mapped)
+    check_one(names, number, depth, decl.name(), is_sized, is_mapped)
 }
 
 #[tactic(auto, using(crate::proofs::Views::views))]

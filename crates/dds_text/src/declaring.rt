@@ -77,7 +77,9 @@ pub fn declare_by_word(
             Ok(Some(State::Declaring(role, Stage::Worded(array, word))))
         }
         Stage::Equated(array, dim) => Ok(take_size(levels, role, array, dim, word)),
-        Stage::Named(_) | Stage::Worded(_, _) | Stage::Measured(_, _) => Ok(None),
+        Stage::Named(_) => Ok(None),
+        Stage::Worded(_, _) => Ok(None),
+        Stage::Measured(_, _) => Ok(None),
     }
 }
 

@@ -3,7 +3,6 @@
 ghost use Rattle.std.specs.Prelude.{◌≡◌, ◌+◌, ℕ, List as Items, [], ◌∷◌, ◌++◌, OnOk, length, map};
 ghost use Rattle.std.specs.List.{list_any};
 ghost use Rattle.std.specs.Str.{bytes_eq};
-ghost use Rattle.dap_types.specs.Model.{name_of};
 ghost use Rattle.dap_types.specs.View.{member_view};
 ghost use Rattle.dds_text.specs.Held.{HasColumnNames, HasNames, HaveNames, level_view, levels_view, state_view};
 ghost use Rattle.dds_text.specs.States.{add, behind_level, is_name_of_map, top, within};
@@ -11,7 +10,7 @@ ghost use Rattle.dds_text.specs.States.{add, behind_level, is_name_of_map, top, 
 use crate::count::MemberCount;
 use crate::names::LevelNames;
 use crate::state::{State, Whole};
-use dap_types::{ArrayDecl, Column, Decl, Id, List, Memory};
+use dap_types::{ArrayDecl, Column, Decl, List, Memory};
 use std::alloc::Global;
 use std::mem;
 
@@ -47,17 +46,6 @@ pub struct Levels {
     pub count: MemberCount,
 }
 
-#[tactic(auto, using(dap_types::proofs::Views::views))]
-fn name_of(member: &Decl) -> &Id
-    ensures { result.now ≡ name_of (member_view member.now) }
-{
-    match member {
-        Decl::Base(column) => &column.name,
-        Decl::Array(array) => &array.name,
-        Decl::Structure(name, _) | Decl::Grid(name, _, _) | Decl::Sequence(name, _) => name,
-    }
-}
-
 impl Level {
     /// Without members.
     #[tactic(auto, using(crate::proofs::Named::nothing_named))]
@@ -78,7 +66,7 @@ impl Level {
             (level_view self.new ≡ level_view self.old ++ member_view member ∷ []) }
         ensures names { HasNames self.old → OnOk result (HasNames self.new) }
     {
-        self.names.add(alloc, name_of(&member).bytes())?;
+        self.names.add(alloc, member.name().bytes())?;
         self.members.push(member)?;
         Ok(())
     }

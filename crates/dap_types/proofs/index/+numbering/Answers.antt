@@ -15,7 +15,7 @@ add_level-loop-decl-preserved t c =
           c.in_ok-number.number _ c.in_ok-number.ensures.0 c.loop-decl.invariant.counted;
       added = λ new more. c.loop-decl.invariant.added new
           (paths-more c.args.decls.now c.loop-decl.decl-index c.loop-decl.number c.args.whole.now now one two c.decl-item.result c.loop-decl-test.true c.decl-item.is
-          c.in_ok-number.number new (subst (λ path. Adds now one c.loop-decl.number (path ∷ [])) (c.in_ok-joined.ensures ∙ ap (λ name. c.args.whole.now ++ name ∷ []) c.name_of.ensures) c.in_ok-add.ensures)
+          c.in_ok-number.number new (subst (λ path. Adds now one c.loop-decl.number (path ∷ [])) (c.in_ok-joined.ensures ∙ ap (λ name. c.args.whole.now ++ name ∷ []) c.name.ensures) c.in_ok-add.ensures)
           c.in_ok-number.ensures.0 c.in_ok-number.ensures.1 more);
     }
 
