@@ -1,6 +1,6 @@
 -- The values of an attribute: whole pieces one after the other, and a text without the zero bytes at
 -- its end.
-use Rattle.std.proofs.Common.{◌≡◌, ◌≢◌, ℕ, zero, suc, ◌+◌, ◌-◌, ◌/◌, ◌<◌, ◌≤◌, false, List, [], ◌∷◌, ◌++◌, ◌==◌, length, map, take, drop, refl, sym, ap, ◌∙◌, arith, add-one, append_assoc, append-nil, get_or, lit<}
+use Rattle.std.proofs.Common.{◌≡◌, ◌≢◌, ℕ, suc, ◌+◌, ◌-◌, ◌/◌, ◌<◌, ◌≤◌, false, List, [], ◌∷◌, ◌++◌, ◌==◌, length, map, take, drop, refl, sym, ap, ◌∙◌, arith, add-one, append_assoc, append-nil, get_or, lit<}
 use Rattle.std.proofs.Math.Bool.{and-false}
 use Rattle.std.proofs.Math.Nat.{add-div_left, div-eq_of_lt}
 use Rattle.std.proofs.Math.Seq.{take-append_seam, drop-append_seam}

@@ -14,6 +14,7 @@ pub mod DimensionNames
 pub mod Placed
 pub mod EscapedNames
 pub mod GridMaps
+pub mod MapNames
 pub mod WellFormed
 pub mod Members
 pub mod Verdict

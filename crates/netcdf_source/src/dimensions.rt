@@ -7,7 +7,7 @@ use crate::Dimension;
 use crate::names::Names;
 use crate::stop::{Failure, Stop};
 use crate::words::{INT_MAX, bad, head, name_length, run, word};
-use dap_types::{Bytes, List};
+use dap_types::{Id, List};
 use std::alloc::Global;
 
 /// The tag of a list of dimensions.
@@ -21,7 +21,7 @@ pub fn new_name<'a>(
     alloc: Global,
     names: &mut Names<'a>,
     bytes: &'a [u8],
-) -> Result<(Bytes, &'a [u8]), Stop>
+) -> Result<(Id, &'a [u8]), Stop>
     ensures reading { Gives (λ x. (x.0, x.1.now)) result (new_name_at names.old bytes.now) }
     ensures names { IfOk result (λ x. names.new ≡ names.old ++ x.0 ∷ []) }
 {
@@ -30,7 +30,7 @@ pub fn new_name<'a>(
     if !names.insert(name)? {
         return Err(Stop::Failed(Failure::Bad(rest.len() + 4)));
     }
-    Ok((Bytes::new(alloc, name)?, after))
+    Ok((Id::raw(alloc, name)?, after))
 }
 
 /// The length of a dimension, behind a record dimension or not.

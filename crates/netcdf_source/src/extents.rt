@@ -124,14 +124,15 @@ fn is_past(contents: &Contents, step: u64, variable: &Variable, file_len: u64) -
     has_element(is_record, contents.records) && is_behind
 }
 
-/// The number of the first variable, from 1, whose last byte stands behind the end of the file.
+/// The number of the first variable, from 1, whose last byte stands behind the end of the file,
+/// `step` being the bytes of a record.
 #[tactic(auto, unfolding(crate::specs::Parts::past_end))]
-pub fn past_end(contents: &Contents, file_len: u64) -> Option<u32>
-    requires { IsSound contents.now }
+pub fn past_end(contents: &Contents, step: u64, file_len: u64) -> Option<u32>
+    requires sound { IsSound contents.now }
+    requires record { step ≡ record_size contents.now.dimensions contents.now.variables }
     ensures { result ≡ past_end contents.now file_len }
 {
     let variables = contents.variables.items();
-    let step = record_size(contents.dimensions.items(), variables);
     for (i, variable) in variables.iter().enumerate() {
         if is_past(contents, step, variable, file_len) {
             return Some(i as u32 + 1);

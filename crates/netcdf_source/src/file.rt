@@ -6,12 +6,11 @@ ghost use Rattle.das_text.specs.View.{attributes_view};
 ghost use Rattle.netcdf_source.specs.Attributes.{attributes_of};
 ghost use Rattle.netcdf_source.specs.Layouts.{layout_of, LeafIsPlaced, LeafIsShaped};
 ghost use Rattle.netcdf_source.specs.Mapping.{dataset_of, is_char, leaf_variable};
-ghost use Rattle.netcdf_source.specs.Parts.{past_end};
+ghost use Rattle.netcdf_source.specs.Parts.{past_end, record_size};
 ghost use Rattle.netcdf_source.specs.Sound.{IsSound};
 
 use crate::coordinates::coordinates;
 use crate::das::attributes_of;
-use crate::extents::record_size;
 use crate::header::Contents;
 use crate::layouts::layouts;
 use crate::leaves::{leaf_in, leaves};
@@ -57,14 +56,19 @@ impl Model for Header {
 }
 
 impl Header {
-    /// The header that says this, of a file of that length.
-    pub(crate) fn new(alloc: Global, contents: Contents, length: u64) -> Result<Header, Memory>
+    /// The header that says this, of a file of that length with so many bytes a record.
+    pub(crate) fn new(
+        alloc: Global,
+        contents: Contents,
+        step: u64,
+        length: u64,
+    ) -> Result<Header, Memory>
         requires sound { IsSound contents }
+        requires record { step ≡ record_size contents.dimensions contents.variables }
         requires within { past_end contents length ≡ None }
         ensures contents { IfOk result (λ h. h.contents ≡ contents) }
         ensures length { IfOk result (λ h. h.length ≡ length) }
     {
-        let step = record_size(contents.dimensions.items(), contents.variables.items());
         let coordinates = coordinates(alloc, &contents)?;
         let leaves = leaves(alloc, &contents, &coordinates)?;
         let layouts = layouts(alloc, &contents, step)?;

@@ -1,10 +1,10 @@
-use crate::ExternalType;
-use dap_types::{Bytes, List};
+use crate::{ExternalType, Shape};
+use dap_types::{Bytes, Id, List};
 
 /// A dimension (netCDF classic format, `dim`).
 #[derive(Debug, Drop)]
 pub struct Dimension {
-    pub name: Bytes,
+    pub name: Id,
     /// The number of indexes. 0 is that of the record dimension, which has as many as there are
     /// records.
     pub length: u32,
@@ -13,7 +13,7 @@ pub struct Dimension {
 /// An attribute of a variable or of the file (netCDF classic format, `attr`).
 #[derive(Debug, Drop)]
 pub struct Attribute {
-    pub name: Bytes,
+    pub name: Id,
     pub external_type: ExternalType,
     /// The bytes of its values, without padding.
     pub values: Bytes,
@@ -22,9 +22,9 @@ pub struct Attribute {
 /// A variable (netCDF classic format, `var`).
 #[derive(Debug, Drop)]
 pub struct Variable {
-    pub name: Bytes,
+    pub name: Id,
     /// The numbers of its dimensions, from 0, the slowest first.
-    pub dimensions: List<u32>,
+    pub dimensions: Shape,
     pub attributes: List<Attribute>,
     pub external_type: ExternalType,
     /// The place of its first byte in the file.

@@ -57,7 +57,7 @@ pub fn leaves(
     requires count { length contents.now.variables < 2 ^ 32 }
     ensures { IfOk result (λ ls. ls.items ≡ leaves_from contents.now 0 contents.now.variables) }
 {
-    let mut leaves = Vec::new(alloc);
+    let mut leaves = Vec::with_capacity(alloc, contents.variables.items().len())?;
     for (i, variable) in contents.variables.items().iter().enumerate() {
         if is_offered(contents, variable) {
             push_leaves(&mut leaves, contents, table, i as u32, variable)?;

@@ -20,6 +20,7 @@ mod names;
 mod parts;
 mod read;
 mod refusal;
+mod shape;
 mod stop;
 mod texts;
 mod variables;
@@ -31,6 +32,7 @@ pub use header::{Attribute, Dimension, Variable};
 pub use laws::{leaves_agree, values_are_placed, values_fit, zeros_are_cut};
 pub use read::read_header;
 pub use refusal::HeaderRefusal;
+pub use shape::Shape;
 
 #[cfg(test)]
 mod tests;

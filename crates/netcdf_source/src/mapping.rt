@@ -1,7 +1,8 @@
-ghost use Rattle.std.specs.Prelude.{◌≡◌, ℕ, ◌<◌, ◌^◌, Bool, List, map, filter, IfOk, IfSome, None, get_or, length};
+ghost use Rattle.std.specs.Prelude.{◌≡◌, ℕ, ◌<◌, ◌^◌, Bool, List, map, filter, IfOk, IfSome, None, Some, get_or, length};
 ghost use Rattle.std.specs.List.{list_all};
 ghost use Rattle.std.specs.Prelude.{is_some};
 ghost use Rattle.netcdf_source.specs.Coordinates.{AreCoordinates};
+ghost use Rattle.dap_types.specs.Names.{file_id};
 ghost use Rattle.dap_types.specs.View.{member_view, dataset_view};
 ghost use Rattle.netcdf_source.specs.Mapping.{size_at, dimension_ids, base_of, is_char, has_texts, element_dimensions, element_size, is_offered, own_dimension, coordinate_at, differ, is_grid, dim_of, column_of, array_of, coordinate_variable, maps_of, member_of, dataset_of};
 
@@ -79,16 +80,18 @@ fn column_of(alloc: Global, variable: &Variable) -> Result<Column, Memory>
     })
 }
 
-fn array_of(
+/// The array of a variable that has this name.
+fn array_named(
     alloc: Global,
     contents: &Contents,
     names: &[Id],
+    name: Id,
     variable: &Variable,
 ) -> Result<ArrayDecl, Memory>
-    requires { names.now ≡ dimension_ids contents.now }
+    requires names { names.now ≡ dimension_ids contents.now }
+    requires name { name ≡ file_id variable.now.name }
     ensures { IfOk result (λ a. a ≡ array_of contents.now variable.now) }
 {
-    let name = file_id(alloc, variable.name.bytes())?;
     let dims = dims_of(
         alloc,
         contents,
@@ -100,6 +103,36 @@ fn array_of(
         base: base_of(variable.external_type),
         dims,
     })
+}
+
+fn array_of(
+    alloc: Global,
+    contents: &Contents,
+    names: &[Id],
+    variable: &Variable,
+) -> Result<ArrayDecl, Memory>
+    requires { names.now ≡ dimension_ids contents.now }
+    ensures { IfOk result (λ a. a ≡ array_of contents.now variable.now) }
+{
+    let name = file_id(alloc, variable.name.bytes())?;
+    array_named(alloc, contents, names, name, variable)
+}
+
+/// The map for a dimension: its coordinate variable, which has the name of the dimension.
+#[tactic(auto, using(crate::proofs::MapNames::map_names))]
+fn map_of(
+    alloc: Global,
+    contents: &Contents,
+    names: &[Id],
+    id: u32,
+    variable: &Variable,
+) -> Result<ArrayDecl, Memory>
+    requires names { names.now ≡ dimension_ids contents.now }
+    requires coordinate { coordinate_variable contents.now id ≡ Some variable.now }
+    ensures { IfOk result (λ a. a ≡ array_of contents.now variable.now) }
+{
+    let name = dimension_id(alloc, names, id)?;
+    array_named(alloc, contents, names, name, variable)
 }
 
 /// Whether no dimension comes twice.
@@ -154,10 +187,10 @@ fn maps_of(
     requires names { names.now ≡ dimension_ids contents.now }
     ensures { IfOk result (λ maps. maps ≡ maps_of contents.now ids.now) }
 {
-    let mut maps = List::new(alloc);
+    let mut maps = List::with_capacity(alloc, ids.len())?;
     for id in ids {
         if let Some(variable) = coordinate_variable(contents, table, *id) {
-            maps.push(array_of(alloc, contents, names, variable)?)?;
+            maps.push(map_of(alloc, contents, names, *id, variable)?)?;
         }
     }
     Ok(maps)
@@ -184,7 +217,7 @@ fn member_of(
         return Ok(Decl::Array(array));
     }
     let maps = maps_of(alloc, contents, table, names, variable.dimensions.items())?;
-    let name = file_id(alloc, variable.name.bytes())?;
+    let name = Id::raw(alloc, array.name.bytes())?;
     Ok(Decl::Grid(name, array, maps))
 }
 

@@ -5,7 +5,7 @@ ghost use Rattle.netcdf_source.specs.Sound.{IsSound};
 
 use crate::attributes::attributes;
 use crate::dimensions::dimensions;
-use crate::extents::past_end;
+use crate::extents::{past_end, record_size};
 use crate::header::Contents;
 use crate::stop::{Failure, Stop};
 use crate::variables::variables;
@@ -97,10 +97,13 @@ fn judge(
     match fields(alloc, version, body) {
         Err(Stop::Memory) => Err(HeaderRefusal::Memory),
         Err(Stop::Failed(failure)) => Err(refusal(failure, whole, file_len)),
-        Ok((contents, _)) => match past_end(&contents, file_len) {
-            Some(var) => Err(HeaderRefusal::PastEnd { var }),
-            None => Ok(Header::new(alloc, contents, file_len)?),
-        },
+        Ok((contents, _)) => {
+            let step = record_size(contents.dimensions.items(), contents.variables.items());
+            match past_end(&contents, step, file_len) {
+                Some(var) => Err(HeaderRefusal::PastEnd { var }),
+                None => Ok(Header::new(alloc, contents, step, file_len)?),
+            }
+        }
     }
 }
 

@@ -9,7 +9,7 @@ use crate::names::Names;
 use crate::parts::grown;
 use crate::stop::Stop;
 use crate::words::{bad, begin, external_type, head, word};
-use crate::{Dimension, ExternalType, Variable};
+use crate::{Dimension, ExternalType, Shape, Variable};
 use dap_types::List;
 use std::alloc::Global;
 
@@ -52,10 +52,10 @@ fn dimension_items<'a>(
     dimensions: &[Dimension],
     rank: u32,
     bytes: &'a [u8],
-) -> Result<(List<u32>, &'a [u8]), Stop>
+) -> Result<(Shape, &'a [u8]), Stop>
     ensures { Gives (λ x. (x.0, x.1.now)) result (times (next_id dimensions.now) rank [] bytes.now) }
 {
-    let mut ids = List::with_capacity(alloc, rank as usize)?;
+    let mut ids = Shape::with_capacity(alloc, rank as usize)?;
     let mut rest = bytes;
     for _ in 0..rank {
         let (id, after) = dimension(dimensions, ids.items().is_empty(), rest)?;
@@ -71,7 +71,7 @@ fn ids<'a>(
     alloc: Global,
     dimensions: &[Dimension],
     bytes: &'a [u8],
-) -> Result<(List<u32>, &'a [u8]), Stop>
+) -> Result<(Shape, &'a [u8]), Stop>
     ensures { Gives (λ x. (x.0, x.1.now)) result (ids_at dimensions.now bytes.now) }
 {
     let (rank, rest) = rank(bytes)?;

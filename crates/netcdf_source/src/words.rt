@@ -5,7 +5,7 @@ ghost use Rattle.netcdf_source.specs.Reading.{Gives, word_at, long_at, run_at, j
 
 use crate::ExternalType;
 use crate::stop::{Failure, Stop};
-use dap_types::Bytes;
+use dap_types::Id;
 use std::alloc::Global;
 
 /// The largest signed 32-bit number.
@@ -125,12 +125,12 @@ pub fn name_length(bytes: &[u8]) -> Result<(u32, &[u8]), Stop>
 
 /// A name, which may repeat another one.
 #[tactic(auto, unfolding(crate::specs::Reading::name_at))]
-pub fn name(alloc: Global, bytes: &[u8]) -> Result<(Bytes, &[u8]), Stop>
+pub fn name(alloc: Global, bytes: &[u8]) -> Result<(Id, &[u8]), Stop>
     ensures { Gives (λ x. (x.0, x.1.now)) result (name_at bytes.now) }
 {
     let (length, rest) = name_length(bytes)?;
     let (name, rest) = run(u64::from(length), rest)?;
-    Ok((Bytes::new(alloc, name)?, rest))
+    Ok((Id::raw(alloc, name)?, rest))
 }
 
 /// A type.
