@@ -5,6 +5,7 @@ pub mod Filter
 pub mod Fits
 pub mod Grammar
 pub mod Plain
+pub mod Raw
 pub mod Received
 pub mod Rows
 pub mod Shown

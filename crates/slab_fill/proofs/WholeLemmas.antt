@@ -8,12 +8,13 @@ use Rattle.std.proofs.lemmas.List.Folds.{flat_map-map}
 use Prim.Native.Nat.{zero, suc}
 use Rattle.dap_types.specs.declared.declarations.BaseType.{BaseType}
 use Rattle.dap_types.specs.declared.declarations.BaseType.TheVariants.{Byte, Int16, UInt16, Int32, UInt32, Float32, Float64, Text, Url}
+use Rattle.dap_model.specs.Raw.{value_of}
 use Rattle.dap_model.specs.Xdr.{bytes_of, field_bytes}
 use Rattle.hyperslab_plan.specs.Numbers.{is_number, width_of}
 use Rattle.hyperslab_plan.specs.Plans.{place_in}
 use Rattle.hyperslab_plan.specs.declared.batch.Batch.{Batch}
 use Rattle.hyperslab_plan.specs.declared.plan.Plan.{Plan}
-use Rattle.slab_fill.specs.Elements.{value_of, element_fields, form_of, values_of, xdr_of, batch_byte}
+use Rattle.slab_fill.specs.Elements.{element_fields, form_of, values_of, xdr_of, batch_byte}
 use Rattle.slab_fill.proofs.ChunkLemmas.{width_some}
 
 -- a number's form has its width

@@ -1,30 +1,16 @@
 -- The elements of a batch out of its raw bytes, and their XDR forms.
-use Rattle.std.specs.Prelude.{ℕ, ◌/◌, ◌%◌, List, [], ◌∷◌, map, take, drop, pos, slice_index}
-use Rattle.std.specs.Int.{from_be_bytes, cast_signed, w8, w16, w32, w64}
+use Rattle.std.specs.Prelude.{ℕ, ◌/◌, ◌%◌, List, [], ◌∷◌, map, take, drop, slice_index}
 use Rattle.std.specs.List.{flat_map, range_with_len}
 use Rattle.dap_types.specs.declared.declarations.BaseType.{BaseType}
-use Rattle.dap_types.specs.declared.declarations.BaseType.TheVariants.{Byte, Int16, UInt16, Int32, UInt32, Float32, Float64, Text, Url}
+use Rattle.dap_types.specs.declared.declarations.BaseType.TheVariants.{Byte}
 use Rattle.dap_types.specs.declared.values.Value.{Value}
-use Rattle.dap_types.specs.declared.values.Value.TheVariants as values
+use Rattle.dap_model.specs.Raw.{value_of}
 use Rattle.dap_model.specs.Xdr.{Field, packed, value_fields, bytes_of}
 use Rattle.hyperslab_plan.specs.Numbers.{number_size, width_of}
 use Rattle.hyperslab_plan.specs.Plans.{base_in, size_in, width_in, place_in}
 use Rattle.hyperslab_plan.specs.declared.batch.Batch.{Batch}
 use Rattle.hyperslab_plan.specs.declared.plan.Plan.{Plan}
 use Rattle.slab_fill.specs.Spots.{spot}
-
--- the value of a type that stands in some bytes of a file: the high byte first, signed numbers in
--- two's complement, floats as their bits (netCDF classic format, external types)
-abbrev pub value_of : BaseType → List ℕ → Value
-value_of Byte bytes = values.Whole (pos (from_be_bytes w8 bytes))
-value_of Int16 bytes = values.Whole (cast_signed w16 (from_be_bytes w16 bytes))
-value_of UInt16 bytes = values.Whole (pos (from_be_bytes w16 bytes))
-value_of Int32 bytes = values.Whole (cast_signed w32 (from_be_bytes w32 bytes))
-value_of UInt32 bytes = values.Whole (pos (from_be_bytes w32 bytes))
-value_of Float32 bytes = values.Bits32 (from_be_bytes w32 bytes)
-value_of Float64 bytes = values.Bits64 (from_be_bytes w64 bytes)
-value_of Text bytes = values.Text bytes
-value_of Url bytes = values.Text bytes
 
 -- an element of an array: a Byte is packed, another value is as it is outside of arrays (DAP 2.0, arrays)
 abbrev pub element_fields : BaseType → Value → List Field
