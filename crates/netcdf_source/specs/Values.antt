@@ -1,18 +1,18 @@
 -- The values of a netCDF classic file (netCDF classic format, external types; DAP 2.0, base types and
 -- constructor types): what the bytes of an element stand for, the values of a variable, and those of
 -- the file's dataset.
-use Rattle.std.specs.Prelude.{ℕ, ◌&&◌, List, [], ◌∷◌, length, map, filter, filter_map, ◌==◌, if◌then◌else◌, pos}
-use Rattle.std.specs.Int.{from_be_bytes, cast_signed, w8, w16, w32, w64}
+use Rattle.std.specs.Prelude.{ℕ, ◌&&◌, List, [], ◌∷◌, length, map, filter, filter_map, ◌==◌, if◌then◌else◌}
 use Rattle.std.specs.List.{range_with_len}
 use Rattle.dap_types.specs.Model.{Tree, many, trees_of}
 use Rattle.dap_types.specs.declared.slabs.Layout.{Layout}
 use Rattle.dap_types.specs.declared.values.Value.{Value}
-use Rattle.dap_types.specs.declared.values.Value.TheVariants.{Whole, Text, Bits32, Bits64}
+use Rattle.dap_types.specs.declared.values.Value.TheVariants.{Text}
 use Rattle.dap_model.specs.Cutting.{Nested, array_tree}
+use Rattle.dap_model.specs.Raw as raw
 use Rattle.netcdf_source.specs.Layouts.{slice, element_sizes, element_at, place}
-use Rattle.netcdf_source.specs.Mapping.{is_offered, is_grid, coordinate_variable}
+use Rattle.netcdf_source.specs.Mapping.{base_of, is_offered, is_grid, coordinate_variable}
 use Rattle.netcdf_source.specs.declared.external_type.ExternalType.{ExternalType}
-use Rattle.netcdf_source.specs.declared.external_type.ExternalType.TheVariants.{Byte, Char, Short, Int, Float, Double}
+use Rattle.netcdf_source.specs.declared.external_type.ExternalType.TheVariants.{Char}
 use Rattle.netcdf_source.specs.declared.header.Contents.{Contents}
 use Rattle.netcdf_source.specs.declared.header.Variable.{Variable}
 
@@ -21,15 +21,10 @@ abbrev pub without_zeros : List ℕ → List ℕ
 without_zeros [] = []
 without_zeros (b ∷ bytes) = if b == 0 && length (without_zeros bytes) == 0 then [] else b ∷ without_zeros bytes
 
--- the value of a type that stands in some bytes: the high byte first, a byte without a sign, other
--- whole numbers in two's complement, floats as their bits
+-- the value of an external type that stands in some bytes
 abbrev pub value_of : ExternalType → List ℕ → Value
-value_of Byte bytes = Whole (pos (from_be_bytes w8 bytes))
 value_of Char bytes = Text (without_zeros bytes)
-value_of Short bytes = Whole (cast_signed w16 (from_be_bytes w16 bytes))
-value_of Int bytes = Whole (cast_signed w32 (from_be_bytes w32 bytes))
-value_of Float bytes = Bits32 (from_be_bytes w32 bytes)
-value_of Double bytes = Bits64 (from_be_bytes w64 bytes)
+value_of t bytes = raw.value_of (base_of t) bytes
 
 -- what stands at each index of an array of these sizes
 unfoldable pub by_index : (X : Type 0) (sizes : List ℕ) → (List ℕ → X) → Nested X (length sizes)
