@@ -1,3 +1,4 @@
+mod members;
 mod printing;
 mod reading;
 mod refusing;
