@@ -1,6 +1,6 @@
 -- Tokens as bytes: with which byte each begins, and how a spaced text splits into its first token and the rest.
 use Rattle.viable.proofs.Tests.{and_parts, or_parts}
-use Rattle.std.proofs.Common.{◌≡◌, List, [], ◌∷◌, ◌++◌, ℕ, ◌+◌, ◌<◌, refl, ap, subst, ◌∙◌, Bool, true, false, ◌==◌, IsTrue, arith, inl, inr}
+use Rattle.std.proofs.Common.{◌≡◌, List, [], ◌∷◌, ◌++◌, ℕ, ◌<◌, refl, ap, subst, ◌∙◌, Bool, true, false, ◌==◌, IsTrue, arith, inl, inr}
 use Rattle.std.specs.List.{list_all}
 use Rattle.std.proofs.lemmas.Bool.{eqb-true, eq-eqb, ne_eqb, ltb-true}
 use Rattle.std.proofs.lemmas.Bool.Decides.{nat_tests}

@@ -2,7 +2,6 @@
 use Rattle.viable.proofs.Runs.{run_valid}
 use Rattle.std.proofs.Common.{◌≡◌, List, [], ◌∷◌, ℕ, ◌+◌, ◌<◌, length, drop, get_or, refl, sym, ap, subst, ◌∙◌, Some, None, Bool, true, false, not, ◌==◌, IsTrue, inl, inr, drop-cons, add-one}
 use Rattle.std.proofs.lemmas.Bool.{cases_lt, not-true, eqb-true}
-use Rattle.viable.proofs.Standing.{moves}
 use Rattle.constraint_parse.specs.Language.{is_digit, is_name_byte, Operator, equal, not_equal, less, less_equal, greater, greater_equal, matches, Token, name, number, argument, operator, comma, ampersand, dot, colon, open_bracket, close_bracket, open_brace, close_brace, ItemTree, path, call, StepTree, SlabTree, index, range, strided, ItemsTree, ClauseTree, ValueTree, among}
 use Rattle.viable.specs.Runs.{ends_with, IsRunTo}
 use Rattle.constraint_parse.specs.Machine.{State, Naming, Stepped, Opened, SecondOpened, ThirdOpened, Numbered, SecondNumbered, ThirdNumbered, Called, ClauseNaming, ClauseNamed, Compared, Bracing, Braced, Clausal, step, finish, step_of, with_last}

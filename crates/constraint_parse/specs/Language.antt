@@ -12,7 +12,7 @@
 --   value      = quoted | word
 use Rattle.viable.specs.Quoted.{Piece, is_piece, spelling}
 use Rattle.viable.specs.Runs.{is_run}
-use Rattle.std.specs.Prelude.{◌≡◌, ℕ, ◌<◌, Bool, true, ◌&&◌, ◌||◌, not, List, [], ◌∷◌, ◌++◌, ◌==◌, nat_lt, nat_le, IsTrue, codes}
+use Rattle.std.specs.Prelude.{◌≡◌, ℕ, Bool, true, ◌&&◌, ◌||◌, not, List, [], ◌∷◌, ◌++◌, ◌==◌, nat_lt, nat_le, IsTrue, codes}
 use Rattle.std.specs.List.{flat_map, list_all, list_any}
 
 -- a tab or a space

@@ -2,7 +2,7 @@
 use Rattle.std.specs.Prelude.{◌≡◌, ◌≢◌, ℕ, not, List, [], ◌<◌, ◌≤◌, length, IsTrue, Some, slice_index, ⊤}
 use Rattle.viable.specs.Standing.{Stands}
 use Rattle.viable.specs.Prefix.{is_byte, IsFault}
-use Rattle.constraint_parse.specs.Language.{is_blank, Token, name, number, ConstraintTree, IsSpaced, IsTextOf, SlabTree, StepTree, ItemTree, path, call}
+use Rattle.constraint_parse.specs.Language.{is_blank, Token, ConstraintTree, IsSpaced, IsTextOf, SlabTree, StepTree, ItemTree, path, call}
 use Rattle.constraint_parse.specs.Machine.{State, Naming, Stepped, Opened, SecondOpened, ThirdOpened, Called, ClauseNaming, ClauseNamed, Compared, Bracing, step, read}
 
 -- what may follow in a state

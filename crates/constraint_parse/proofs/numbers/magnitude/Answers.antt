@@ -1,4 +1,4 @@
-use Rattle.std.proofs.Common.{◌≡◌, ◌^◌, ◌-◌}
+use Rattle.std.proofs.Common.{◌≡◌, ◌^◌}
 use Rattle.constraint_parse.specs.Values.{decimal}
 use Rattle.constraint_parse.proofs.Decimals.{decimal_exceeds, decimal_ends}
 use Rattle.constraint_parse.proofs.numbers.magnitude.Goals as goal
