@@ -1,5 +1,5 @@
 -- A printed Error object is read back.
-use Rattle.std.proofs.Common.{◌≡◌, List, [], ◌∷◌, ◌++◌, ℕ, ◌+◌, ◌<◌, ◌≤◌, ◌^◌, length, map, refl, sym, ap, subst, ◌∙◌, append_assoc, Bool, true, false, ◌||◌, ◌==◌, nat_le, IsTrue, arith, inr, pos}
+use Rattle.std.proofs.Common.{◌≡◌, List, [], ◌∷◌, ◌++◌, ℕ, ◌<◌, ◌≤◌, ◌^◌, length, map, refl, sym, ap, subst, ◌∙◌, append_assoc, Bool, true, false, ◌||◌, ◌==◌, nat_le, IsTrue, arith, inr, pos}
 use Rattle.std.specs.Prelude.{codes}
 use Rattle.std.specs.Char.{is_ascii_digit}
 use Rattle.std.specs.Fmt.{decimal}

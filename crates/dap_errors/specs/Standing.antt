@@ -1,5 +1,5 @@
 -- Where a reader of an Error object stands, for the contracts of its parts.
-use Rattle.std.specs.Prelude.{◌≡◌, ℕ, ℤ, Bool, false, not, List, [], ◌∷◌, drop, IsTrue, Option, Some, None, if◌then◌else◌}
+use Rattle.std.specs.Prelude.{◌≡◌, ℕ, ℤ, Bool, false, List, [], ◌∷◌, drop, IsTrue, Option, Some, None, if◌then◌else◌}
 use Rattle.std.specs.Str.{str_eq_ignore_ascii_case}
 use Rattle.viable.specs.Quoted.{Piece, quoted_value}
 use Rattle.text_tokens.specs.Tokens.{Token, sign, word, quoted, Placed, Next, NoToken, Reads}
