@@ -1,5 +1,6 @@
 pub mod NestedLemmas
 pub mod CutLemmas
+pub mod BlockLemmas
 pub mod PickedLemmas
 pub mod RowLemmas
 pub mod ShapeLemmas

@@ -1,7 +1,7 @@
 -- The p-th picked place, by the indexes of p.
-use Rattle.std.proofs.Common.{◌≡◌, ℕ, ◌+◌, ◌-◌, ◌*◌, ◌/◌, ◌%◌, ◌<◌, ◌≤◌, List, [], ◌∷◌, ◌++◌, length, get_or, refl, sym, ap, ◌∙◌, subst, arith, add-zero, zero-add, drop, ◌^◌}
+use Rattle.std.proofs.Common.{◌≡◌, ℕ, ◌+◌, ◌-◌, ◌*◌, ◌/◌, ◌%◌, ◌<◌, ◌≤◌, List, [], ◌∷◌, length, get_or, refl, sym, ap, ◌∙◌, subst, arith, zero-add, drop, ◌^◌}
 use Rattle.std.proofs.Math.Nat.{mod-lt, mod-eq_of_lt, div_self, div-eq_of_lt, div-lt_iff_lt-mul, div-add-mod', mul-le-mul_right, one-mul, zero-mul}
-use Rattle.std.proofs.lemmas.List.{length-append, get_or_append_left, get_or-append_right, drop_more}
+use Rattle.std.proofs.lemmas.List.{drop_more}
 use Rattle.std.proofs.lemmas.List.Elements.{All-get_or, All-from_get_or}
 use Rattle.std.proofs.lemmas.List.Folds.{flat_map-map}
 use Rattle.std.proofs.lemmas.List.FromFn.{get_or-map-range_with_len, length-map-range_with_len}
@@ -11,28 +11,8 @@ use Rattle.dap_types.specs.declared.slabs.Slab.{Slab}
 use Rattle.hyperslab_plan.specs.Along.{starts, rel, Spaced}
 use Rattle.hyperslab_plan.specs.Nested.{AreWithin}
 use Rattle.hyperslab_plan.specs.Picked.{picked, count_of, reach, highest, cost_of}
+use Rattle.hyperslab_plan.proofs.BlockLemmas.{length-blocks, get_or-blocks}
 use Prim.Native.Nat.{zero, suc}
-
--- blocks of one length, one after the other
-length-blocks : (f : ℕ → List ℕ) (m a c : ℕ) → ((k : ℕ) → length (f k) ≡ m) → length (flat_map f (range_with_len a c)) ≡ c * m
-length-blocks f m a zero h = omega arith
-length-blocks f m a (suc c) h =
-    length-append (f a) (flat_map f (range_with_len (a + 1) c)) ∙ ap (λ x. x + length (flat_map f (range_with_len (a + 1) c))) (h a) ∙ ap (λ x. m + x) (length-blocks f m (a + 1) c h) ∙ omega arith
-
-get_or-blocks : (f : ℕ → List ℕ) (m a c k r : ℕ) → ((k : ℕ) → length (f k) ≡ m) → k < c → r < m → get_or (flat_map f (range_with_len a c)) (k * m + r) 0 ≡ get_or (f (a + k)) r 0
-get_or-blocks f m a zero k r h lt below = absurd (omega arith)
-get_or-blocks f m a (suc c) zero r h lt below =
-    let z : 0 * m + r ≡ r = omega arith in
-    let len : r < length (f a) = subst (λ x. r < x) (sym (h a)) below in
-    ap (λ x. get_or (f a ++ flat_map f (range_with_len (a + 1) c)) x 0) z ∙ get_or_append_left (f a) (flat_map f (range_with_len (a + 1) c)) 0 r len ∙ ap (λ x. get_or (f x) r 0) (sym (add-zero a))
-get_or-blocks f m a (suc c) (suc k) r h lt below =
-    let far : m ≤ suc k * m + r = omega arith in
-    let less : suc k * m + r - m ≡ k * m + r = omega arith in
-    let next : a + 1 + k ≡ a + suc k = omega arith in
-    get_or-append_right (f a) (flat_map f (range_with_len (a + 1) c)) m (suc k * m + r) 0 (h a) far
-    ∙ ap (λ x. get_or (flat_map f (range_with_len (a + 1) c)) x 0) less
-    ∙ get_or-blocks f m (a + 1) c k r h (omega arith) below
-    ∙ ap (λ x. get_or (f x) r 0) next
 
 -- the places by the number of the first index
 picked-blocks : (s : Slab) (ss : List Slab) (t : ℕ) (ts : List ℕ) (base : ℕ) → flat_map (λ i. picked ss ts (base + i * t)) (indexes s) ≡ flat_map (λ k. picked ss ts (base + (s.start + k * s.stride) * t)) (range_with_len 0 s.count)
@@ -60,7 +40,7 @@ get_or-picked (s ∷ ss) (t ∷ ts) base p e h =
     let k_lt : p / count_of ss < s.count = (div-lt_iff_lt-mul pos).1 h in
     let blocks : get_or (flat_map (λ k. picked ss ts (base + (s.start + k * s.stride) * t)) (range_with_len 0 s.count)) (p / count_of ss * count_of ss + p % count_of ss) 0
     ≡ get_or (picked ss ts (base + (s.start + (0 + p / count_of ss) * s.stride) * t)) (p % count_of ss) 0
-    = get_or-blocks (λ k. picked ss ts (base + (s.start + k * s.stride) * t)) (count_of ss) 0 s.count (p / count_of ss) (p % count_of ss)
+    = get_or-blocks (λ k. picked ss ts (base + (s.start + k * s.stride) * t)) (count_of ss) 0 s.count (p / count_of ss) (p % count_of ss) 0
     (λ k. length-picked ss ts (base + (s.start + k * s.stride) * t) (omega arith)) k_lt r_lt in
     ap (λ xs. get_or xs p 0) (picked-blocks s ss t ts base)
     ∙ ap (λ x. get_or (flat_map (λ k. picked ss ts (base + (s.start + k * s.stride) * t)) (range_with_len 0 s.count)) x 0) (sym whole)

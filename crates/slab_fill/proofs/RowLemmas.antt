@@ -1,7 +1,7 @@
 -- The bytes that are written for equally spaced elements, by the bytes of each.
 use Rattle.std.proofs.Common.{◌≡◌, ℕ, ◌+◌, ◌/◌, ◌%◌, ◌<◌, ◌≤◌, List, [], ◌∷◌, length, get_or, slice_index, take, drop, refl, sym, ap, ◌∙◌, subst, arith}
 use Rattle.std.proofs.Math.Nat.{mod-one, div-one}
-use Rattle.std.proofs.lemmas.List.{get_or-take, get_or-drop}
+use Rattle.std.proofs.lemmas.List.{get_or-take, get_or-drop, length-take-le}
 use Prim.Native.Nat.{zero, suc}
 use Rattle.dap_types.specs.declared.declarations.BaseType.{BaseType}
 use Rattle.dap_types.specs.declared.declarations.BaseType.TheVariants.{Byte, Int16, UInt16, Int32, UInt32, Float32, Float64}
@@ -18,14 +18,9 @@ are-take (suc n) [] are i = omega arith
 are-take (suc n) (x ∷ xs) are zero = are 0
 are-take (suc n) (x ∷ xs) are (suc i) = are-take n xs (λ j. are (suc j)) i
 
-pub long-take : (n : ℕ) (xs : List ℕ) → n ≤ length xs → length (take n xs) ≡ n
-long-take zero xs le = refl
-long-take (suc n) [] le = absurd (omega arith)
-long-take (suc n) (x ∷ xs) le = ap suc (long-take n xs (omega arith))
-
 long-at : (n p : ℕ) (raw : List ℕ) → p + n ≤ length raw → length (take n (drop p raw)) ≡ n
-long-at n zero raw fit = long-take n raw (omega arith)
-long-at n (suc p) [] fit = long-take n [] (omega arith)
+long-at n zero raw fit = length-take-le n raw (omega arith)
+long-at n (suc p) [] fit = length-take-le n [] (omega arith)
 long-at n (suc p) (x ∷ raw) fit = long-at n p raw (omega arith)
 
 one-at : (p : ℕ) (raw : List ℕ) → p + 1 ≤ length raw → take 1 (drop p raw) ≡ get_or raw p 0 ∷ []

@@ -1,11 +1,10 @@
 -- The output as a whole is the XDR forms of the batch's elements, one after the other.
-use Rattle.std.proofs.Common.{◌≡◌, ℕ, ◌+◌, ◌-◌, ◌*◌, ◌/◌, ◌%◌, ◌<◌, ◌≤◌, List, [], ◌∷◌, ◌++◌, length, get_or, map, take, drop, refl, sym, ap, ◌∙◌, subst, arith, length-append, IsTrue}
+use Rattle.std.proofs.Common.{◌≡◌, ℕ, ◌+◌, ◌*◌, ◌/◌, ◌%◌, ◌<◌, List, [], ◌∷◌, ◌++◌, length, get_or, map, take, drop, refl, sym, ap, ◌∙◌, arith, IsTrue}
 use Rattle.std.specs.List.{flat_map, range_with_len}
 use Rattle.std.proofs.Math.Nat.{mod-lt, div-lt_iff_lt-mul, div-add-mod'}
 use Rattle.std.proofs.lemmas.Grind.{flat_map-append}
-use Rattle.std.proofs.lemmas.List.{ext_get_or, get_or_append_left, get_or-append_right}
+use Rattle.std.proofs.lemmas.List.{ext_get_or}
 use Rattle.std.proofs.lemmas.List.Folds.{flat_map-map}
-use Prim.Native.Nat.{zero, suc}
 use Rattle.dap_types.specs.declared.declarations.BaseType.{BaseType}
 use Rattle.dap_types.specs.declared.declarations.BaseType.TheVariants.{Byte, Int16, UInt16, Int32, UInt32, Float32, Float64, Text, Url}
 use Rattle.dap_model.specs.Raw.{value_of}
@@ -14,6 +13,7 @@ use Rattle.hyperslab_plan.specs.Numbers.{is_number, width_of}
 use Rattle.hyperslab_plan.specs.Plans.{place_in}
 use Rattle.hyperslab_plan.specs.declared.batch.Batch.{Batch}
 use Rattle.hyperslab_plan.specs.declared.plan.Plan.{Plan}
+use Rattle.hyperslab_plan.proofs.BlockLemmas.{length-blocks, get_or-blocks}
 use Rattle.slab_fill.specs.Elements.{element_fields, form_of, values_of, xdr_of, batch_byte}
 use Rattle.slab_fill.proofs.ChunkLemmas.{width_some}
 
@@ -30,28 +30,6 @@ long-form Float64 bytes number = refl
 long-form Text bytes number = absurd cc
 long-form Url bytes number = absurd cc
 
--- blocks of one length, one after the other
-length-blocks : (f : ℕ → List ℕ) (m a c : ℕ) → ((k : ℕ) → length (f k) ≡ m) → length (flat_map f (range_with_len a c)) ≡ c * m
-length-blocks f m a zero h = omega arith
-length-blocks f m a (suc c) h =
-    length-append (f a) (flat_map f (range_with_len (a + 1) c)) ∙ ap (λ x. x + length (flat_map f (range_with_len (a + 1) c))) (h a) ∙ ap (λ x. m + x) (length-blocks f m (a + 1) c h) ∙ omega arith
-
-get_or-blocks : (f : ℕ → List ℕ) (m a c k r : ℕ) → ((k : ℕ) → length (f k) ≡ m) → k < c → r < m → get_or (flat_map f (range_with_len a c)) (k * m + r) 0 ≡ get_or (f (a + k)) r 0
-get_or-blocks f m a zero k r h lt below = absurd (omega arith)
-get_or-blocks f m a (suc c) zero r h lt below =
-    let z : 0 * m + r ≡ r = omega arith in
-    let len : r < length (f a) = subst (λ x. r < x) (sym (h a)) below in
-    let same : a ≡ a + 0 = omega arith in
-    ap (λ x. get_or (f a ++ flat_map f (range_with_len (a + 1) c)) x 0) z ∙ get_or_append_left (f a) (flat_map f (range_with_len (a + 1) c)) 0 r len ∙ ap (λ x. get_or (f x) r 0) same
-get_or-blocks f m a (suc c) (suc k) r h lt below =
-    let far : m ≤ suc k * m + r = omega arith in
-    let less : suc k * m + r - m ≡ k * m + r = omega arith in
-    let next : a + 1 + k ≡ a + suc k = omega arith in
-    get_or-append_right (f a) (flat_map f (range_with_len (a + 1) c)) m (suc k * m + r) 0 (h a) far
-    ∙ ap (λ x. get_or (flat_map f (range_with_len (a + 1) c)) x 0) less
-    ∙ get_or-blocks f m (a + 1) c k r h (omega arith) below
-    ∙ ap (λ x. get_or (f x) r 0) next
-
 -- a list that agrees with blocks of one length, byte by byte
 pub in_blocks : (f : ℕ → List ℕ) (m c : ℕ) (xs : List ℕ) → 0 < m → ((k : ℕ) → length (f k) ≡ m) → length xs ≡ c * m → ((i : ℕ) → i < length xs → get_or xs i 0 ≡ get_or (f (i / m)) (i % m) 0) → xs ≡ flat_map f (range_with_len 0 c)
 in_blocks f m c xs some h long each =
@@ -59,7 +37,7 @@ in_blocks f m c xs some h long each =
     (λ i lt.
     let whole : i / m * m + i % m ≡ i = div-add-mod' i m in
     let block : i / m < c = (div-lt_iff_lt-mul some).1 (omega arith) in
-    each i lt ∙ ap (λ x. get_or (f x) (i % m) 0) (zero-first (i / m)) ∙ sym (get_or-blocks f m 0 c (i / m) (i % m) h block (mod-lt i some)) ∙ ap (λ x. get_or (flat_map f (range_with_len 0 c)) x 0) whole)
+    each i lt ∙ ap (λ x. get_or (f x) (i % m) 0) (zero-first (i / m)) ∙ sym (get_or-blocks f m 0 c (i / m) (i % m) 0 h block (mod-lt i some)) ∙ ap (λ x. get_or (flat_map f (range_with_len 0 c)) x 0) whole)
   where
     zero-first : (x : ℕ) → x ≡ 0 + x
     zero-first x = omega arith
