@@ -3,6 +3,7 @@
 use Rattle.std.specs.Prelude.{ℕ, ◌≡◌, Bool, true, false, IsTrue}
 use Rattle.dap_types.specs.declared.declarations.BaseType.{BaseType}
 use Rattle.dap_types.specs.declared.declarations.BaseType.TheVariants.{Byte, Int16, UInt16, Float64, Text, Url}
+use Rattle.dap_model.specs.Laws.{element_width}
 
 abbrev pub is_number : BaseType → Bool
 is_number Text = false
@@ -23,8 +24,6 @@ HasSize base size = IsTrue (is_number base) → size ≡ number_size base
 
 -- the bytes of an element's XDR form in an array of numbers; 1 for a text
 abbrev pub width_of : BaseType → ℕ
-width_of Byte = 1
 width_of Text = 1
 width_of Url = 1
-width_of Float64 = 8
-width_of base = 4
+width_of base = element_width base

@@ -54,7 +54,7 @@ impl Plan {
     ghost use Rattle.hyperslab_plan.specs.Nested.{AreWithin, cut_places, cut_values};
     ghost use Rattle.hyperslab_plan.specs.Picked.{picked, count_of, cost_of};
     ghost use Rattle.hyperslab_plan.specs.Numbers.{is_number, number_size};
-    ghost use Rattle.hyperslab_plan.specs.Plans.{places, place_of, total_of, base_in, size_in, per_row_in, jump_in, place_in, IsDense};
+    ghost use Rattle.hyperslab_plan.specs.Plans.{places, place_of, total_of, base_in, size_in, width_in, per_row_in, jump_in, place_in, IsDense};
     ghost use Rattle.hyperslab_plan.specs.Batches.{run_of, IsBatch, IsLargest, InTurn, read_in, read_by, spent, Bounded, Fills, BeginsAt, EndsAt, Fetched, Held};
 
     /// The plan for the elements that the hyperslabs, one for each dimension, pick out of an array
@@ -141,6 +141,26 @@ impl Plan {
         ensures size { IsTrue (is_number result) → size_in self.now ≡ number_size result }
     {
         self.base
+    }
+
+    /// The bytes of an element in the file, at most 65,536.
+    pub fn size(&self) -> u64
+        ensures size { result ≡ size_in self.now }
+        ensures number { IsTrue (is_number (base_in self.now)) → result ≡ number_size (base_in self.now) }
+        ensures some { 0 < result }
+        ensures few { result ≤ 65536 }
+    {
+        self.size
+    }
+
+    /// The bytes of an element's XDR form in an array (RFC 4506; DAP 2.0, arrays). It is 1 where
+    /// the elements are texts, whose forms have no one width.
+    pub fn width(&self) -> u64
+        ensures width { result ≡ width_in self.now }
+        ensures some { 0 < result }
+        ensures few { result ≤ 8 }
+    {
+        xdr_width(self.base)
     }
 
     /// Where the element of a position in row-major order stands in the file.

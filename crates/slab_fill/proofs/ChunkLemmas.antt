@@ -74,11 +74,9 @@ row-bytes plan base raw at step p m k same number lt placed =
     ap (λ x. row_byte x raw at step k) same ∙ row-batch plan raw at step p k number (placed (k / width_of plan.base) lt)
 
 -- elements that stand end to end
-pub dense-placed : (plan : Plan) (b : Batch) (base : BaseType) (first size m : ℕ) → base ≡ plan.base → IsTrue (is_number plan.base) → IsDense plan → IsBatch plan b → size ≡ number_size base → first + m ≤ b.count →
-    (i : ℕ) → i < m → spot (first * size) size i ≡ place_in plan (first + i)
-dense-placed plan b base first size m same number end_to_end is size_is inside i lt =
-    let own : plan.size ≡ size = plan.typed number ∙ sym (size_is ∙ ap number_size same) in
-    spot-dense (place_in plan) first size i (dense plan b (first + i) end_to_end is (omega arith) ∙ ap (λ x. (first + i) * x) own)
+pub dense-placed : (plan : Plan) (b : Batch) (first size m : ℕ) → size ≡ plan.size → IsDense plan → IsBatch plan b → first + m ≤ b.count → (i : ℕ) → i < m → spot (first * size) size i ≡ place_in plan (first + i)
+dense-placed plan b first size m own end_to_end is inside i lt =
+    spot-dense (place_in plan) first size i (dense plan b (first + i) end_to_end is (omega arith) ∙ ap (λ x. (first + i) * x) (sym own))
 
 pub spot-start : (at step : ℕ) → spot at step 0 ≡ at
 unfolding spot

@@ -2,43 +2,12 @@
 
 ghost use Rattle.std.specs.Prelude.{◌≡◌, ℕ, ◌+◌, ◌*◌, ◌/◌, ◌%◌, ◌<◌, ◌≤◌, length, slice_index, IsTrue};
 ghost use Rattle.hyperslab_plan.specs.Batches.{IsBatch};
-ghost use Rattle.hyperslab_plan.specs.Numbers.{is_number, number_size, width_of};
+ghost use Rattle.hyperslab_plan.specs.Numbers.{is_number};
 ghost use Rattle.hyperslab_plan.specs.Plans.{base_in, width_in, per_row_in, IsDense};
 ghost use Rattle.slab_fill.specs.Elements.{batch_byte};
 
 use crate::rows::write_row;
-use dap_types::BaseType;
 use hyperslab_plan::{Batch, Plan};
-
-/// The bytes of a number in a file (netCDF classic format, external types).
-fn size_of(base: BaseType) -> usize
-    ensures { result ≡ number_size base }
-{
-    match base {
-        BaseType::Byte => 1,
-        BaseType::Int16 | BaseType::UInt16 => 2,
-        BaseType::Float64 => 8,
-        BaseType::Int32 | BaseType::UInt32 | BaseType::Float32 | BaseType::Text | BaseType::Url =>
-            4,
-    }
-}
-
-/// The bytes of a number's XDR form in an array (RFC 4506; DAP 2.0, arrays).
-pub fn xdr_width(base: BaseType) -> usize
-    ensures width { result ≡ width_of base }
-    ensures some { 0 < result }
-    ensures few { result ≤ 8 }
-{
-    match base {
-        BaseType::Byte | BaseType::Text | BaseType::Url => 1,
-        BaseType::Float64 => 8,
-        BaseType::Int16
-        | BaseType::UInt16
-        | BaseType::Int32
-        | BaseType::UInt32
-        | BaseType::Float32 => 4,
-    }
-}
 
 /// Elements that stand end to end.
 fn write_dense(plan: &Plan, _batch: &Batch, raw: &[u8], first: usize, part: &mut [u8])
@@ -51,9 +20,8 @@ fn write_dense(plan: &Plan, _batch: &Batch, raw: &[u8], first: usize, part: &mut
     requires inside { first + length part.old / width_in plan.now ≤ _batch.now.count }
     ensures { (k : ℕ) → k < length part.old → slice_index part.new k ≡ batch_byte plan.now raw.now (first * width_in plan.now + k) }
 {
-    let base = plan.base();
-    let size = size_of(base);
-    write_row(base, raw, first * size, size, part)
+    let size = plan.size() as usize;
+    write_row(plan.base(), raw, first * size, size, part)
 }
 
 /// Elements of one row, of which the first is element `first` of the batch and stands in that row and
@@ -93,7 +61,7 @@ fn write_rows(plan: &Plan, batch: &Batch, raw: &[u8], first: usize, part: &mut [
     requires inside { first + length part.old / width_in plan.now ≤ batch.now.count }
     ensures { (k : ℕ) → k < length part.old → slice_index part.new k ≡ batch_byte plan.now raw.now (first * width_in plan.now + k) }
 {
-    let width = xdr_width(plan.base());
+    let width = plan.width() as usize;
     let per_row = plan.spacing().per_row as usize;
     let count = part.len() / width;
     let mut row = first / per_row;

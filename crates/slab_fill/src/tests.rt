@@ -3,7 +3,6 @@ ghost use Rattle.hyperslab_plan.specs.Numbers.{is_number, HasSize};
 ghost use Rattle.hyperslab_plan.specs.Picked.{count_of, highest};
 ghost use Rattle.hyperslab_plan.specs.Plans.{base_in};
 
-use crate::chunk::xdr_width;
 use crate::{Gate, NoGate, fill};
 use dap_types::{BaseType, Layout, List, Memory, Slab};
 use hyperslab_plan::Plan;
@@ -54,7 +53,7 @@ fn fill_first<R: Threads + Abort + Sync, G: Gate>(
     assert!(rt; plan.total() > 0);
     let batch = plan.batch(0);
     assert!(rt; raw.len() == batch.raw_len as usize);
-    assert!(rt; out.len() == batch.count as usize * xdr_width(plan.base()));
+    assert!(rt; out.len() == batch.count as usize * plan.width() as usize);
     assert!(rt; workers >= 1 && workers <= 64);
     fill(rt, plan, &batch, raw, out, workers, gate);
 }

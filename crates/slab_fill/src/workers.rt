@@ -5,7 +5,7 @@ ghost use Rattle.hyperslab_plan.specs.Plans.{base_in, width_in};
 ghost use Rattle.slab_fill.specs.Elements.{batch_byte, xdr_of};
 
 use crate::Gate;
-use crate::chunk::{write_chunk, xdr_width};
+use crate::chunk::write_chunk;
 use hyperslab_plan::{Batch, Plan};
 use std::thread;
 use std::thread::Threads;
@@ -32,7 +32,7 @@ fn work<G: Gate>(
     ensures { (k : ℕ) → k < length part.old → slice_index part.new k ≡ batch_byte plan.now raw.now (start + k) }
 {
     gate.enter((start / size) as u32);
-    write_chunk(plan, batch, raw, start / xdr_width(plan.base()), part);
+    write_chunk(plan, batch, raw, start / plan.width() as usize, part);
 }
 
 /// Lends each worker its part of the output.
@@ -53,7 +53,7 @@ fn fill_parts<R: Threads + Sync, G: Gate>(
     requires many { workers ≤ 64 }
     ensures { (i : ℕ) → i < length out.old → slice_index out.new i ≡ batch_byte plan.now raw.now i }
 {
-    let size = batch.count.div_ceil(workers) as usize * xdr_width(plan.base());
+    let size = batch.count.div_ceil(workers) as usize * plan.width() as usize;
     thread::for_each_chunk_mut(
         rt,
         out,
