@@ -10,32 +10,8 @@ use hyperslab_plan::{Batch, Plan};
 use std::thread;
 use std::thread::Threads;
 
-/// What one worker does: it passes the gate with its number, and fills its part of the output.
-fn work<G: Gate>(
-    plan: &Plan,
-    batch: &Batch,
-    raw: &[u8],
-    size: usize,
-    gate: &G,
-    start: usize,
-    part: &mut [u8],
-)
-    requires number { IsTrue (is_number (base_in plan.now)) }
-    requires batch { IsBatch plan.now batch.now }
-    requires raw_len { length raw.now ≡ batch.now.raw_len }
-    requires sized { 0 < size }
-    requires small { start < 2 ^ 32 }
-    requires starts { start % width_in plan.now ≡ 0 }
-    requires some { 0 < length part.old }
-    requires whole { length part.old % width_in plan.now ≡ 0 }
-    requires inside { start + length part.old ≤ batch.now.count * width_in plan.now }
-    ensures { (k : ℕ) → k < length part.old → slice_index part.new k ≡ batch_byte plan.now raw.now (start + k) }
-{
-    gate.enter((start / size) as u32);
-    write_chunk(plan, batch, raw, start / plan.width() as usize, part);
-}
-
-/// Lends each worker its part of the output.
+/// Lends each worker its part of the output, which it fills once it has passed the gate with its
+/// number.
 fn fill_parts<R: Threads + Sync, G: Gate>(
     rt: &R,
     plan: &Plan,
@@ -69,7 +45,10 @@ fn fill_parts<R: Threads + Sync, G: Gate>(
             requires whole { length part.old % width_in plan.now ≡ 0 }
             requires inside { start + length part.old ≤ batch.now.count * width_in plan.now }
             ensures { (k : ℕ) → k < length part.old → slice_index part.new k ≡ batch_byte plan.entry.now raw.entry.now (start + k) }
-        { work(plan, batch, raw, size, gate, start, part) },
+        {
+            gate.enter((start / size) as u32);
+            write_chunk(plan, batch, raw, start / plan.width() as usize, part);
+        },
     );
 }
 

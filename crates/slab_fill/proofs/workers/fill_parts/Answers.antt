@@ -1,4 +1,4 @@
-use Rattle.std.proofs.Common.{◌≡◌, ◌*◌, ◌%◌, ◌-◌, ◌<◌, min, length, arith, rules, subst, sym}
+use Rattle.std.proofs.Common.{◌≡◌, ◌*◌, ◌%◌, ◌-◌, ◌<◌, min, length, arith, subst, sym}
 use Rattle.std.proofs.Math.Nat.{mul-pos}
 use Rattle.hyperslab_plan.specs.Plans.{width_in}
 use Rattle.hyperslab_plan.proofs.BoundedLemmas.{is_bounded}
@@ -33,7 +33,7 @@ for_each_chunk_mut-requires-clause-accepts g c κs within = λ start p k.
                   k.nonempty,
                   (
                     whole_len c.div_ceil.result (width_in c.args.plan.now) (length c.args.out.now) start (length p.now) whole starts long,
-                    (omega (arith, k.in_bounds, c.requires.room), search rules),
+                    omega (arith, k.in_bounds, c.requires.room),
                   ),
                 ),
               ),
