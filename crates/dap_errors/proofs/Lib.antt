@@ -1,6 +1,5 @@
 pub mod Answers
 pub mod Complete
-pub mod Digits
 pub mod Ending
 pub mod Finding
 pub mod Labels

@@ -1,9 +1,6 @@
 -- Words by their names, and tokens by their bytes.
-use Rattle.std.proofs.Common.{◌≡◌, List, [], ◌∷◌, ◌++◌, ℕ, ◌+◌, ◌-◌, length, map, take, drop, refl, sym, ap, ◌∙◌, append_assoc, Some, None, Bool, true, false, IsTrue, arith, length-append}
-use Rattle.std.specs.Prelude.{codes, ◌↔◌}
-use Rattle.std.specs.Char.{to_ascii_lowercase}
-use Rattle.std.specs.Str.{str_eq_ignore_ascii_case}
-use Rattle.std.proofs.lemmas.Slice.Eq.{bytes_eq-Decides}
+use Rattle.std.proofs.Common.{◌≡◌, List, [], ◌∷◌, ◌++◌, ℕ, ◌+◌, ◌-◌, length, take, drop, refl, sym, ap, ◌∙◌, append_assoc, Some, None, true, false, arith, length-append}
+use Rattle.std.specs.Prelude.{codes}
 use Rattle.std.proofs.lemmas.List.{drop-drop}
 use Rattle.std.proofs.Math.Seq.{take-append_seam}
 use Rattle.viable.specs.Quoted.{Piece, spelling}
@@ -11,17 +8,6 @@ use Rattle.text_tokens.specs.Tokens.{Token, sign, word, quoted, TokenAt}
 use Rattle.dap_errors.specs.Object.{signs, is_error_word}
 use Rattle.dap_errors.specs.Machine.{Start, Named, step}
 use Rattle.dap_errors.specs.Standing.{has_name}
-
--- two tests of one fact
-same_test : (a b : Bool) → (IsTrue a → IsTrue b) → (IsTrue b → IsTrue a) → a ≡ b
-same_test true b f g = sym (f refl)
-same_test false false f g = refl
-same_test false true f g = g refl
-
-pub same_name : (result : Bool) (name bytes : List ℕ) → (IsTrue result ↔ (map to_ascii_lowercase name ≡ map to_ascii_lowercase bytes)) → result ≡ str_eq_ignore_ascii_case name bytes
-same_name result name bytes h =
-    let d = bytes_eq-Decides (map to_ascii_lowercase name) (map to_ascii_lowercase bytes) in
-    same_test result (str_eq_ignore_ascii_case name bytes) (λ y. d.1 (h.0 y)) (λ y. h.1 (d.0 y))
 
 -- the bytes of a word are a slice of the text
 pub word_slice : (text : List ℕ) (place behind : ℕ) (bytes : List ℕ) → TokenAt signs text place behind (word bytes) → take (behind - place) (drop place text) ≡ bytes

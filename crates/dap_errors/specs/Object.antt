@@ -5,13 +5,12 @@
 --
 -- There is one field `code`, a word of an optional minus and 1 to 9 digits, and one field `message`, a
 -- quoted text. The word `Error` and the names of the fields are read without regard to case.
-use Rattle.std.specs.Prelude.{◌≡◌, ℕ, ℤ, pos, neg_ℤ, Bool, false, ◌&&◌, List, [], ◌∷◌, ◌++◌, length, ◌==◌, nat_le, if◌then◌else◌, IsTrue, codes}
-use Rattle.std.specs.Char.{is_ascii_digit}
+use Rattle.std.specs.Prelude.{◌≡◌, ℕ, ℤ, pos, neg_ℤ, Bool, false, List, [], ◌∷◌, ◌++◌, ◌==◌, if◌then◌else◌, IsTrue, codes}
 use Rattle.std.specs.List.{flat_map}
 use Rattle.std.specs.Str.{str_eq_ignore_ascii_case}
 use Rattle.std.specs.Str.Parse.{digits_value}
 use Rattle.viable.specs.Quoted.{Piece, quoted_value}
-use Rattle.viable.specs.Runs.{is_run}
+use Rattle.viable.specs.Numerals.{is_numeral}
 use Rattle.text_tokens.specs.Tokens.{Token, sign, word, quoted}
 use Rattle.dap_errors.specs.declared.object.ErrorObject.{ErrorObject}
 
@@ -60,7 +59,7 @@ unsigned [] = []
 unsigned (b ∷ bytes) = if b == 45 then bytes else b ∷ bytes
 
 abbrev pub is_code_word : List ℕ → Bool
-is_code_word w = is_run is_ascii_digit (unsigned w) && nat_le (length (unsigned w)) 9
+is_code_word w = is_numeral 9 (unsigned w)
 
 abbrev pub code_value : List ℕ → ℤ
 code_value w = if has_minus w then neg_ℤ (pos (digits_value 10 (unsigned w))) else pos (digits_value 10 (unsigned w))

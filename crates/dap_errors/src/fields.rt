@@ -83,14 +83,14 @@ fn label_of(word: &[u8]) -> Label
     }
 }
 
-#[tactic(auto, unfolding(crate::specs::Object::is_code), using(crate::proofs::Names::same_name))]
+#[tactic(auto, unfolding(crate::specs::Object::is_code), using(viable::proofs::Words::same_name))]
 fn is_code_label(word: &[u8]) -> bool
     ensures { result ≡ is_code word.now }
 {
     b"code".eq_ignore_ascii_case(word)
 }
 
-#[tactic(auto, unfolding(crate::specs::Object::is_message), using(crate::proofs::Names::same_name))]
+#[tactic(auto, unfolding(crate::specs::Object::is_message), using(viable::proofs::Words::same_name))]
 fn is_message_label(word: &[u8]) -> bool
     ensures { result ≡ is_message word.now }
 {

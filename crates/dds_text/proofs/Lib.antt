@@ -6,9 +6,7 @@ pub mod Counted
 pub mod EveryReading
 pub mod LevelFacts
 pub mod Live
-pub mod Meanings
 pub mod Named
-pub mod Numerals
 pub mod OneReading
 pub mod OpenLevels
 pub mod Parsed

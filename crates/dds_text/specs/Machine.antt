@@ -1,11 +1,10 @@
 -- The grammar of a DDS as a machine over tokens. It takes no notice of the rules, and only says which
 -- tokens break one.
 use Rattle.std.specs.Prelude.{◌≡◌, ℕ, Bool, true, false, ◌&&◌, ◌+◌, List, [], ◌∷◌, length, nat_lt, nat_le, ◌==◌, Option, Some, None, option_map, if◌then◌else◌, find, codes}
-use Rattle.std.specs.Char.{is_ascii_digit}
-use Rattle.std.specs.List.{list_all}
 use Rattle.std.specs.Option.{option_or, option_map_or}
 use Rattle.std.specs.Str.{str_eq_ignore_ascii_case}
 use Rattle.std.specs.Str.Parse.{digits_value}
+use Rattle.viable.specs.Numerals.{is_numeral}
 use Rattle.dap_types.specs.Model.{members_of}
 use Rattle.dap_types.specs.declared.declarations.ArrayDecl.{ArrayDecl}
 use Rattle.dap_types.specs.declared.declarations.BaseType.{BaseType}
@@ -42,7 +41,7 @@ kind_of_word w = find (λ kind. str_eq_ignore_ascii_case (kind_word kind) w) (st
 
 -- 1 to 10 digits, with a value that is an Int32
 abbrev pub is_size_word : List ℕ → Bool
-is_size_word w = nat_le 1 (length w) && nat_le (length w) 10 && list_all is_ascii_digit w && nat_le (digits_value 10 w) 2147483647
+is_size_word w = is_numeral 10 w && nat_le (digits_value 10 w) 2147483647
 
 abbrev pub size_of_word : List ℕ → Option ℕ
 size_of_word w = if is_size_word w then Some (digits_value 10 w) else None

@@ -1,21 +1,22 @@
 //! What words of a DDS stand for (DAP 2.0, DDS). Keywords and the names of types may be in any case.
 
-ghost use Rattle.std.specs.Prelude.{◌≡◌, ◌<◌, ◌≤◌, ◌^◌, ◌&&◌, IsTrue, length, nat_le};
-ghost use Rattle.std.specs.Char.{is_ascii_digit};
-ghost use Rattle.std.specs.List.{list_all};
+ghost use Rattle.std.specs.Prelude.{◌≡◌};
 ghost use Rattle.std.specs.Str.{str_eq_ignore_ascii_case};
-ghost use Rattle.std.specs.Str.Parse.{digits_value};
 ghost use Rattle.dds_text.specs.Machine.{base_of_word, kind_of_word, size_of_word};
 ghost use Rattle.dds_text.specs.Held.{kind_seen};
 
 use crate::state::Kind;
 use dap_types::BaseType;
+use viable::number;
+
+/// The most digits of a size.
+const MOST_DIGITS: usize = 10;
 
 /// The largest size of a dimension.
 const LARGEST: u64 = 2_147_483_647;
 
 /// Whether the word is this keyword.
-#[tactic(auto, using(crate::proofs::Meanings::same_name))]
+#[tactic(auto, using(viable::proofs::Words::same_name))]
 pub fn is_keyword(keyword: &[u8], word: &[u8]) -> bool
     ensures { result ≡ str_eq_ignore_ascii_case keyword.now word.now }
 {
@@ -72,32 +73,11 @@ pub fn kind_of_word(word: &[u8]) -> Option<Kind>
     None
 }
 
-fn all_digits(word: &[u8]) -> bool
-    ensures { result ≡ list_all is_ascii_digit word.now }
-{
-    word.iter().all(|byte| byte.is_ascii_digit())
-}
-
-/// The number that at most 10 digits write.
-fn number(digits: &[u8]) -> u64
-    requires { IsTrue (list_all is_ascii_digit digits.now) × (length digits.now ≤ 10) }
-    ensures { (result ≡ digits_value 10 digits.now) × (result < 10 ^ 10) }
-{
-    let mut value: u64 = 0;
-    for digit in digits {
-        value = value * 10 + u64::from(*digit - b'0');
-    }
-    value
-}
-
 /// The size that the word writes: 1 to 10 digits, and no more than an Int32 holds.
 pub fn size_of_word(word: &[u8]) -> Option<u32>
     ensures { result ≡ size_of_word word.now }
 {
-    if word.is_empty() || word.len() > 10 || !all_digits(word) {
-        return None;
-    }
-    let size = number(word);
+    let size = number(word, MOST_DIGITS)?;
     if size > LARGEST {
         return None;
     }

@@ -1,4 +1,6 @@
+pub mod Digits
 pub mod Pieces
 pub mod Runs
 pub mod Standing
 pub mod Tests
+pub mod Words

@@ -1,5 +1,5 @@
--- Numbers of at most 9 digits.
-use Rattle.std.proofs.Common.{◌≡◌, List, [], ◌∷◌, ℕ, ◌+◌, ◌-◌, ◌*◌, ◌<◌, ◌≤◌, ◌^◌, length, take, get_or, refl, sym, ◌∙◌, Bool, true, false, IsTrue, arith, zero, suc}
+-- Numbers by their digits.
+use Rattle.std.proofs.Common.{◌≡◌, List, [], ◌∷◌, ℕ, ◌+◌, ◌-◌, ◌*◌, ◌<◌, ◌≤◌, ◌^◌, length, take, get_or, refl, sym, ◌∙◌, Bool, true, false, IsTrue, arith, nat_le, zero, suc}
 use Rattle.std.specs.Char.{is_ascii_digit, digit_value}
 use Rattle.std.specs.Int.{IsInRange}
 use Rattle.std.specs.List.{list_all}
@@ -10,6 +10,8 @@ use Rattle.std.proofs.lemmas.List.Folds.{list_all_at}
 use Rattle.std.proofs.lemmas.Str.{digit_value_digit}
 use Rattle.std.proofs.Math.Nat.{pow-le-pow_right}
 use Rattle.std.proofs.Common.{length-take}
+use Rattle.viable.specs.Numerals.{is_numeral}
+use Rattle.viable.proofs.Runs.{run_valid}
 use Rattle.viable.proofs.Tests.{and_parts}
 
 in_range : (c : ℕ) → IsTrue (is_ascii_digit c) → IsInRange 48 57 c
@@ -42,3 +44,11 @@ number_more ds i value all lt e =
     let v : digit_value (get_or ds i 0) + 48 ≡ get_or ds i 0 = digit_value_digit (get_or ds i 0) (in_range (get_or ds i 0) (digit_at ds i all lt)) in
     let m : digits_value 10 (take (i + 1) ds) ≡ digits_value 10 (take i ds) * 10 + digit_value (get_or ds i 0) = digits_value_more 10 ds i lt in
     omega (arith, v, m, e)
+
+pub numeral_digits : (most : ℕ) (w : List ℕ) → IsTrue (is_numeral most w) → IsTrue (list_all is_ascii_digit w)
+numeral_digits most w h = run_valid is_ascii_digit w (and_parts _ _ h).0
+
+pub numeral_short : (most : ℕ) (w : List ℕ) → IsTrue (is_numeral most w) → length w ≤ most
+numeral_short most w h = let short : IsTrue (nat_le (length w) most) = (and_parts _ _ h).1 in grind (arith, nat_tests)
+
+pub ruleset numerals = (numeral_digits, numeral_short)
