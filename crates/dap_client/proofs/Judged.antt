@@ -1,25 +1,22 @@
 -- The verdict on a body is that on as many of its bytes as are looked at.
-use Rattle.std.proofs.Common.{◌≡◌, ℕ, ◌+◌, ◌<◌, ◌≤◌, ◌⊎◌, inl, inr, List, [], ◌∷◌, ◌++◌, map, length, take, drop, take-append-drop, Option, Some, None, refl, sym, ap, ◌∙◌, subst, arith, append_assoc, append-nil, length-append, Result, Ok, Err}
+use Rattle.std.proofs.Common.{◌≡◌, ℕ, ◌<◌, ◌≤◌, ◌⊎◌, inl, inr, List, [], ◌++◌, map, length, take, drop, take-append-drop, Option, Some, None, refl, sym, ap, ◌∙◌, subst, arith, append_assoc, append-nil, length-append}
 use Rattle.std.proofs.lemmas.List.{take-append-le, take_at}
-use Rattle.std.specs.Io.KnownBytes.{Appends, Consumes, IsAtEnd}
+use Rattle.std.specs.Io.KnownBytes.{Appends}
 use Rattle.std.specs.Prelude.{IfSome}
 use Rattle.dap_types.specs.Model.{Dataset, Tree}
-use Rattle.dap_types.specs.Model as model
-use Rattle.dap_types.specs.View.{dataset_view, members_view, tree_view}
+use Rattle.dap_types.specs.View.{dataset_view, tree_view}
 use Rattle.dap_model.specs.Shown.{shown}
 use Rattle.dap_outside.specs.Streams.{AppendsFront}
-use Rattle.dap_model.specs.Plain.{IsPlainHead, plain_head}
 use Rattle.xdr_decode.proofs.Judged.{head-small}
-use Rattle.xdr_decode.specs.Verdict.{HasNoPlainHead, IsGood, IsRefusal, IsRefused, IsVerdict, IsWrongIn, Gives, Verdict, good, wrong, unbuilt, budget, good_of}
+use Rattle.xdr_decode.specs.Verdict.{HasNoPlainHead, IsGood, IsRefusal, IsRefused, IsVerdict, IsWrongIn, Verdict, good, wrong, unbuilt, budget, good_of}
 use Rattle.xdr_decode.specs.declared.bad.Bad.{Bad}
 use Rattle.xdr_decode.specs.declared.bad.Bad.TheVariants.{Cut}
 use Rattle.xdr_decode.specs.declared.filled.AllRefusal.{AllRefusal}
 use Rattle.xdr_decode.specs.declared.filled.AllRefusal.TheVariants as refusals
 use Rattle.xdr_decode.specs.declared.filled.Filled.{Filled}
 use Rattle.dap_client.specs.Gathered.{IsGathered}
-use Rattle.dap_client.specs.Lines.{IsTable}
 use Rattle.dap_client.specs.Showing.{IsNoReadFault, IsOutcomeOf, IsShowing}
-use Rattle.dap_client.specs.Shows.{Answers, IfNothingPut, IsFor, OnComplete, OnReadFault, OnWriteFault, Shows}
+use Rattle.dap_client.specs.Shows.{Answers, IfNothingPut, IsFor, Shows}
 use Rattle.dap_client.specs.declared.outcome.Outcome.{Outcome}
 use Rattle.dap_client.specs.declared.outcome.Outcome.TheVariants.{Complete, BadReply, Unbuilt, ReadFault, WriteFault, Memory}
 

@@ -1,7 +1,6 @@
 -- The one variable of a table.
-use Rattle.std.proofs.Common.{◌≡◌, ℕ, ◌<◌, List, [], ◌∷◌, ◌++◌, map, get_or, length, refl, sym, ap, ◌∙◌, subst, arith}
-use Rattle.std.specs.List.{flat_map}
-use Rattle.dap_types.proofs.Views.{kids-Many, view-Array, view-Base, view-Grid, view-One, view-Sequence, view-Structure}
+use Rattle.std.proofs.Common.{◌≡◌, ℕ, List, [], ◌∷◌, map, get_or, length, refl, sym, ap, ◌∙◌, subst, arith}
+use Rattle.dap_types.proofs.Views.{kids-Many, view-One}
 use Rattle.dap_types.specs.Model.{Member, Members, member, no_members, sequence, scalar, array, structure, grid, kids}
 use Rattle.dap_types.specs.Model as model
 use Rattle.dap_types.specs.View.{member_view, members_view, tree_view}
@@ -10,9 +9,8 @@ use Rattle.dap_types.specs.declared.declarations.Decl.{Decl}
 use Rattle.dap_types.specs.declared.values.Tree.{Tree, Many, One}
 use Rattle.dap_types.specs.declared.values.Value.{Value}
 use Rattle.dap_model.specs.Fits.{FitsAll, IsMany}
-use Rattle.dap_model.specs.Shown.{element_line, elements_all}
-use Rattle.dap_client.proofs.Rows.{all-rows, table-lines}
-use Rattle.dap_client.specs.Lines.{AreRows, IsSequence, IsTable, RowsFit, rows_lines}
+use Rattle.dap_client.proofs.Rows.{all-rows}
+use Rattle.dap_client.specs.Lines.{AreRows, IsSequence, IsTable, RowsFit}
 
 one-member : (decls : List Decl) (m : Member) → members_view decls ≡ member m no_members → length decls ≡ 1
 one-member [] m is = cc is

@@ -1,5 +1,5 @@
 -- What was taken of a source whose bytes are told.
-use Rattle.std.specs.Prelude.{◌≡◌, ℕ, ◌≤◌, ◌⊎◌, List, length, Option, ⊤}
+use Rattle.std.specs.Prelude.{ℕ, ◌≤◌, ◌⊎◌, List, length, Option, ⊤}
 use Rattle.std.specs.Io.KnownBytes.{Consumes, IsAtEnd}
 use Rattle.xdr_decode.specs.Verdict.{budget}
 use Rattle.dap_client.specs.declared.gather.Interruption.{Interruption}

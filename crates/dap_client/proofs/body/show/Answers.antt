@@ -1,4 +1,3 @@
-use Rattle.std.proofs.Common.{sym, subst}
 use Rattle.dap_client.proofs.Judged.{answers-body, front-of, shows-told, verdict-back}
 use Rattle.dap_client.proofs.body.show.Goals as goal
 

@@ -1,7 +1,6 @@
 use Rattle.std.proofs.Common.{arith, [], ◌∷◌, ◌∙◌, ap, map, subst, sym}
 use Rattle.std.specs.List.{flat_map}
-use Rattle.dap_types.specs.Model.{member, no_members}
-use Rattle.dap_types.specs.View.{member_view, members_view, tree_view}
+use Rattle.dap_types.specs.View.{members_view, tree_view}
 use Rattle.dap_model.specs.Shown.{element_line, elements_all}
 use Rattle.dap_client.specs.Lines.{IsTable}
 use Rattle.dap_client.proofs.Passing.{puts_as}

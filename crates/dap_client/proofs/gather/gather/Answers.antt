@@ -1,4 +1,4 @@
-use Rattle.std.proofs.Common.{◌≡◌, arith, rules}
+use Rattle.std.proofs.Common.{arith}
 use Rattle.dap_client.proofs.Taken.{gathered_end, gathered_full}
 use Rattle.dap_client.proofs.gather.gather.Goals as goal
 use Rattle.dap_client.proofs.gather.gather.Goals.{else-loop-source-test, then-loop-source-test+in-Ok-take+then-count-eq0}

@@ -1,4 +1,4 @@
-use Rattle.std.proofs.Common.{ap, sym, ◌∙◌, ◌++◌, take, drop}
+use Rattle.std.proofs.Common.{ap, sym, ◌∙◌, ◌++◌, drop}
 use Rattle.std.specs.List.{flat_map}
 use Rattle.dap_model.specs.Shown.{shown_byte}
 use Rattle.dap_outside.proofs.Fronts.{on_err}

@@ -1,4 +1,4 @@
-use Rattle.dap_client.proofs.Passing.{front_flushed, passes_flushed, passes_kept, puts_sent}
+use Rattle.dap_client.proofs.Passing.{puts_sent}
 use Rattle.dap_client.proofs.buffer.Buffer.put.Goals as goal
 
 pub returns-then-text-gt-ROOM-clause-puts : goal.returns-then-text-gt-ROOM-clause-puts
