@@ -1,5 +1,5 @@
 -- The body of a plain table is a good one.
-use Rattle.std.proofs.Common.{◌≡◌, ℕ, ◌+◌, ◌<◌, ◌^◌, List, [], ◌∷◌, ◌++◌, length, map, All, codes, refl, ap, arith, ◌∙◌}
+use Rattle.std.proofs.Common.{◌≡◌, ℕ, ◌<◌, ◌^◌, List, [], ◌∷◌, ◌++◌, length, map, All, codes, refl, ap, arith}
 use Rattle.std.proofs.lemmas.List.Elements.{All-append, All-cons, All-nil}
 use Rattle.csv_source.proofs.Fitting.{fits}
 use Rattle.csv_source.proofs.PlainForm.{plain-form}
@@ -8,13 +8,12 @@ use Rattle.csv_source.specs.PlainTable.{PlainTable}
 use Rattle.dap_model.proofs.Spelling.{xdr_spells}
 use Rattle.dap_model.specs.Body.{body}
 use Rattle.dap_model.specs.Dds.{dds}
-use Rattle.dap_model.specs.Fits.{FitsAll}
 use Rattle.dap_model.specs.Plain.{ArePlain, IsPlainName, plain_dataset, plain_head}
 use Rattle.dap_model.specs.Xdr.{Spells, xdr}
-use Rattle.dap_types.specs.Model.{Dataset, scalar, sequence, members_of, Tree}
+use Rattle.dap_types.specs.Model.{Dataset, scalar, Tree}
 use Rattle.dap_types.specs.WellFormed.{Place, place, leaf_places, places_of, elements_of}
 use Rattle.dap_types.specs.declared.declarations.Column.{Column}
-use Rattle.xdr_decode.specs.Verdict.{budget, good, HasPlainHead, IsGood, IsVerdict}
+use Rattle.xdr_decode.specs.Verdict.{budget, IsGood}
 use Rattle.dap2.specs.Laws.{AnsweredIsGood}
 
 -- a plain dataset has no arrays

@@ -1,12 +1,12 @@
 -- Each status over told files, from what the others mean.
-use Rattle.std.proofs.Common.{◌≡◌, ◌≢◌, ℕ, List, [], ◌∷◌, ◌++◌, length, get_or, Option, Some, None, IsSome, inl, inr, codes, refl, sym, ap, ◌∙◌, arith}
+use Rattle.std.proofs.Common.{◌≡◌, ◌≢◌, ℕ, List, length, get_or, Option, Some, None, IsSome, inl, inr, codes, refl, sym, ap, ◌∙◌, arith}
 use Rattle.std.specs.Prelude.{◌⊎◌}
 use Rattle.std.proofs.lemmas.List.{append_cancel_right}
 use Rattle.csv_source.specs.Plain.{plain_table}
 use Rattle.dap_outside.specs.Files.{Told}
-use Rattle.dap2.specs.Answer.{AnswersBody, Asks, HasFile, HasNoFile, IsMissing, IsOtherFile, IsUnbuilt}
+use Rattle.dap2.specs.Answer.{AnswersBody, Asks, IsMissing, IsUnbuilt}
 use Rattle.dap2.specs.Show.{IsFor, status_for}
-use Rattle.dap2.specs.Words.{AreAnswer, IsBuilt, IsCommand, IsShow, Names}
+use Rattle.dap2.specs.Words.{AreAnswer, IsCommand, IsShow, Names}
 use Rattle.xdr_decode.specs.Verdict.{Verdict}
 use Rattle.dap2.specs.declared.status.Status.{Status}
 use Rattle.dap2.specs.declared.status.Status.TheVariants.{Complete, Words, Refused, BadReply, ReadFault, WriteFault, Memory, Unbuilt}

@@ -1,5 +1,5 @@
 -- Pieces that are put one after the other.
-use Rattle.std.proofs.Common.{Bor, ◌≡◌, ℕ, ◌+◌, ◌<◌, List, ◌∷◌, [], ◌++◌, length, take, drop, get_or, suc, Option, codes, refl, sym, ap, ◌∙◌, subst, append_assoc, append-nil, drop-cons, take-append-drop}
+use Rattle.std.proofs.Common.{Bor, ◌≡◌, ℕ, ◌<◌, List, [], ◌++◌, length, take, drop, get_or, suc, Option, codes, sym, ap, ◌∙◌, subst, append_assoc, drop-cons, take-append-drop}
 use Rattle.std.proofs.lemmas.Grind.{flat_map-append}
 use Rattle.std.specs.Fmt.{decimal}
 use Rattle.std.specs.Io.KnownBytes.{Appends}

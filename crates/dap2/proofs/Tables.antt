@@ -1,5 +1,5 @@
 -- Files that are too long for a table.
-use Rattle.std.proofs.Common.{◌≡◌, ℕ, ◌<◌, List, length, replicate, Option, Some, None, false, nat_le, refl, ap, sym, ◌∙◌, subst, arith}
+use Rattle.std.proofs.Common.{◌≡◌, ℕ, ◌<◌, List, length, replicate, Option, Some, None, false, nat_le, refl, sym, subst, arith}
 use Rattle.std.proofs.lemmas.Bool.Decides.{nat_tests}
 use Rattle.std.proofs.lemmas.List.{length-replicate}
 use Rattle.csv_source.specs.Plain.{plain_table}

@@ -1,7 +1,6 @@
 -- What the command `answer` answers: a plain target names a file, and the file is a plain table or
 -- not. Where a shelf does not tell its files, it may have any.
 use Rattle.std.specs.Prelude.{◌≡◌, ℕ, ◌⊎◌, List, Option, Some, None, ⊤}
-use Rattle.dap_outside.specs.Causes.{Rose}
 use Rattle.dap_outside.specs.Files.{Told}
 use Rattle.csv_source.specs.Dataset.{table_dataset, table_trees}
 use Rattle.csv_source.specs.Plain.{plain_table}

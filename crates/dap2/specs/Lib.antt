@@ -1,4 +1,5 @@
 pub mod Answer
+pub mod Folder
 pub mod Laws
 pub mod Lines
 pub mod Show

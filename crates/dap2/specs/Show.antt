@@ -5,7 +5,7 @@ use Rattle.dap_outside.specs.Causes.{Rose}
 use Rattle.xdr_decode.specs.Verdict.{Verdict, good, wrong, unbuilt, IsVerdict}
 use Rattle.xdr_decode.specs.declared.bad.BadField.{BadField}
 use Rattle.dap2.specs.declared.status.Status.{Status}
-use Rattle.dap2.specs.declared.status.Status.TheVariants.{Complete, Words, Refused, BadReply, ReadFault, WriteFault, Memory, Unbuilt}
+use Rattle.dap2.specs.declared.status.Status.TheVariants.{Complete, BadReply, ReadFault, WriteFault, Memory, Unbuilt}
 use Rattle.dap2.specs.Lines.{bad_reply_line}
 
 -- the status for a verdict

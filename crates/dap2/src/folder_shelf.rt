@@ -1,4 +1,5 @@
-ghost use Rattle.std.specs.Prelude.{◌≡◌, ◌<◌, ◌^◌};
+ghost use Rattle.std.specs.Prelude.{◌≡◌, ◌<◌, ◌^◌, false, None, Ok};
+ghost use Rattle.dap2.specs.Folder.{begins_segment, is_below};
 
 use dap_outside::{Failed, Shelf};
 use std::fs::OpenFile;
@@ -38,11 +39,31 @@ impl<'a, R: Files> FolderShelf<'a, R> {
     }
 }
 
+/// Whether a segment begins here that is not empty and does not begin with a point.
+fn begins_segment(bytes: &[u8]) -> bool
+    ensures { result ≡ begins_segment bytes.now }
+{
+    match bytes {
+        [first, ..] => *first != b'/' && *first != b'.',
+        [] => false,
+    }
+}
+
 /// Whether a name stays in the folder: it has segments between `/`, of which none is empty and none
 /// begins with a point.
-fn is_below(name: &str) -> bool {
-    name.split('/')
-        .all(|segment| !segment.is_empty() && !segment.starts_with('.'))
+#[tactic(auto, unfolding(crate::specs::Folder::has_segments))]
+fn is_below(name: &[u8]) -> bool
+    ensures { result ≡ is_below name.now }
+{
+    if !begins_segment(name) {
+        return false;
+    }
+    for (i, byte) in name.iter().enumerate() {
+        if *byte == b'/' && !begins_segment(&name[i + 1..]) {
+            return false;
+        }
+    }
+    true
 }
 
 /// Whether the name leads to a regular file through folders alone. A link leads out of the folder,
@@ -57,8 +78,10 @@ fn leads_to_file<R: Files>(files: &R, name: &str) -> io::Result<bool> {
 }
 
 /// Opens a file, `None` where no regular file of that name stands below the folder.
-fn open_file<R: Files>(files: &R, name: &str) -> io::Result<Option<Opened<R::File>>> {
-    if !is_below(name) || !leads_to_file(files, name)? {
+fn open_file<R: Files>(files: &R, name: &str) -> io::Result<Option<Opened<R::File>>>
+    ensures { is_below name.now ≡ false → result ≡ Ok None }
+{
+    if !is_below(name.as_bytes()) || !leads_to_file(files, name)? {
         return Ok(None);
     }
     let file = fs::open(files, name)?;
