@@ -1,5 +1,5 @@
 -- The variable of a leaf, by the table of the leaves.
-use Rattle.std.proofs.Common.{◌≡◌, ℕ, zero, suc, Bool, false, List, [], ◌∷◌, map, Option, Some, None, refl, sym, ap, ◌∙◌}
+use Rattle.std.proofs.Common.{◌≡◌, ℕ, zero, suc, ◌<◌, length, get_or, arith, Bool, false, List, [], ◌∷◌, map, Option, Some, None, refl, sym, ap, ◌∙◌}
 use Rattle.std.specs.Prelude.{option_map, option_and_then, slice_get}
 use Rattle.std.specs.Option.{option_map_or}
 use Rattle.dap_types.specs.declared.slabs.Layout.{Layout}
@@ -30,3 +30,12 @@ char_found c leaves leaf number r e is at = at ∙ ap (λ o. option_map_or is_ch
 
 pub char_none : (c : Contents) (leaves : List (Option ℕ)) (leaf : ℕ) → leaves ≡ leaves_from c 0 c.variables → leaf_in leaves leaf ≡ None → option_map_or is_char (leaf_variable c leaf) false ≡ false
 char_none c leaves leaf e is = ap (λ o. option_map_or is_char o false) (variable_is c leaves leaf None e is)
+
+-- what stands at an index of a list that is mapped
+pub mapped_at : {X Y : Type 0} (f : X → Y) (xs : List X) (ys : List Y) (i : ℕ) (x : X) (y : Y) → ys ≡ map f xs → i < length xs → get_or ys i y ≡ f (get_or xs i x)
+mapped_at {X = X} {Y = Y} f xs ys i x y e lt = ap (λ zs. get_or zs i y) e ∙ go xs i lt
+  where
+    go : (zs : List X) (n : ℕ) → n < length zs → get_or (map f zs) n y ≡ f (get_or zs n x)
+    go [] n l = absurd (omega arith)
+    go (z ∷ zs) zero l = refl
+    go (z ∷ zs) (suc n) l = go zs n (omega arith)

@@ -31,25 +31,26 @@ fn part_of(dimensions: &[Dimension], variable: &Variable) -> u64
     )
 }
 
-/// What a part adds to a record.
-fn shares_of(is_record: bool, part: u64) -> Shares
-    requires { part ≤ 2 ^ 62 }
-    ensures count { result.count ≡ (if is_record then 1 else 0) }
-    ensures bare { result.bare ≡ (if is_record then part else 0) }
-    ensures padded { result.padded ≡ (if is_record then padded part else 0) }
+/// What a variable adds to a record.
+fn shares_of(dimensions: &[Dimension], variable: &Variable) -> Shares
+    requires { HasSize dimensions.now variable.now }
+    ensures count { result.count ≡ mark dimensions.now variable.now }
+    ensures bare { result.bare ≡ bare dimensions.now variable.now }
+    ensures padded { result.padded ≡ share dimensions.now variable.now.dimensions variable.now.external_type }
+    ensures few { result.padded ≤ 2 ^ 62 + 3 }
 {
-    if is_record {
-        Shares {
-            count: 1,
-            bare: part,
-            padded: part + (3 - (part + 3) % 4),
-        }
-    } else {
-        Shares {
+    if !is_record(dimensions, variable.dimensions.items()) {
+        return Shares {
             count: 0,
             bare: 0,
             padded: 0,
-        }
+        };
+    }
+    let part = part_of(dimensions, variable);
+    Shares {
+        count: 1,
+        bare: part,
+        padded: part + (3 - (part + 3) % 4),
     }
 }
 
@@ -65,9 +66,7 @@ pub fn record_size(dimensions: &[Dimension], variables: &[Variable]) -> u64
     let mut bare = 0u64;
     let mut padded = 0u64;
     for variable in variables {
-        let part = part_of(dimensions, variable);
-        let is_record = is_record(dimensions, variable.dimensions.items());
-        let shares = shares_of(is_record, part);
+        let shares = shares_of(dimensions, variable);
         count += shares.count;
         bare += shares.bare;
         padded += shares.padded;

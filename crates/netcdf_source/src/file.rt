@@ -14,7 +14,7 @@ use crate::das::attributes_of;
 use crate::header::Contents;
 use crate::layouts::layouts;
 use crate::leaves::{leaf_in, leaves};
-use crate::mapping::dataset_of;
+use crate::mapping::{dataset_of, grids};
 use crate::texts::is_char;
 use dap_types::{Dataset, Layout, List, Memory};
 use das_text::Attributes;
@@ -30,6 +30,8 @@ pub struct Header {
     length: u64,
     /// The number of each dimension's coordinate variable.
     coordinates: Vec<Option<u32>>,
+    /// Which variables are the arrays of Grids.
+    grids: Vec<bool>,
     /// The number of the variable of each member of the dataset, none for a Grid.
     leaves: Vec<Option<u32>>,
     /// Where the elements of each variable stand.
@@ -41,7 +43,7 @@ impl Model for Header {
     ghost use Rattle.netcdf_source.specs.Coordinates.{AreCoordinates};
     ghost use Rattle.netcdf_source.specs.File.{FileHeader};
     ghost use Rattle.netcdf_source.specs.Layouts.{layout_of};
-    ghost use Rattle.netcdf_source.specs.Mapping.{leaves_from};
+    ghost use Rattle.netcdf_source.specs.Mapping.{is_grid, leaves_from};
     ghost use Rattle.netcdf_source.specs.Parts.{past_end};
     ghost use Rattle.netcdf_source.specs.Sound.{IsSound};
 
@@ -52,7 +54,8 @@ impl Model for Header {
     ghost invariant = { λ h. IsSound h.contents × (past_end h.contents h.length ≡ None)
         × AreCoordinates h.contents h.coordinates.items
         × (h.leaves.items ≡ leaves_from h.contents 0 h.contents.variables)
-        × (h.layouts ≡ map (layout_of h.contents) h.contents.variables) };
+        × (h.layouts ≡ map (layout_of h.contents) h.contents.variables)
+        × (h.grids.items ≡ map (is_grid h.contents) h.contents.variables) };
 }
 
 impl Header {
@@ -70,12 +73,14 @@ impl Header {
         ensures length { IfOk result (λ h. h.length ≡ length) }
     {
         let coordinates = coordinates(alloc, &contents)?;
-        let leaves = leaves(alloc, &contents, &coordinates)?;
+        let grids = grids(alloc, &contents, &coordinates)?;
+        let leaves = leaves(alloc, &contents, &coordinates, &grids)?;
         let layouts = layouts(alloc, &contents, step)?;
         Ok(Header {
             contents,
             length,
             coordinates,
+            grids,
             leaves,
             layouts,
         })
@@ -88,7 +93,13 @@ impl Header {
         ensures mapped { IfOk result (λ d. dataset_view d ≡ dataset_of self.now.contents file_name.now) }
         ensures well_formed { IfOk result (λ d. IsWellFormed (dataset_view d)) }
     {
-        dataset_of(alloc, &self.contents, &self.coordinates, file_name)
+        dataset_of(
+            alloc,
+            &self.contents,
+            &self.coordinates,
+            &self.grids,
+            file_name,
+        )
     }
 
     /// The attributes of the file: a container for each variable of the dataset in the file's order,

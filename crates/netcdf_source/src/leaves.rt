@@ -1,11 +1,10 @@
 ghost use Rattle.std.specs.Prelude.{◌≡◌, ℕ, ◌-◌, ◌<◌, ◌^◌, ◌==◌, List, ◌++◌, map, length, IfOk, OnOk, None, option_and_then, slice_get, if◌then◌else◌};
 ghost use Rattle.netcdf_source.specs.Coordinates.{AreCoordinates};
-ghost use Rattle.netcdf_source.specs.Mapping.{coordinate_at, leaves_of, leaves_from, leaf_in};
+ghost use Rattle.netcdf_source.specs.Mapping.{coordinate_at, is_grid, leaves_of, leaves_from, leaf_in};
 
 use crate::Variable;
 use crate::coordinates::coordinate;
 use crate::header::Contents;
-use crate::mapping::is_grid;
 use crate::texts::is_offered;
 use dap_types::Memory;
 use std::alloc::Global;
@@ -32,11 +31,13 @@ fn push_leaves(
     table: &[Option<u32>],
     number: u32,
     variable: &Variable,
+    grid: bool,
 ) -> Result<(), Memory>
-    requires { AreCoordinates contents.now table.now }
+    requires table { AreCoordinates contents.now table.now }
+    requires grid { grid ≡ is_grid contents.now variable.now }
     ensures { OnOk result (leaves.new.items ≡ leaves.old.items ++ leaves_of contents.now number variable.now) }
 {
-    if !is_grid(contents, table, variable) {
+    if !grid {
         leaves.push(Some(number))?;
         return Ok(());
     }
@@ -52,15 +53,17 @@ pub fn leaves(
     alloc: Global,
     contents: &Contents,
     table: &[Option<u32>],
+    grids: &[bool],
 ) -> Result<Vec<Option<u32>>, Memory>
     requires table { AreCoordinates contents.now table.now }
+    requires grids { grids.now ≡ map (is_grid contents.now) contents.now.variables }
     requires count { length contents.now.variables < 2 ^ 32 }
     ensures { IfOk result (λ ls. ls.items ≡ leaves_from contents.now 0 contents.now.variables) }
 {
     let mut leaves = Vec::with_capacity(alloc, contents.variables.items().len())?;
     for (i, variable) in contents.variables.items().iter().enumerate() {
         if is_offered(contents, variable) {
-            push_leaves(&mut leaves, contents, table, i as u32, variable)?;
+            push_leaves(&mut leaves, contents, table, i as u32, variable, grids[i])?;
         }
     }
     Ok(leaves)

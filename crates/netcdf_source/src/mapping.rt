@@ -163,7 +163,7 @@ fn have_coordinates(contents: &Contents, table: &[Option<u32>], ids: &[u32]) -> 
 
 /// Whether a variable is the array of a Grid.
 #[tactic(auto, unfolding(crate::specs::Mapping::is_grid))]
-pub fn is_grid(contents: &Contents, table: &[Option<u32>], variable: &Variable) -> bool
+fn is_grid(contents: &Contents, table: &[Option<u32>], variable: &Variable) -> bool
     requires { AreCoordinates contents.now table.now }
     ensures { result ≡ is_grid contents.now variable.now }
 {
@@ -173,6 +173,18 @@ pub fn is_grid(contents: &Contents, table: &[Option<u32>], variable: &Variable) 
         && !ids.is_empty()
         && differ(ids)
         && have_coordinates(contents, table, ids)
+}
+
+/// Which variables are the arrays of Grids.
+pub fn grids(alloc: Global, contents: &Contents, table: &[Option<u32>]) -> Result<Vec<bool>, Memory>
+    requires { AreCoordinates contents.now table.now }
+    ensures { IfOk result (λ grids. grids.items ≡ map (is_grid contents.now) contents.now.variables) }
+{
+    let mut grids = Vec::with_capacity(alloc, contents.variables.items().len())?;
+    for variable in contents.variables.items() {
+        grids.push(is_grid(contents, table, variable))?;
+    }
+    Ok(grids)
 }
 
 /// The coordinate variables of some dimensions, as the maps of a Grid.
@@ -204,8 +216,10 @@ fn member_of(
     table: &[Option<u32>],
     names: &[Id],
     variable: &Variable,
+    grid: bool,
 ) -> Result<Decl, Memory>
     requires table { AreCoordinates contents.now table.now }
+    requires grid { grid ≡ is_grid contents.now variable.now }
     requires names { names.now ≡ dimension_ids contents.now }
     ensures { IfOk result (λ d. member_view d ≡ member_of contents.now variable.now) }
 {
@@ -213,7 +227,7 @@ fn member_of(
         return Ok(Decl::Base(column_of(alloc, variable)?));
     }
     let array = array_of(alloc, contents, names, variable)?;
-    if !is_grid(contents, table, variable) {
+    if !grid {
         return Ok(Decl::Array(array));
     }
     let maps = maps_of(alloc, contents, table, names, variable.dimensions.items())?;
@@ -225,16 +239,18 @@ fn members_of(
     alloc: Global,
     contents: &Contents,
     table: &[Option<u32>],
+    grids: &[bool],
     names: &[Id],
 ) -> Result<List<Decl>, Memory>
     requires table { AreCoordinates contents.now table.now }
+    requires grids { grids.now ≡ map (is_grid contents.now) contents.now.variables }
     requires names { names.now ≡ dimension_ids contents.now }
     ensures { IfOk result (λ ds. map member_view ds ≡ map (member_of contents.now) (filter (is_offered contents.now) contents.now.variables)) }
 {
     let mut members = List::with_capacity(alloc, contents.variables.items().len())?;
-    for variable in contents.variables.items() {
+    for (i, variable) in contents.variables.items().iter().enumerate() {
         if is_offered(contents, variable) {
-            members.push(member_of(alloc, contents, table, names, variable)?)?;
+            members.push(member_of(alloc, contents, table, names, variable, grids[i])?)?;
         }
     }
     Ok(members)
@@ -245,13 +261,15 @@ pub fn dataset_of(
     alloc: Global,
     contents: &Contents,
     table: &[Option<u32>],
+    grids: &[bool],
     file_name: &[u8],
 ) -> Result<Dataset, Memory>
-    requires { AreCoordinates contents.now table.now }
+    requires table { AreCoordinates contents.now table.now }
+    requires grids { grids.now ≡ map (is_grid contents.now) contents.now.variables }
     ensures { IfOk result (λ d. dataset_view d ≡ dataset_of contents.now file_name.now) }
 {
     let name = dataset_id(alloc, file_name)?;
     let names = dimension_ids(alloc, contents.dimensions.items())?;
-    let members = members_of(alloc, contents, table, names.items())?;
+    let members = members_of(alloc, contents, table, grids, names.items())?;
     Ok(Dataset { name, members })
 }

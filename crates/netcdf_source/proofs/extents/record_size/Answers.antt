@@ -4,8 +4,8 @@ use Rattle.netcdf_source.specs.Parts.{bare, mark, share}
 use Rattle.netcdf_source.proofs.Records.{size_at, sum_next, shares_next, marks_le, bares_le, record_size_is}
 use Rattle.netcdf_source.proofs.extents.record_size.Goals as goal
 
-pub part_of-part-requires : goal.part_of-part-requires
-part_of-part-requires c = rw c.variable-item.is (size_at c.args.dimensions.now c.args.variables.now c.requires.sizes c.loop-variable.variable-index _ c.loop-variable-test.true)
+pub shares_of-shares-requires : goal.shares_of-shares-requires
+shares_of-shares-requires c = rw c.variable-item.is (size_at c.args.dimensions.now c.args.variables.now c.requires.sizes c.loop-variable.variable-index _ c.loop-variable-test.true)
 
 pub overflow_add-count : goal.overflow_add-count
 overflow_add-count c =
@@ -13,7 +13,7 @@ overflow_add-count c =
     let vs = c.args.variables.now in
     let i = c.loop-variable.variable-index in
     let v = c.variable-item.result in
-    let is : c.shares_of-shares.result.count ≡ mark dims v = rw (← c.items.ensures, ← c.is_record-is_record.ensures) c.shares_of-shares.ensures.count in
+    let is : c.shares_of-shares.result.count ≡ mark dims v = c.shares_of-shares.ensures.count in
     let next = sum_next (mark dims) vs i v c.loop-variable-test.true c.variable-item.is in
     omega (arith, is, next, marks_le dims vs, c.loop-variable.invariant.0, c.requires.count)
 
@@ -23,7 +23,7 @@ overflow_add-bare c =
     let vs = c.args.variables.now in
     let i = c.loop-variable.variable-index in
     let v = c.variable-item.result in
-    let is : c.shares_of-shares.result.bare ≡ bare dims v = rw (← c.part_of-part.ensures.part, ← c.items.ensures, ← c.is_record-is_record.ensures) c.shares_of-shares.ensures.bare in
+    let is : c.shares_of-shares.result.bare ≡ bare dims v = c.shares_of-shares.ensures.bare in
     let next = sum_next (bare dims) vs i v c.loop-variable-test.true c.variable-item.is in
     omega (arith, is, next, bares_le dims vs, c.loop-variable.invariant.1, c.requires.sum)
 
@@ -33,9 +33,9 @@ loop-variable-preserved c =
     let vs = c.args.variables.now in
     let i = c.loop-variable.variable-index in
     let v = c.variable-item.result in
-    let one : c.shares_of-shares.result.count ≡ mark dims v = rw (← c.items.ensures, ← c.is_record-is_record.ensures) c.shares_of-shares.ensures.count in
-    let two : c.shares_of-shares.result.bare ≡ bare dims v = rw (← c.part_of-part.ensures.part, ← c.items.ensures, ← c.is_record-is_record.ensures) c.shares_of-shares.ensures.bare in
-    let three : c.shares_of-shares.result.padded ≡ share dims v.dimensions v.external_type = rw (← c.part_of-part.ensures.part, ← c.items.ensures, ← c.is_record-is_record.ensures) c.shares_of-shares.ensures.padded in
+    let one : c.shares_of-shares.result.count ≡ mark dims v = c.shares_of-shares.ensures.count in
+    let two : c.shares_of-shares.result.bare ≡ bare dims v = c.shares_of-shares.ensures.bare in
+    let three : c.shares_of-shares.result.padded ≡ share dims v.dimensions v.external_type = c.shares_of-shares.ensures.padded in
     let a = sum_next (mark dims) vs i v c.loop-variable-test.true c.variable-item.is in
     let b = sum_next (bare dims) vs i v c.loop-variable-test.true c.variable-item.is in
     let d = shares_next dims vs i v c.loop-variable-test.true c.variable-item.is in
