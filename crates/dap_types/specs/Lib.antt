@@ -1,4 +1,5 @@
 pub mod formers
+pub mod Held
 pub mod Lends
 pub mod Names
 pub mod Model

@@ -2,6 +2,7 @@ ghost use Rattle.std.specs.Prelude.{◌≡◌, ℕ, ◌+◌, ◌<◌, ◌≤◌,
 ghost use Rattle.dap_types.specs.Names.{is_kept_byte, is_hex_digit, upper_case, hex_digit, escaped_byte, begins_with_digits, constraint_id, constraint_id_from, file_id};
 
 use crate::Memory;
+use crate::held::Held;
 use smallvec::SmallVec;
 use std::alloc::Global;
 use std::hash::{Hash, Hasher};
@@ -44,20 +45,22 @@ impl Bytes {
     }
 }
 
-/// The bytes of a name that is kept in place. Most names are no longer.
-const IN_PLACE: usize = 24;
-
 /// The name of a variable or of a dimension (DAP 2.0, identifiers), of any bytes. Contracts see
 /// it as its list of bytes.
 #[derive(Debug, Drop)]
 pub struct Id {
-    vec: SmallVec<u8, IN_PLACE>,
+    held: Held,
 }
 
 impl Model for Id {
+    ghost use Rattle.std.specs.Prelude.{ℕ, List};
+    ghost use Rattle.dap_types.specs.Held.{IsHeld, held_bytes};
+
     ghost Value = { List ℕ };
 
-    ghost view = { λ b. b.vec.items };
+    ghost view = { λ id. held_bytes id.held };
+
+    ghost invariant = { λ id. IsHeld id.held };
 }
 
 impl PartialEq for Id {
@@ -70,7 +73,7 @@ impl PartialEq for Id {
     ghost laws = { Prim.search (comparing, rules) };
 
     fn eq(&self, other: &Id) -> bool {
-        self.vec == other.vec
+        self.bytes() == other.bytes()
     }
 }
 
@@ -86,12 +89,14 @@ impl Hash for Id {
     ghost use Rattle.std.specs.Cmp.Rules.{hashing};
     ghost use Rattle.std.specs.Hash as fed;
 
-    ghost hash_input = { fed.slice fed.u8 };
+    ghost hash_input = { fed.str };
 
     ghost respects_eq = { Prim.search (hashing, rules) };
 
+    // All bytes at once, as those of a text.
     fn hash<H: Hasher>(&self, state: &mut H) {
-        self.vec.hash(state);
+        state.write(self.bytes());
+        state.write_u8(0xff);
     }
 }
 
@@ -101,7 +106,7 @@ impl Id {
         ensures { IfOk result (λ b. b ≡ bytes.now) }
     {
         Ok(Id {
-            vec: SmallVec::from_slice(alloc, bytes)?,
+            held: Held::new(alloc, bytes)?,
         })
     }
 
@@ -111,9 +116,8 @@ impl Id {
     pub fn of_file(alloc: Global, bytes: &[u8]) -> Result<Id, Memory>
         ensures { IfOk result (λ b. b ≡ file_id bytes.now) }
     {
-        Ok(Id {
-            vec: file_name(alloc, bytes)?,
-        })
+        let name = file_name(alloc, bytes)?;
+        Id::raw(alloc, name.as_slice())
     }
 
     /// The name of a variable that a constraint spells so: as `of_file`, but a `%` with two
@@ -122,18 +126,31 @@ impl Id {
     pub fn of_constraint(alloc: Global, bytes: &[u8]) -> Result<Id, Memory>
         ensures { IfOk result (λ b. b ≡ constraint_id bytes.now) }
     {
+        let name = constraint_name(alloc, bytes)?;
+        Id::raw(alloc, name.as_slice())
+    }
+
+    /// The same name once more. Fails where memory is wanted.
+    #[inline]
+    pub fn try_clone(&self, alloc: Global) -> Result<Id, Memory>
+        ensures { IfOk result (λ id. id ≡ self.now) }
+    {
         Ok(Id {
-            vec: constraint_name(alloc, bytes)?,
+            held: self.held.try_clone(alloc)?,
         })
     }
 
     /// The bytes, in order.
+    #[inline]
     pub fn bytes(&self) -> &[u8]
         ensures { result.now ≡ self.now }
     {
-        self.vec.as_slice()
+        self.held.bytes()
     }
 }
+
+/// The bytes of an escaped name up to which it is made without an allocation.
+const ON_STACK: usize = 96;
 
 fn is_kept(byte: u8) -> bool
     ensures { result ≡ is_kept_byte byte }
@@ -180,7 +197,7 @@ fn is_escape(bytes: &[u8]) -> bool
     }
 }
 
-fn push_escaped(out: &mut SmallVec<u8, IN_PLACE>, byte: u8) -> Result<(), Memory>
+fn push_escaped(out: &mut SmallVec<u8, ON_STACK>, byte: u8) -> Result<(), Memory>
     ensures { OnOk result (out.new.items ≡ out.old.items ++ escaped_byte byte) }
 {
     if is_kept(byte) {
@@ -197,7 +214,7 @@ fn push_escaped(out: &mut SmallVec<u8, IN_PLACE>, byte: u8) -> Result<(), Memory
 /// after it as many as the answer.
 #[tactic(auto, using(crate::proofs::Escapes::escape_laws))]
 fn push_next(
-    out: &mut SmallVec<u8, IN_PLACE>,
+    out: &mut SmallVec<u8, ON_STACK>,
     left: usize,
     byte: u8,
     rest: &[u8],
@@ -216,7 +233,7 @@ fn push_next(
     Ok(0)
 }
 
-fn file_name(alloc: Global, bytes: &[u8]) -> Result<SmallVec<u8, IN_PLACE>, Memory>
+fn file_name(alloc: Global, bytes: &[u8]) -> Result<SmallVec<u8, ON_STACK>, Memory>
     ensures { IfOk result (λ v. v.items ≡ file_id bytes.now) }
 {
     let mut out = SmallVec::new(alloc);
@@ -226,7 +243,7 @@ fn file_name(alloc: Global, bytes: &[u8]) -> Result<SmallVec<u8, IN_PLACE>, Memo
     Ok(out)
 }
 
-fn constraint_name(alloc: Global, bytes: &[u8]) -> Result<SmallVec<u8, IN_PLACE>, Memory>
+fn constraint_name(alloc: Global, bytes: &[u8]) -> Result<SmallVec<u8, ON_STACK>, Memory>
     ensures { IfOk result (λ v. v.items ≡ constraint_id bytes.now) }
 {
     let mut out = SmallVec::new(alloc);

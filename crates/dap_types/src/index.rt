@@ -53,9 +53,9 @@ fn joined(alloc: Global, whole: &[Id], name: &Id) -> Result<Vec<Id>, Memory>
 {
     let mut path = Vec::new(alloc);
     for id in whole {
-        path.push(Id::raw(alloc, id.bytes())?)?;
+        path.push(id.try_clone(alloc)?)?;
     }
-    path.push(Id::raw(alloc, name.bytes())?)?;
+    path.push(name.try_clone(alloc)?)?;
     Ok(path)
 }
 

@@ -5,6 +5,7 @@
 
 mod bytes;
 mod declarations;
+mod held;
 mod index;
 mod list;
 mod memory;

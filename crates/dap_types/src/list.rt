@@ -43,6 +43,21 @@ impl<T> List<T> {
         })
     }
 
+    /// Makes room for so many more items, and no more than that. Fails where memory is wanted.
+    pub fn reserve_exact(&mut self, additional: usize) -> Result<(), Memory>
+        ensures { self.new ≡ self.old }
+    {
+        self.vec.reserve_exact(additional)?;
+        Ok(())
+    }
+
+    /// Gives back the room behind the items, where there is a smaller block for them.
+    pub fn shrink_to_fit(&mut self)
+        ensures { self.new ≡ self.old }
+    {
+        self.vec.shrink_to_fit();
+    }
+
     /// The items, in order.
     pub fn items(&self) -> &[T]
         ensures { result.now ≡ self.now }

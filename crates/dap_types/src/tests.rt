@@ -21,7 +21,10 @@ fn values_are_kept_and_may_be_lent_to_threads(rt: HostRuntime) -> Result<(), Fai
     assert_eq!(rt; list.items(), [6, 8].as_slice());
     let mut roomy = List::with_capacity(rt.alloc(), 2)?;
     roomy.push(7u64)?;
-    assert_eq!(rt; roomy.items(), [7].as_slice());
+    roomy.reserve_exact(1)?;
+    roomy.push(8u64)?;
+    roomy.shrink_to_fit();
+    assert_eq!(rt; roomy.items(), [7, 8].as_slice());
     crosses(&bytes);
     crosses(&list);
     Ok(())
@@ -39,6 +42,19 @@ fn names_are_escaped(rt: HostRuntime) -> Result<(), Fail> {
         Id::of_constraint(alloc, b"a%2eb%zz")?.bytes(),
         b"a%2Eb%25zz".as_slice()
     );
+    Ok(())
+}
+
+#[test]
+fn names_of_all_lengths_are_kept_twice(rt: HostRuntime) -> Result<(), Fail> {
+    let letters = b"abcdefghijklmnopqrstuvwxyz";
+    for count in 0..letters.len() {
+        let name = Id::raw(rt.alloc(), &letters[..count])?;
+        let twin = name.try_clone(rt.alloc())?;
+        assert_eq!(rt; name.bytes(), &letters[..count]);
+        assert_eq!(rt; twin.bytes(), &letters[..count]);
+        assert!(rt; twin == name);
+    }
     Ok(())
 }
 
