@@ -1,19 +1,14 @@
 -- Names by which the members of a level are found.
-use Rattle.std.proofs.Common.{Vec, ◌≡◌, ℕ, Bool, true, false, ◌||◌, List, [], ◌∷◌, ◌++◌, map, ap, ◌∙◌, sym, refl}
+use Rattle.std.proofs.Common.{◌≡◌, ℕ, Bool, true, false, ◌||◌, List, [], ◌∷◌, ◌++◌, ap, ◌∙◌, sym, refl}
 use Rattle.std.specs.Prelude.{if◌then◌else◌}
 use Rattle.std.specs.List.{list_any}
 use Rattle.std.specs.Str.{bytes_eq}
 use Rattle.std.proofs.lemmas.List.Folds.{list_any-append}
-use Rattle.std.proofs.lemmas.List.{map-append}
 use Rattle.std.proofs.lemmas.Slice.Eq.{bytes_eq-Decides}
 use Rattle.dap_types.specs.Model.{Member, name_of}
 use Rattle.dap_types.specs.declared.declarations.Column.{Column}
 use Rattle.dds_text.specs.Held.{NamesAre}
 use Rattle.dds_text.specs.States.{is_name_of, is_name_of_column}
-
-pub list_any-map : {X Y : Type 0} (p : Y → Bool) (f : X → Y) (xs : List X) → list_any p (map f xs) ≡ list_any (λ x. p (f x)) xs
-list_any-map p f [] = refl
-list_any-map p f (x ∷ xs) = ap (λ b. p (f x) || b) (list_any-map p f xs)
 
 or_false : (a : Bool) → (a || false) ≡ a
 or_false true = refl
@@ -59,12 +54,6 @@ pub column_named : (names : List (List ℕ)) (cs : List Column) (c : Column) →
 unfolding NamesAre
 column_named names cs c are = λ n.
     grown names c.name (is_name_of_column cs) are n ∙ ap (λ b. is_name_of_column cs n || b) (sym (or_false (bytes_eq n c.name))) ∙ sym (list_any-append (λ k. bytes_eq n k.name) cs (c ∷ []))
-
--- the names after one more was put into a set of them
-pub inserted : {A : Type 0} (test : Bool) (ks ks' : List (Vec ℕ A)) (k : Vec ℕ A) → ks' ≡ (if test then ks else ks ++ k ∷ [])
-    → map (λ v. v.items) ks' ≡ (if test then map (λ v. v.items) ks else map (λ v. v.items) ks ++ k.items ∷ [])
-inserted true ks ks' k e = ap (map (λ v. v.items)) e
-inserted false ks ks' k e = ap (map (λ v. v.items)) e ∙ map-append (λ v. v.items) ks (k ∷ [])
 
 pub ruleset nothing_named = (no_members_named, no_columns_named)
 

@@ -11,6 +11,7 @@ ghost use Rattle.dds_text.specs.States.{with_dim, without_dims};
 
 use crate::keywords::size_of_word;
 use crate::level::{Columns, Levels, Maps};
+use crate::lists::{fitted, push};
 use crate::roles::{is_other, is_repeated, may_have_dims, most_dims, wanted_size};
 use crate::state::{GridStage, Role, Stage, State};
 use dap_types::{ArrayDecl, BaseType, Column, Decl, Dim, Id, List, Memory};
@@ -19,7 +20,7 @@ fn with_dim(array: ArrayDecl, dim: Dim) -> Result<ArrayDecl, Memory>
     ensures { IfOk result (λ a. a ≡ with_dim array dim) }
 {
     let mut array = array;
-    array.dims.push(dim)?;
+    push(&mut array.dims, dim)?;
     Ok(array)
 }
 
@@ -33,11 +34,12 @@ fn take_name(
     ensures { HaveNames levels.now → RoleHasNames role → levels.now.count ≡ own_number (levels_view levels.now) (role_view role) →
         IfOk result (MovesTo (declare_step (levels_view levels.now) (role_view role) (stage_view (Stage.Typed base)) (word_token name.now)) levels.now) }
 {
-    if is_repeated(levels, &role, name) {
+    let name = Id::raw(levels.alloc, name)?;
+    if is_repeated(levels, &role, &name) {
         return Ok(None);
     }
     let array = ArrayDecl {
-        name: Id::raw(levels.alloc, name)?,
+        name,
         base,
         dims: List::new(levels.alloc),
     };
@@ -212,7 +214,7 @@ fn end_map(levels: &Levels, maps: Maps, array: ArrayDecl) -> Result<Option<State
         return Ok(None);
     }
     let mut maps = maps;
-    maps.maps.push(array)?;
+    push(&mut maps.maps, array)?;
     Ok(Some(State::InMaps(maps)))
 }
 
@@ -225,6 +227,11 @@ fn end_declaration(
     ensures { HaveNames levels.old → RoleHasNames role → levels.old.count ≡ own_number (levels_view levels.old) (role_view role) →
         IfOk result (MovesTo (declare_step (levels_view levels.old) (role_view role) (stage_view (Stage.Named array)) (sign_token 59)) levels.new) }
 {
+    let array = ArrayDecl {
+        name: array.name,
+        base: array.base,
+        dims: fitted(array.dims),
+    };
     match role {
         Role::Variable => end_variable(levels, array),
         Role::Column(columns) => end_column(levels, columns, array),

@@ -8,6 +8,7 @@ ghost use Rattle.dds_text.specs.Held.{HasColumnNames, HasNames, HaveNames, level
 ghost use Rattle.dds_text.specs.States.{add, behind_level, is_name_of_map, top, within};
 
 use crate::count::MemberCount;
+use crate::lists::push;
 use crate::names::LevelNames;
 use crate::state::{State, Whole};
 use dap_types::{ArrayDecl, Column, Decl, List, Memory};
@@ -66,8 +67,8 @@ impl Level {
             (level_view self.new ≡ level_view self.old ++ member_view member ∷ []) }
         ensures names { HasNames self.old → OnOk result (HasNames self.new) }
     {
-        self.names.add(alloc, member.name().bytes())?;
-        self.members.push(member)?;
+        self.names.add(alloc, member.name())?;
+        push(&mut self.members, member)?;
         Ok(())
     }
 }
@@ -91,8 +92,8 @@ impl Columns {
         ensures added { OnOk result (self.new.list ≡ self.old.list ++ column ∷ []) }
         ensures names { HasColumnNames self.old → OnOk result (HasColumnNames self.new) }
     {
-        self.names.add(alloc, column.name.bytes())?;
-        self.list.push(column)?;
+        self.names.add(alloc, &column.name)?;
+        push(&mut self.list, column)?;
         Ok(())
     }
 }

@@ -13,6 +13,7 @@ mod keywords;
 pub mod laws;
 mod level;
 mod lines;
+mod lists;
 mod names;
 mod parser;
 mod printing;

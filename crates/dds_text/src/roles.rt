@@ -8,7 +8,7 @@ ghost use Rattle.dds_text.specs.States.{may_have_dims, most_dims, repeats, wante
 
 use crate::level::{Levels, Maps};
 use crate::state::{Role, Stage, State};
-use dap_types::BaseType;
+use dap_types::{BaseType, Id};
 
 #[tactic(auto, using(crate::proofs::OpenLevels::depths))]
 fn depth_of(levels: &Levels, role: &Role) -> usize
@@ -76,7 +76,7 @@ pub fn most_dims(role: &Role) -> usize
 }
 
 #[tactic(auto, using(crate::proofs::OpenLevels::found))]
-pub fn is_repeated(levels: &Levels, role: &Role, name: &[u8]) -> bool
+pub fn is_repeated(levels: &Levels, role: &Role, name: &Id) -> bool
     ensures { HaveNames levels.now → RoleHasNames role.now →
         result ≡ repeats (levels_view levels.now) (role_view role.now) name.now }
 {
@@ -84,7 +84,7 @@ pub fn is_repeated(levels: &Levels, role: &Role, name: &[u8]) -> bool
         Role::Variable => levels.inner.names.has(name),
         Role::Column(columns) => columns.names.has(name),
         Role::GridArray => false,
-        Role::GridMap(maps) => maps.has(name),
+        Role::GridMap(maps) => maps.has(name.bytes()),
     }
 }
 

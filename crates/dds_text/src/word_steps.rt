@@ -10,6 +10,7 @@ ghost use Rattle.dds_text.specs.States.{in_grid, inside, with_name};
 use crate::declaring::declare_by_word;
 use crate::keywords::{base_of_word, is_keyword, kind_of_word};
 use crate::level::{Levels, Maps};
+use crate::lists::fitted;
 use crate::roles::begin;
 use crate::state::{GridStage, Kind, Role, State, Whole};
 use dap_types::{Dataset, Decl, Id, List, Memory};
@@ -69,9 +70,9 @@ fn with_name(whole: Whole, name: Id) -> Decl
     ensures { member_view result ≡ with_name (whole_view whole) name }
 {
     match whole {
-        Whole::Structure(parts) => Decl::Structure(name, parts),
-        Whole::Sequence(columns) => Decl::Sequence(name, columns),
-        Whole::Grid(Maps { array, maps }) => Decl::Grid(name, array, maps),
+        Whole::Structure(parts) => Decl::Structure(name, fitted(parts)),
+        Whole::Sequence(columns) => Decl::Sequence(name, fitted(columns)),
+        Whole::Grid(Maps { array, maps }) => Decl::Grid(name, array, fitted(maps)),
     }
 }
 
@@ -81,10 +82,10 @@ fn call_whole(levels: &Levels, whole: Whole, word: &[u8]) -> Result<Option<State
     ensures { IsSound levels.now (State.Closed whole) →
         IfOk result (MovesTo (step (state_view levels.now (State.Closed whole)) (word_token word.now)) levels.now) }
 {
-    if levels.inner.names.has(word) {
+    let name = Id::raw(levels.alloc, word)?;
+    if levels.inner.names.has(&name) {
         return Ok(None);
     }
-    let name = Id::raw(levels.alloc, word)?;
     Ok(Some(State::Called(with_name(whole, name))))
 }
 
@@ -94,6 +95,7 @@ fn call_dataset(levels: &Levels, members: List<Decl>, word: &[u8]) -> Result<Opt
         IfOk result (MovesTo (step (state_view levels.now (State.DatasetClosed members)) (word_token word.now)) levels.now) }
 {
     let name = Id::raw(levels.alloc, word)?;
+    let members = fitted(members);
     Ok(Some(State::DatasetCalled(Dataset { name, members })))
 }
 

@@ -12,8 +12,7 @@ use Rattle.dds_text.proofs.level.Level.add.Goals as goal
 
 pub returns-clause-names : goal.returns-clause-names
 returns-clause-names c = λ have.
-    let name = c.bytes.ensures ∙ c.name.ensures in
-    let names = c.in_ok-add.ensures ∙ ap (λ n. if list_any (bytes_eq n) c.args.self.now.names then c.args.self.now.names else c.args.self.now.names ++ n ∷ []) name in
-    let P : List (List ℕ) → Type 0 = λ ns. NamesAre ns (is_name_of (map member_view c.push.new.self)) in
+    let names = c.in_ok-add.ensures ∙ ap (λ n. if list_any (bytes_eq n) c.args.self.now.names then c.args.self.now.names else c.args.self.now.names ++ n ∷ []) c.name.ensures in
+    let P : List (List ℕ) → Type 0 = λ ns. NamesAre ns (is_name_of (map member_view c.push.new.list)) in
     let Q : List Member → Type 0 = λ ms. NamesAre (if list_any (bytes_eq (name_of (member_view c.args.member))) c.args.self.now.names then c.args.self.now.names else c.args.self.now.names ++ name_of (member_view c.args.member) ∷ []) (is_name_of ms) in
-    subst P (sym names) (subst Q (sym (ap (map member_view) c.in_ok-push.ensures.ok ∙ members-push c.args.self.now.members c.args.member)) (member_named c.args.self.now.names (map member_view c.args.self.now.members) (member_view c.args.member) have))
+    subst P (sym names) (subst Q (sym (ap (map member_view) c.in_ok-push.ensures ∙ members-push c.args.self.now.members c.args.member)) (member_named c.args.self.now.names (map member_view c.args.self.now.members) (member_view c.args.member) have))
