@@ -124,7 +124,7 @@ fn words_of(alloc: Global, external_type: ExternalType, bytes: &[u8]) -> Result<
 fn attribute_of(alloc: Global, attribute: &Attribute) -> Result<das_text::Attribute, Memory>
     ensures { IfOk result (λ a. a ≡ attribute_of attribute.now) }
 {
-    let name = file_id(alloc, attribute.name.bytes())?;
+    let name = file_id(alloc, &attribute.name)?;
     let bytes = attribute.values.bytes();
     if bytes.is_empty() {
         return Ok(das_text::Attribute {
@@ -172,7 +172,7 @@ fn variable_containers(alloc: Global, contents: &Contents) -> Result<List<Entry>
     let mut containers = List::new(alloc);
     for variable in contents.variables.items() {
         if is_offered(contents, variable) {
-            let name = file_id(alloc, variable.name.bytes())?;
+            let name = file_id(alloc, &variable.name)?;
             containers.push(container_of(alloc, name, variable.attributes.items())?)?;
         }
     }

@@ -15,6 +15,7 @@ fn is_kept(byte: u8) -> bool
 }
 
 /// Whether each byte of a name stays as it is. It looks at all of them, many at a time.
+#[inline(never)]
 fn are_kept(name: &[u8]) -> bool
     ensures { result ≡ list_all is_kept_byte name.now }
 {
@@ -27,14 +28,15 @@ fn are_kept(name: &[u8]) -> bool
 
 /// The name of a variable that a file names so. Where no byte is escaped, as in most names, it is
 /// copied whole.
+#[inline]
 #[tactic(auto, using(crate::proofs::EscapedNames::kept_names))]
-pub fn file_id(alloc: Global, name: &[u8]) -> Result<Id, Memory>
+pub fn file_id(alloc: Global, name: &Id) -> Result<Id, Memory>
     ensures { IfOk result (λ id. id ≡ file_id name.now) }
 {
-    if are_kept(name) {
-        Id::raw(alloc, name)
+    if are_kept(name.bytes()) {
+        name.try_clone(alloc)
     } else {
-        Id::of_file(alloc, name)
+        Id::of_file(alloc, name.bytes())
     }
 }
 
@@ -44,7 +46,7 @@ pub fn dimension_ids(alloc: Global, dimensions: &[Dimension]) -> Result<List<Id>
 {
     let mut ids = List::with_capacity(alloc, dimensions.len())?;
     for dimension in dimensions {
-        ids.push(file_id(alloc, dimension.name.bytes())?)?;
+        ids.push(file_id(alloc, &dimension.name)?)?;
     }
     Ok(ids)
 }
@@ -53,9 +55,8 @@ pub fn dimension_ids(alloc: Global, dimensions: &[Dimension]) -> Result<List<Id>
 pub fn dimension_id(alloc: Global, ids: &[Id], id: u32) -> Result<Id, Memory>
     ensures { IfOk result (λ name. name ≡ option_map_or (λ i. i) (slice_get ids.now id) []) }
 {
-    let name = match ids.get(id as usize) {
-        Some(name) => name.bytes(),
-        None => &[],
-    };
-    Id::raw(alloc, name)
+    match ids.get(id as usize) {
+        Some(name) => name.try_clone(alloc),
+        None => Id::raw(alloc, &[]),
+    }
 }

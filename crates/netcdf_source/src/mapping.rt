@@ -73,36 +73,24 @@ fn dims_of(
 fn column_of(alloc: Global, variable: &Variable) -> Result<Column, Memory>
     ensures { IfOk result (λ x. x ≡ column_of variable.now) }
 {
-    let name = file_id(alloc, variable.name.bytes())?;
+    let name = file_id(alloc, &variable.name)?;
     Ok(Column {
         name,
         base: base_of(variable.external_type),
     })
 }
 
-/// The array of a variable that has this name.
-fn array_named(
+fn element_dims(
     alloc: Global,
     contents: &Contents,
     names: &[Id],
-    name: Id,
     variable: &Variable,
-) -> Result<ArrayDecl, Memory>
-    requires names { names.now ≡ dimension_ids contents.now }
-    requires name { name ≡ file_id variable.now.name }
-    ensures { IfOk result (λ a. a ≡ array_of contents.now variable.now) }
+) -> Result<List<Dim>, Memory>
+    requires { names.now ≡ dimension_ids contents.now }
+    ensures { IfOk result (λ ds. ds ≡ map (dim_of contents.now) (element_dimensions contents.now variable.now)) }
 {
-    let dims = dims_of(
-        alloc,
-        contents,
-        names,
-        element_dimensions(contents, variable),
-    )?;
-    Ok(ArrayDecl {
-        name,
-        base: base_of(variable.external_type),
-        dims,
-    })
+    let ids = element_dimensions(contents, variable);
+    dims_of(alloc, contents, names, ids)
 }
 
 fn array_of(
@@ -114,8 +102,12 @@ fn array_of(
     requires { names.now ≡ dimension_ids contents.now }
     ensures { IfOk result (λ a. a ≡ array_of contents.now variable.now) }
 {
-    let name = file_id(alloc, variable.name.bytes())?;
-    array_named(alloc, contents, names, name, variable)
+    let dims = element_dims(alloc, contents, names, variable)?;
+    Ok(ArrayDecl {
+        name: file_id(alloc, &variable.name)?,
+        base: base_of(variable.external_type),
+        dims,
+    })
 }
 
 /// The map for a dimension: its coordinate variable, which has the name of the dimension.
@@ -131,8 +123,12 @@ fn map_of(
     requires coordinate { coordinate_variable contents.now id ≡ Some variable.now }
     ensures { IfOk result (λ a. a ≡ array_of contents.now variable.now) }
 {
-    let name = dimension_id(alloc, names, id)?;
-    array_named(alloc, contents, names, name, variable)
+    let dims = element_dims(alloc, contents, names, variable)?;
+    Ok(ArrayDecl {
+        name: dimension_id(alloc, names, id)?,
+        base: base_of(variable.external_type),
+        dims,
+    })
 }
 
 /// Whether no dimension comes twice.
@@ -231,7 +227,7 @@ fn member_of(
         return Ok(Decl::Array(array));
     }
     let maps = maps_of(alloc, contents, table, names, variable.dimensions.items())?;
-    let name = Id::raw(alloc, array.name.bytes())?;
+    let name = array.name.try_clone(alloc)?;
     Ok(Decl::Grid(name, array, maps))
 }
 

@@ -5,21 +5,73 @@ ghost use Rattle.std.specs.Str.{bytes_eq};
 use dap_types::Memory;
 use indexmap::IndexSet;
 use std::alloc::Global;
+use std::hash::{Hash, Hasher};
 use std::marker::Model;
+
+/// The bytes of a name where they stand in the header. Contracts see their list.
+#[derive(Drop)]
+struct Spelling<'a> {
+    bytes: &'a [u8],
+}
+
+impl<'a> Model for Spelling<'a> {
+    ghost use Rattle.std.specs.Prelude.{ℕ, List};
+
+    ghost Value = { List ℕ };
+
+    ghost view = { λ s. s.bytes.now };
+}
+
+impl<'a> PartialEq for Spelling<'a> {
+    ghost use Rattle.std.proofs.Common.{rules};
+    ghost use Rattle.std.specs.Cmp.Rules.{comparing};
+    ghost use Rattle.std.specs.Str.{bytes_eq};
+
+    ghost eq = { bytes_eq };
+
+    ghost laws = { Prim.search (comparing, rules) };
+
+    fn eq(&self, other: &Spelling<'a>) -> bool {
+        self.bytes == other.bytes
+    }
+}
+
+impl<'a> Eq for Spelling<'a> {
+    ghost use Rattle.std.proofs.Common.{rules};
+    ghost use Rattle.std.specs.Cmp.Rules.{comparing};
+
+    ghost laws = { Prim.search (comparing, rules) };
+}
+
+impl<'a> Hash for Spelling<'a> {
+    ghost use Rattle.std.proofs.Common.{rules};
+    ghost use Rattle.std.specs.Cmp.Rules.{hashing};
+    ghost use Rattle.std.specs.Hash as fed;
+
+    ghost hash_input = { fed.str };
+
+    ghost respects_eq = { Prim.search (hashing, rules) };
+
+    // All bytes at once, as those of a text.
+    fn hash<H: Hasher>(&self, state: &mut H) {
+        state.write(self.bytes);
+        state.write_u8(0xff);
+    }
+}
 
 /// Names that differ, in order, found by look-up where they stand in the header. Contracts see their
 /// list.
 #[derive(Drop)]
 pub struct Names<'a> {
-    set: IndexSet<&'a [u8]>,
+    set: IndexSet<Spelling<'a>>,
 }
 
 impl<'a> Model for Names<'a> {
-    ghost use Rattle.std.specs.Prelude.{ℕ, List, map};
+    ghost use Rattle.std.specs.Prelude.{ℕ, List};
 
     ghost Value = { List (List ℕ) };
 
-    ghost view = { λ n. map (λ k. k.now) n.set.keys };
+    ghost view = { λ n. n.set.keys };
 }
 
 impl<'a> Names<'a> {
@@ -37,7 +89,7 @@ impl<'a> Names<'a> {
         ensures is_new { IfOk result (λ is_new. is_new ≡ not (list_any (bytes_eq name.now) self.old)) }
         ensures names { IfOk result (λ is_new. is_new ≡ true → self.new ≡ self.old ++ name.now ∷ []) }
     {
-        let (_, is_new) = self.set.insert_full(name)?;
+        let (_, is_new) = self.set.insert_full(Spelling { bytes: name })?;
         Ok(is_new)
     }
 }
