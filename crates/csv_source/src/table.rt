@@ -7,7 +7,7 @@ ghost use Rattle.csv_source.specs.PlainTable.{value_at};
 use crate::cell::{Cell, whole};
 use crate::names::sequence_id;
 use csv::ByteRecord;
-use dap_types::{BaseType, Bytes, Column, Dataset, Decl, Id, List, Memory};
+use dap_types::{BaseType, Bytes, Column, Dataset, Decl, List, Memory};
 use file_names::dataset_id;
 use std::alloc::Global;
 use std::marker::Model;
@@ -89,7 +89,7 @@ fn copied(alloc: Global, columns: &[Column]) -> Result<List<Column>, Memory>
     let mut copies = List::new(alloc);
     for column in columns {
         copies.push(Column {
-            name: Id::raw(alloc, column.name.bytes())?,
+            name: column.name.try_clone(alloc)?,
             base: column.base,
         })?;
     }
