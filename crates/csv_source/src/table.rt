@@ -89,7 +89,7 @@ fn copied(alloc: Global, columns: &[Column]) -> Result<List<Column>, Memory>
     let mut copies = List::new(alloc);
     for column in columns {
         copies.push(Column {
-            name: column.name.try_clone(alloc)?,
+            name: column.name.try_clone()?,
             base: column.base,
         })?;
     }

@@ -130,13 +130,14 @@ impl Id {
         Id::raw(alloc, name.as_slice())
     }
 
-    /// The same name once more. Fails where memory is wanted.
+    /// The same name once more. A name that does not stand in place is shared, so this takes no
+    /// memory; it fails where more copies stand than can be counted.
     #[inline]
-    pub fn try_clone(&self, alloc: Global) -> Result<Id, Memory>
+    pub fn try_clone(&self) -> Result<Id, Memory>
         ensures { IfOk result (λ id. id ≡ self.now) }
     {
         Ok(Id {
-            held: self.held.try_clone(alloc)?,
+            held: self.held.try_clone()?,
         })
     }
 

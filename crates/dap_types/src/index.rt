@@ -53,9 +53,9 @@ fn joined(alloc: Global, whole: &[Id], name: &Id) -> Result<Vec<Id>, Memory>
 {
     let mut path = Vec::new(alloc);
     for id in whole {
-        path.push(id.try_clone(alloc)?)?;
+        path.push(id.try_clone()?)?;
     }
-    path.push(name.try_clone(alloc)?)?;
+    path.push(name.try_clone()?)?;
     Ok(path)
 }
 

@@ -23,6 +23,7 @@ pub use declarations::{ArrayDecl, BaseType, Column, Dataset, Decl, Dim};
 pub use index::Index;
 pub use list::List;
 pub use memory::Memory;
+pub use names::Names;
 pub use slabs::{Layout, Slab};
 pub use unfit::Unfit;
 pub use values::{Tree, Value};

@@ -1,27 +1,29 @@
-ghost use Rattle.std.specs.Prelude.{◌≡◌, List, ℕ, [], ◌∷◌, map, reverse, IfOk, if◌then◌else◌, not};
+ghost use Rattle.std.specs.Prelude.{◌≡◌, [], ◌∷◌, ◌++◌, IfOk, OnErr, if◌then◌else◌, not};
 ghost use Rattle.std.specs.List.{list_any};
 ghost use Rattle.std.specs.Str.{bytes_eq};
 
-use crate::Memory;
+use crate::{Id, Memory};
 use indexmap::IndexSet;
 use std::alloc::Global;
 use std::marker::Model;
 
-/// The names that were met so far on one level. Contracts see them in a list, the last one first.
+/// Names of which no two are equal, in order, found by look-up. Contracts see their list.
 #[derive(Drop)]
-pub struct Names<'a> {
-    set: IndexSet<&'a [u8]>,
+pub struct Names {
+    set: IndexSet<Id>,
 }
 
-impl<'a> Model for Names<'a> {
+impl Model for Names {
+    ghost use Rattle.std.specs.Prelude.{ℕ, List};
+
     ghost Value = { List (List ℕ) };
 
-    ghost view = { λ n. reverse (map (λ k. k.now) n.set.keys) };
+    ghost view = { λ n. n.set.keys };
 }
 
-impl<'a> Names<'a> {
-    /// None.
-    pub fn new(alloc: Global) -> Names<'a>
+impl Names {
+    /// None, which keeps the allocator.
+    pub fn new(alloc: Global) -> Names
         ensures { result ≡ [] }
     {
         Names {
@@ -29,12 +31,20 @@ impl<'a> Names<'a> {
         }
     }
 
-    /// Meets one more name, and says whether it is a new one.
-    pub fn meet(&mut self, name: &'a [u8]) -> Result<bool, Memory>
-        ensures is_new { IfOk result (λ new. new ≡ not (list_any (bytes_eq name.now) self.old)) }
-        ensures met { IfOk result (λ new. self.new ≡ (if new then name.now ∷ self.old else self.old)) }
+    /// Whether the name is one of them. Takes no memory.
+    pub fn has(&self, name: &Id) -> bool
+        ensures { result ≡ list_any (bytes_eq name.now) self.now }
     {
-        let (_, is_new) = self.set.insert_full(name)?;
-        Ok(is_new)
+        self.set.contains(name)
+    }
+
+    /// Puts a name behind the others and answers true, or false where it is one of them. Where
+    /// memory is wanted they are as before.
+    pub fn insert(&mut self, name: &Id) -> Result<bool, Memory>
+        ensures is_new { IfOk result (λ is_new. is_new ≡ not (list_any (bytes_eq name.now) self.old)) }
+        ensures names { IfOk result (λ is_new. self.new ≡ (if is_new then self.old ++ name.now ∷ [] else self.old)) }
+        ensures err { OnErr result (self.new ≡ self.old) }
+    {
+        Ok(self.set.insert(name.try_clone()?)?)
     }
 }

@@ -1,13 +1,12 @@
-ghost use Rattle.std.specs.Prelude.{◌≡◌, ◌+◌, ◌<◌, ◌≤◌, ◌^◌, ◌⊎◌, ℕ, Bool, [], ◌∷◌, ◌++◌, length, None, Some, map, nat_le, OnOk, IfErr, MatchResult};
+ghost use Rattle.std.specs.Prelude.{◌≡◌, ◌+◌, ◌<◌, ◌≤◌, ◌^◌, ◌⊎◌, ℕ, Bool, [], ◌∷◌, ◌++◌, length, None, Some, map, nat_le, reverse, OnOk, IfErr, MatchResult};
 ghost use Rattle.std.specs.List.{list_all};
 ghost use Rattle.dap_types.specs.Judged.{Judges, JudgesOne, are_mapped, is_mapped};
 ghost use Rattle.dap_types.specs.Model.{Member, array, count, count_all, name_of, scalar};
 ghost use Rattle.dap_types.specs.View.{dataset_view, member_view, members_view};
 ghost use Rattle.dap_types.specs.WellFormed.{IsWellFormed, fault, has_maps, has_sizes, is_sized, leaf_places, part_places, places};
 
-use crate::names::Names;
 use crate::size::has_too_many;
-use crate::{ArrayDecl, Column, Dataset, Decl, Dim, Id, Unfit};
+use crate::{ArrayDecl, Column, Dataset, Decl, Dim, Id, Names, Unfit};
 use std::alloc::Global;
 
 /// The depth of the deepest members that a dataset may have.
@@ -115,13 +114,8 @@ fn check_columns(alloc: Global, first: u32, depth: u32, columns: &[Column]) -> R
 }
 
 /// Judges one member without its parts.
-fn check_member<'a>(
-    names: &mut Names<'a>,
-    number: u32,
-    depth: u32,
-    decl: &'a Decl,
-) -> Result<(), Unfit>
-    ensures { JudgesOne number depth names.old (member_view decl.now) names.new result }
+fn check_member(names: &mut Names, number: u32, depth: u32, decl: &Decl) -> Result<(), Unfit>
+    ensures { JudgesOne number depth (reverse names.old) (member_view decl.now) (reverse names.new) result }
 {
     let is_sized = has_sizes(decl);
     let is_mapped = has_maps(decl);
@@ -149,20 +143,21 @@ fn has_maps(decl: &Decl) -> bool
 }
 
 /// Judges one member without its parts, by its name and what is known of its sizes and maps.
-fn check_one<'a>(
-    names: &mut Names<'a>,
+#[tactic(auto, using(crate::proofs::LevelNames::met))]
+fn check_one(
+    names: &mut Names,
     number: u32,
     depth: u32,
-    name: &'a Id,
+    name: &Id,
     is_sized: bool,
     is_mapped: bool,
 ) -> Result<(), Unfit>
-    ensures { (m : Member) → name_of m ≡ name.now → has_sizes m ≡ is_sized → has_maps m ≡ is_mapped → JudgesOne number depth names.old m names.new result }
+    ensures { (m : Member) → name_of m ≡ name.now → has_sizes m ≡ is_sized → has_maps m ≡ is_mapped → JudgesOne number depth (reverse names.old) m (reverse names.new) result }
 {
     if depth > DEEPEST {
         return Err(Unfit::TooDeep { member: number });
     }
-    if !names.meet(name.bytes())? {
+    if !names.insert(name)? {
         return Err(Unfit::Repeated { member: number });
     }
     if !is_sized {

@@ -200,7 +200,7 @@ fn end_column(levels: &Levels, columns: Columns, array: ArrayDecl) -> Result<Opt
         return Ok(None);
     }
     let mut columns = columns;
-    columns.add(levels.alloc, without_dims(array))?;
+    columns.add(without_dims(array))?;
     Ok(Some(State::InSequence(columns)))
 }
 

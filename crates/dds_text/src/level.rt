@@ -9,9 +9,8 @@ ghost use Rattle.dds_text.specs.States.{add, behind_level, is_name_of_map, top, 
 
 use crate::count::MemberCount;
 use crate::lists::push;
-use crate::names::LevelNames;
 use crate::state::{State, Whole};
-use dap_types::{ArrayDecl, Column, Decl, List, Memory};
+use dap_types::{ArrayDecl, Column, Decl, List, Memory, Names};
 use std::alloc::Global;
 use std::mem;
 
@@ -19,14 +18,14 @@ use std::mem;
 #[derive(Drop)]
 pub struct Level {
     pub members: List<Decl>,
-    pub names: LevelNames,
+    pub names: Names,
 }
 
 /// The columns of a Sequence so far.
 #[derive(Drop)]
 pub struct Columns {
     pub list: List<Column>,
-    pub names: LevelNames,
+    pub names: Names,
 }
 
 /// The array of a Grid, and its maps so far.
@@ -56,18 +55,18 @@ impl Level {
     {
         Level {
             members: List::new(alloc),
-            names: LevelNames::new(alloc),
+            names: Names::new(alloc),
         }
     }
 
     /// Puts a member behind the others.
     #[tactic(auto, using(crate::proofs::Named::more_named))]
-    fn add(&mut self, alloc: Global, member: Decl) -> Result<(), Memory>
+    fn add(&mut self, member: Decl) -> Result<(), Memory>
         ensures added { OnOk result
             (level_view self.new ≡ level_view self.old ++ member_view member ∷ []) }
         ensures names { HasNames self.old → OnOk result (HasNames self.new) }
     {
-        self.names.add(alloc, member.name())?;
+        self.names.insert(member.name())?;
         push(&mut self.members, member)?;
         Ok(())
     }
@@ -82,17 +81,17 @@ impl Columns {
     {
         Columns {
             list: List::new(alloc),
-            names: LevelNames::new(alloc),
+            names: Names::new(alloc),
         }
     }
 
     /// Puts a column behind the others.
     #[tactic(auto, using(crate::proofs::Named::more_named))]
-    pub fn add(&mut self, alloc: Global, column: Column) -> Result<(), Memory>
+    pub fn add(&mut self, column: Column) -> Result<(), Memory>
         ensures added { OnOk result (self.new.list ≡ self.old.list ++ column ∷ []) }
         ensures names { HasColumnNames self.old → OnOk result (HasColumnNames self.new) }
     {
-        self.names.add(alloc, &column.name)?;
+        self.names.insert(&column.name)?;
         push(&mut self.list, column)?;
         Ok(())
     }
@@ -135,7 +134,7 @@ impl Levels {
         ensures count { self.new.count ≡ self.old.count }
         ensures names { HaveNames self.old → OnOk result (HaveNames self.new) }
     {
-        self.inner.add(self.alloc, member)?;
+        self.inner.add(member)?;
         Ok(())
     }
 

@@ -14,7 +14,6 @@ pub mod laws;
 mod level;
 mod lines;
 mod lists;
-mod names;
 mod parser;
 mod printing;
 mod reader;

@@ -34,7 +34,7 @@ pub fn file_id(alloc: Global, name: &Id) -> Result<Id, Memory>
     ensures { IfOk result (λ id. id ≡ file_id name.now) }
 {
     if are_kept(name.bytes()) {
-        name.try_clone(alloc)
+        name.try_clone()
     } else {
         Id::of_file(alloc, name.bytes())
     }
@@ -56,7 +56,7 @@ pub fn dimension_id(alloc: Global, ids: &[Id], id: u32) -> Result<Id, Memory>
     ensures { IfOk result (λ name. name ≡ option_map_or (λ i. i) (slice_get ids.now id) []) }
 {
     match ids.get(id as usize) {
-        Some(name) => name.try_clone(alloc),
+        Some(name) => name.try_clone(),
         None => Id::raw(alloc, &[]),
     }
 }

@@ -227,7 +227,7 @@ fn member_of(
         return Ok(Decl::Array(array));
     }
     let maps = maps_of(alloc, contents, table, names, variable.dimensions.items())?;
-    let name = array.name.try_clone(alloc)?;
+    let name = array.name.try_clone()?;
     Ok(Decl::Grid(name, array, maps))
 }
 
