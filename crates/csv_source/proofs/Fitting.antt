@@ -14,7 +14,8 @@ use Rattle.csv_source.specs.Csv.{csv_records}
 use Rattle.csv_source.specs.Dataset.{row_tree, table_dataset, table_trees}
 use Rattle.csv_source.specs.Plain.{cell_value, column_of, is_cell, is_row, plain_table, row_values}
 use Rattle.csv_source.specs.PlainTable.{PlainTable, table}
-use Rattle.csv_source.proofs.Digits.{both, whole-small}
+use Rattle.dap_model.proofs.Tests.{both_true}
+use Rattle.csv_source.proofs.Digits.{whole-small}
 use Rattle.csv_source.proofs.PlainColumns.{columns-types}
 use Rattle.csv_source.proofs.Sizes.{is_within}
 use Rattle.csv_source.proofs.Tabled.{of-file}
@@ -44,8 +45,8 @@ unfolding is_row row_values
 cells-fit [] fields types row short = tt
 cells-fit (c ∷ columns) [] types row short = cc row
 cells-fit (c ∷ columns) (field ∷ fields) types row short =
-    let (cell, cells) = both (is_cell c.base field) (is_row columns fields) row in
-    let (here, rest) = both (is_within 67108864 field) (list_all (is_within 67108864) fields) short in (
+    let (cell, cells) = both_true (is_cell c.base field) (is_row columns fields) row in
+    let (here, rest) = both_true (is_within 67108864 field) (list_all (is_within 67108864) fields) short in (
       cell-fits c.base field (All-head HasPlainType c columns types) cell (short-field field here),
       cells-fit columns fields (All-tail HasPlainType c columns types) cells rest,
     )
@@ -59,8 +60,8 @@ rows-fit : (columns : List Column) (rows : List (List (List ℕ))) → All HasPl
     → All (FitsRow columns) (map row_tree (map (row_values columns) rows))
 rows-fit columns [] types are short = All-nil (FitsRow columns)
 rows-fit columns (fields ∷ rows) types are short =
-    let (row, others) = both (is_row columns fields) (list_all (is_row columns) rows) are in
-    let (here, rest) = both (list_all (is_within 67108864) fields) (are_within 67108864 rows) short in
+    let (row, others) = both_true (is_row columns fields) (list_all (is_row columns) rows) are in
+    let (here, rest) = both_true (list_all (is_within 67108864) fields) (are_within 67108864 rows) short in
     All-cons (FitsRow columns) (row_tree (row_values columns fields)) (map row_tree (map (row_values columns) rows)) (row-fits columns fields types row here) (rows-fit columns rows types others rest)
 
 -- all rows of a table of such records
@@ -71,7 +72,7 @@ table-fits file_name columns rows types are short =
 
 rows-within : (records : List (List (List ℕ))) (header : List (List ℕ)) (rows : List (List (List ℕ))) → records ≡ header ∷ rows → are_within 67108864 records ≡ true → are_within 67108864 rows ≡ true
 rows-within records header rows are short =
-    let both_parts : are_within 67108864 (header ∷ rows) ≡ true = rw are at short in (both (list_all (is_within 67108864) header) (are_within 67108864 rows) both_parts).1
+    let both_parts : are_within 67108864 (header ∷ rows) ≡ true = rw are at short in (both_true (list_all (is_within 67108864) header) (are_within 67108864 rows) both_parts).1
 
 pub fits : (file_name bytes : List ℕ) (t : PlainTable) → plain_table file_name bytes ≡ Some t → FitsAll (table_dataset t).members (table_trees t)
 fits file_name bytes t is =

@@ -12,7 +12,7 @@ use Rattle.dap_model.specs.Plain.{ArePlain, IsPlainColumn, IsPlainType, IsWordUp
 use Rattle.dap_model.specs.Plain as plain
 use Rattle.csv_source.specs.Names.{has_suffix, before_suffix}
 use Rattle.csv_source.specs.Plain.{all_differ, column, column_of, is_header, is_plain_name, is_word_byte}
-use Rattle.csv_source.proofs.Digits.{both}
+use Rattle.dap_model.proofs.Tests.{both_true}
 use Rattle.csv_source.proofs.Headers.{header-count}
 
 -- a header names columns of texts and of whole numbers alone
@@ -40,8 +40,8 @@ same-test b = regrouped (is_in_range 48 57 b) (is_in_range 65 90 b) (is_in_range
 name-word : (name : List ℕ) → is_plain_name name ≡ true → IsWordUpTo 32 name
 unfolding is_plain_name
 name-word name is =
-    let (counts, bytes) = both (nat_le 1 (length name) && nat_le (length name) 32) (list_all is_word_byte name) is in
-    let (some, few) = both (nat_le 1 (length name)) (nat_le (length name) 32) counts in
+    let (counts, bytes) = both_true (nat_le 1 (length name) && nat_le (length name) 32) (list_all is_word_byte name) is in
+    let (some, few) = both_true (nat_le 1 (length name)) (nat_le (length name) 32) counts in
     let each = AllPass-from_list_all is_word_byte name bytes in
     (grind (arith, some), grind (arith, few), λ k d lt. sym (same-test (get_or name k d)) ∙ each k d lt)
 
@@ -70,8 +70,8 @@ names-differ (c ∷ columns) differ =
 header-rules : (columns : List Column) → is_header columns ≡ true → (list_all (λ c. is_plain_name c.name) columns ≡ true) × (all_differ columns ≡ true)
 unfolding is_header
 header-rules columns is =
-    let (before, differ) = both (nat_le 1 (length columns) && nat_le (length columns) 16 && list_all (λ c. is_plain_name c.name) columns) (all_differ columns) is in
-    let (counts, names) = both (nat_le 1 (length columns) && nat_le (length columns) 16) (list_all (λ c. is_plain_name c.name) columns) before in
+    let (before, differ) = both_true (nat_le 1 (length columns) && nat_le (length columns) 16 && list_all (λ c. is_plain_name c.name) columns) (all_differ columns) is in
+    let (counts, names) = both_true (nat_le 1 (length columns) && nat_le (length columns) 16) (list_all (λ c. is_plain_name c.name) columns) before in
     (names, differ)
 
 pub are-plain : (columns : List Column) → is_header columns ≡ true → All (λ c. IsPlainType c.base) columns → ArePlain columns

@@ -9,13 +9,13 @@ use Rattle.csv_source.specs.Csv.{csv_records}
 use Rattle.csv_source.specs.Held.{is_short, rows_of}
 use Rattle.csv_source.specs.Plain.{is_row}
 use Rattle.csv_source.specs.Standing.{HasBadRow, Stands}
-use Rattle.csv_source.proofs.Digits.{both}
+use Rattle.dap_model.proofs.Tests.{both_true}
 use Rattle.csv_source.proofs.Rows.{row-wide, rows_of-length, rows_of-push}
 use Rattle.csv_source.proofs.Standings.{stands-count, stands-front, stands-short}
 
 last-short : (rows : List (List (List ℕ))) (row : List (List ℕ)) → list_all (λ r. list_all is_short r) (rows ++ row ∷ []) ≡ true → list_all is_short row ≡ true
-last-short [] row all = (both (list_all is_short row) true all).0
-last-short (r ∷ rows) row all = last-short rows row (both (list_all is_short r) (list_all (λ r. list_all is_short r) (rows ++ row ∷ [])) all).1
+last-short [] row all = (both_true (list_all is_short row) true all).0
+last-short (r ∷ rows) row all = last-short rows row (both_true (list_all is_short r) (list_all (λ r. list_all is_short r) (rows ++ row ∷ [])) all).1
 
 -- what a row more leaves
 pub row-more : (bytes : List ℕ) (header : List (List ℕ)) (columns : List Column) (n : ℕ) (fields row pushed : List (List ℕ)) (reader : Reader (Bor (List ℕ)))

@@ -8,7 +8,7 @@ use Rattle.csv.specs.Records.{field_at}
 use Rattle.dap_types.proofs.Views.{drop-here}
 use Rattle.dap_types.specs.declared.declarations.Column.{Column}
 use Rattle.csv_source.specs.Held.{IsHeld, held_rows, is_short, rows_of}
-use Rattle.csv_source.proofs.Digits.{both}
+use Rattle.dap_model.proofs.Tests.{both_true}
 use Rattle.csv_source.specs.Plain.{is_cell, is_row, cell_value, row_values}
 
 -- a row more
@@ -48,8 +48,8 @@ list_all-get : {X : Type 0} (p : X → Bool) (xs : List X) (i : ℕ) (x : X) →
 list_all-get p [] i x all is = cc is
 list_all-get p (y ∷ ys) zero x all is =
     let same : y ≡ x = cc is in
-    rw same at (both (p y) (list_all p ys) all).0
-list_all-get p (y ∷ ys) (suc i) x all is = list_all-get p ys i x (both (p y) (list_all p ys) all).1 is
+    rw same at (both_true (p y) (list_all p ys) all).0
+list_all-get p (y ∷ ys) (suc i) x all is = list_all-get p ys i x (both_true (p y) (list_all p ys) all).1 is
 
 -- a row has a cell for each column
 row-get : (columns : List Column) (fields : List (List ℕ)) (i : ℕ) (c : Column) → is_row columns fields ≡ true → slice_get columns i ≡ Some c
@@ -59,15 +59,15 @@ row-get [] fields i c row is = cc is
 row-get (d ∷ ds) [] i c row is = cc row
 row-get (d ∷ ds) (f ∷ fields) zero c row is =
     let same : d ≡ c = cc is in
-    (f, refl, rw same at (both (is_cell d.base f) (is_row ds fields) row).0, rw same refl)
-row-get (d ∷ ds) (f ∷ fields) (suc i) c row is = row-get ds fields i c (both (is_cell d.base f) (is_row ds fields) row).1 is
+    (f, refl, rw same at (both_true (is_cell d.base f) (is_row ds fields) row).0, rw same refl)
+row-get (d ∷ ds) (f ∷ fields) (suc i) c row is = row-get ds fields i c (both_true (is_cell d.base f) (is_row ds fields) row).1 is
 
 -- a row has as many values as columns
 pub row-long : (columns : List Column) (fields : List (List ℕ)) → is_row columns fields ≡ true → length (row_values columns fields) ≡ length columns
 unfolding is_row row_values
 row-long [] fields row = refl
 row-long (d ∷ ds) [] row = cc row
-row-long (d ∷ ds) (f ∷ fields) row = ap suc (row-long ds fields (both (is_cell d.base f) (is_row ds fields) row).1)
+row-long (d ∷ ds) (f ∷ fields) row = ap suc (row-long ds fields (both_true (is_cell d.base f) (is_row ds fields) row).1)
 
 -- and as many fields
 pub row-wide : (columns : List Column) (fields : List (List ℕ)) → is_row columns fields ≡ true → length fields ≡ length columns
@@ -75,7 +75,7 @@ unfolding is_row
 row-wide [] [] row = refl
 row-wide [] (f ∷ fields) row = cc row
 row-wide (d ∷ ds) [] row = cc row
-row-wide (d ∷ ds) (f ∷ fields) row = ap suc (row-wide ds fields (both (is_cell d.base f) (is_row ds fields) row).1)
+row-wide (d ∷ ds) (f ∷ fields) row = ap suc (row-wide ds fields (both_true (is_cell d.base f) (is_row ds fields) row).1)
 
 -- a field of a part
 take-drop-get : {X : Type 0} (xs : List X) (width start i : ℕ) (x : X) → slice_get (take width (drop start xs)) i ≡ Some x → slice_get xs (start + i) ≡ Some x
@@ -126,7 +126,7 @@ held-count columns rows fields = length-map (rows_of (length columns) rows field
 all-long : (columns : List Column) (rows : List (List (List ℕ))) → list_all (is_row columns) rows ≡ true → All (λ row. length row ≡ length columns) (map (row_values columns) rows)
 all-long columns [] all = λ k d lt. absurd (omega (arith, lt))
 all-long columns (row ∷ rows) all =
-    let (here, rest) = both (is_row columns row) (list_all (is_row columns) rows) all in
+    let (here, rest) = both_true (is_row columns row) (list_all (is_row columns) rows) all in
     All-cons (λ r. length r ≡ length columns) (row_values columns row) (map (row_values columns) rows) (row-long columns row here) (all-long columns rows rest)
 
 -- each row has a value for each column

@@ -8,7 +8,7 @@ use Rattle.csv.specs.declared.parser.Config.{Config}
 use Rattle.csv.specs.declared.parser.State.{State}
 use Rattle.csv.specs.declared.parser.State.TheVariants as st
 use Rattle.csv_source.specs.Csv.{csv_records}
-use Rattle.csv_source.proofs.Digits.{both}
+use Rattle.dap_model.proofs.Tests.{both_true}
 use Rattle.csv_source.proofs.Recorded.{next-shrinks}
 use Rattle.csv_source.proofs.Sizes.{is_within, reached-within, strip_bom-shorter}
 
@@ -18,7 +18,7 @@ are_within n records = list_all (λ r. list_all (is_within n) r) records
 
 next-within : (cfg : Config) (n : ℕ) (s : State) (xs : List ℕ) (p : Read) → length xs ≤ n → next_record cfg s [] [] xs ≡ Some p → list_all (is_within n) p.0 ≡ true
 unfolding Reached
-next-within cfg n s xs p le is = (both (list_all (is_within n) p.0) true (reached-within cfg n s xs (p.0 ∷ []) p.1 p.2 le (p, is, refl, (refl, refl)))).0
+next-within cfg n s xs p le is = (both_true (list_all (is_within n) p.0) true (reached-within cfg n s xs (p.0 ∷ []) p.1 p.2 le (p, is, refl, (refl, refl)))).0
 
 rest-within : (cfg : Config) (n : ℕ) (s : State) (xs : List ℕ) (p : Read) → length xs ≤ n → next_record cfg s [] [] xs ≡ Some p → length p.2 ≤ n
 rest-within cfg n s xs p le is =

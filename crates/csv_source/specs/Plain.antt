@@ -1,7 +1,7 @@
 -- Which files are plain tables, and the table of such a file (RFC 4180 for the records; the typed
 -- header and the limits are this project's).
 use Rattle.std.specs.Prelude.{ℕ, Bool, true, ◌&&◌, ◌||◌, not, ℤ, pos, neg_ℤ, List, [], ◌∷◌, ◌==◌, nat_le, length, map, drop, codes, if◌then◌else◌, Option, Some, None}
-use Rattle.std.specs.Char.{is_ascii_alphanumeric, is_ascii_digit}
+use Rattle.std.specs.Char.{is_ascii_alphanumeric}
 use Rattle.std.specs.Cmp.Lexicographic.{pointwise}
 use Rattle.std.specs.List.{list_all, list_any}
 use Rattle.std.specs.Str.{bytes_eq}
@@ -12,6 +12,7 @@ use Rattle.dap_types.specs.declared.declarations.Column.{Column}
 use Rattle.dap_types.specs.declared.values.Value.{Value}
 use Rattle.dap_types.specs.declared.values.Value.TheVariants as values
 use Rattle.csv_source.specs.Csv.{csv_records}
+use Rattle.viable.specs.Numerals.{is_numeral}
 use Rattle.csv_source.specs.Names.{has_suffix, before_suffix}
 use Rattle.csv_source.specs.PlainTable.{PlainTable, table}
 
@@ -46,7 +47,7 @@ digits_of cell = if starts_with_minus cell then drop 1 cell else cell
 
 -- an optional `-` and 1 to 9 digits
 unfoldable pub is_whole_cell : List ℕ → Bool
-is_whole_cell cell = nat_le 1 (length (digits_of cell)) && nat_le (length (digits_of cell)) 9 && list_all is_ascii_digit (digits_of cell)
+is_whole_cell cell = is_numeral 9 (digits_of cell)
 
 -- the number that they write
 unfoldable pub whole_of : List ℕ → ℤ

@@ -1,10 +1,12 @@
-ghost use Rattle.std.specs.Prelude.{◌≡◌, ◌≤◌, length, true};
-ghost use Rattle.std.specs.Char.{is_ascii_digit};
-ghost use Rattle.std.specs.List.{list_all};
-ghost use Rattle.std.specs.Str.Parse.{digits_value, starts_with_minus};
+ghost use Rattle.std.specs.Prelude.{◌≡◌, true};
+ghost use Rattle.std.specs.Str.Parse.{starts_with_minus};
 ghost use Rattle.csv_source.specs.Plain.{digits_of, is_cell, is_whole_cell, whole_of};
 
 use dap_types::BaseType;
+use viable::number;
+
+/// The most digits of a whole number.
+const MOST_DIGITS: usize = 9;
 
 /// The value of a cell, as a table lends it.
 #[derive(Clone, Copy, Debug, PartialEq, Eq)]
@@ -33,8 +35,7 @@ pub(crate) fn may_be_cell(base: BaseType, field: &[u8]) -> bool
 fn is_whole(field: &[u8]) -> bool
     ensures { result ≡ is_whole_cell field.now }
 {
-    let digits = without_minus(field);
-    digits.len() >= 1 && digits.len() <= 9 && are_digits(digits)
+    number(without_minus(field), MOST_DIGITS).is_some()
 }
 
 /// The number that an optional `-` and 1 to 9 digits write.
@@ -42,7 +43,7 @@ pub(crate) fn whole(field: &[u8]) -> i64
     requires { is_whole_cell field.now ≡ true }
     ensures { result ≡ whole_of field.now }
 {
-    let magnitude = i64::from(number(without_minus(field)));
+    let magnitude = number(without_minus(field), MOST_DIGITS).unwrap_or(0) as i64;
     if has_minus(field) {
         -magnitude
     } else {
@@ -63,22 +64,4 @@ fn without_minus(field: &[u8]) -> &[u8]
     ensures { result.now ≡ digits_of field.now }
 {
     if has_minus(field) { &field[1..] } else { field }
-}
-
-fn are_digits(bytes: &[u8]) -> bool
-    ensures { result ≡ list_all is_ascii_digit bytes.now }
-{
-    bytes.iter().all(|b| b.is_ascii_digit())
-}
-
-fn number(digits: &[u8]) -> u32
-    requires digits { list_all is_ascii_digit digits.now ≡ true }
-    requires short { length digits.now ≤ 9 }
-    ensures { result ≡ digits_value 10 digits.now }
-{
-    let mut n = 0u32;
-    for digit in digits {
-        n = n * 10 + u32::from(*digit - b'0');
-    }
-    n
 }
