@@ -1,12 +1,14 @@
 -- The first fault of members, one member after the other.
 use Rattle.std.proofs.Common.{◌≡◌, ℕ, ◌+◌, ◌^◌, ◌<◌, ◌≤◌, List, [], ◌∷◌, ◌++◌, length, get_or, drop, map, subst, Some, None, Result, Ok, Err, inl, inr, ap, ◌∙◌, sym, refl, arith, length-append}
-use Rattle.std.specs.Prelude.{◌⊎◌}
+use Rattle.std.specs.Prelude.{◌⊎◌, ◌||◌}
+use Rattle.std.specs.Str.{bytes_eq}
 use Rattle.std.specs.Option.{option_or}
 use Rattle.std.proofs.lemmas.List.{drop_all}
-use Rattle.dap_types.proofs.Faults.{first_fault-append, length-part_places}
+use Rattle.dap_types.proofs.Faults.{first_fault-append, length-leaf_places, length-part_places, length-places}
 use Rattle.dap_types.proofs.Views.{drop-here, members-here, members-end as no_members-left, view-Structure}
 use Rattle.dap_types.specs.Judged.{Judges, JudgesOne}
-use Rattle.dap_types.specs.Model.{Member, Members, member, name_of, count, count_all}
+use Rattle.dap_types.specs.NameSet.{AreSameNames, HasAlso}
+use Rattle.dap_types.specs.Model.{Member, Members, no_members, member, name_of, count, count_all}
 use Rattle.dap_types.specs.View.{member_view, members_view}
 use Rattle.dap_types.specs.declared.declarations.Decl.{Decl, Structure}
 use Rattle.dap_types.specs.declared.bytes.Id.{Id}
@@ -29,6 +31,36 @@ pub judged-stop : (ps qs : List Place) (n : ℕ) (e : Unfit) → Judges ps n (Er
 judged-stop ps qs n e (inl is) = inl is
 judged-stop ps qs n e (inr fault) = inr (first_fault-append n ps qs ∙ ap (λ o. option_or o (first_fault (n + length ps) qs)) fault)
 
+-- places as many, with the same first fault
+judged-same : (ps qs : List Place) (n : ℕ) (r : Result ℕ Unfit) → length ps ≡ length qs → first_fault n ps ≡ first_fault n qs → Judges ps n r → Judges qs n r
+judged-same ps qs n (Ok next) long same (is, none) = (omega (arith, is, long), sym same ∙ none)
+judged-same ps qs n (Err e) long same (inl is) = inl is
+judged-same ps qs n (Err e) long same (inr fault) = inr (sym same ∙ fault)
+
+-- The order of the names before a member does not count.
+module _ (depth : ℕ) where
+  same_one_fault : (earlier others : List (List ℕ)) → AreSameNames earlier others → (m : Member) (n : ℕ) → fault_at n (place depth earlier m) ≡ fault_at n (place depth others m)
+  same_one_fault earlier others same m n = rw (same (name_of m)) refl
+
+  more_same : (earlier others : List (List ℕ)) → AreSameNames earlier others → (name : List ℕ) → AreSameNames (name ∷ earlier) (name ∷ others)
+  more_same earlier others same name = λ q. ap (λ b. bytes_eq q name || b) (same q)
+
+  same_leaf_fault : (earlier others : List (List ℕ)) → AreSameNames earlier others → (ms : List Member) (n : ℕ) → first_fault n (leaf_places depth earlier ms) ≡ first_fault n (leaf_places depth others ms)
+  same_leaf_fault earlier others same [] n = refl
+  same_leaf_fault earlier others same (m ∷ ms) n =
+      ap (λ o. option_or o (first_fault (n + 1) (leaf_places depth (name_of m ∷ earlier) ms))) (same_one_fault earlier others same m n)
+      ∙ ap (option_or (fault_at n (place depth others m))) (same_leaf_fault (name_of m ∷ earlier) (name_of m ∷ others) (more_same earlier others same (name_of m)) ms (n + 1))
+
+  same_fault : (earlier others : List (List ℕ)) → AreSameNames earlier others → (ms : Members) (n : ℕ) → first_fault n (places depth earlier ms) ≡ first_fault n (places depth others ms)
+  same_fault earlier others same no_members n = refl
+  same_fault earlier others same (member m ms) n =
+      let parts = part_places (depth + 1) m in
+      ap (λ o. option_or o (first_fault (n + 1) (parts ++ places depth (name_of m ∷ earlier) ms))) (same_one_fault earlier others same m n)
+      ∙ ap (option_or (fault_at n (place depth others m)))
+      (first_fault-append (n + 1) parts (places depth (name_of m ∷ earlier) ms)
+      ∙ ap (option_or (first_fault (n + 1) parts)) (same_fault (name_of m ∷ earlier) (name_of m ∷ others) (more_same earlier others same (name_of m)) ms (n + 1 + length parts))
+      ∙ sym (first_fault-append (n + 1) parts (places depth (name_of m ∷ others) ms)))
+
 -- one place
 one-fine : (p : Place) (n : ℕ) → fault_at n p ≡ None → Judges (p ∷ []) n (Ok (n + 1))
 one-fine p n none = (refl, ap (λ o. option_or o None) none)
@@ -39,9 +71,10 @@ one-bad p n e (inr fault) = inr (ap (λ o. option_or o None) fault)
 
 -- one member that has no parts
 pub leaf-more : (depth n : ℕ) (earlier later : List (List ℕ)) (m : Member) (ms : List Member) (r : Result ℕ Unfit)
-    → (later ≡ name_of m ∷ earlier) × (fault_at n (place depth earlier m) ≡ None) → Judges (leaf_places depth later ms) (n + 1) r → Judges (leaf_places depth earlier (m ∷ ms)) n r
+    → HasAlso earlier (name_of m) later × (fault_at n (place depth earlier m) ≡ None) → Judges (leaf_places depth later ms) (n + 1) r → Judges (leaf_places depth earlier (m ∷ ms)) n r
 leaf-more depth n earlier later m ms r (is, fine) rest =
-    judged-append (place depth earlier m ∷ []) (leaf_places depth (name_of m ∷ earlier) ms) n (n + 1) r (one-fine (place depth earlier m) n fine) (rw is at rest)
+    judged-append (place depth earlier m ∷ []) (leaf_places depth (name_of m ∷ earlier) ms) n (n + 1) r (one-fine (place depth earlier m) n fine)
+    (judged-same (leaf_places depth later ms) (leaf_places depth (name_of m ∷ earlier) ms) (n + 1) r (length-leaf_places depth later ms ∙ sym (length-leaf_places depth (name_of m ∷ earlier) ms)) (same_leaf_fault depth later (name_of m ∷ earlier) is ms (n + 1)) rest)
 
 pub leaf-bad : (depth n : ℕ) (earlier : List (List ℕ)) (m : Member) (ms : List Member) (e : Unfit)
     → (e ≡ Memory) ⊎ (fault_at n (place depth earlier m) ≡ Some e) → Judges (leaf_places depth earlier (m ∷ ms)) n (Err e)
@@ -50,11 +83,12 @@ leaf-bad depth n earlier m ms e bad =
 
 -- one member and its parts
 pub level-more : (depth n k : ℕ) (earlier later : List (List ℕ)) (m : Member) (ms : Members) (r : Result ℕ Unfit)
-    → (later ≡ name_of m ∷ earlier) × (fault_at n (place depth earlier m) ≡ None) → Judges (part_places (depth + 1) m) (n + 1) (Ok k)
+    → HasAlso earlier (name_of m) later × (fault_at n (place depth earlier m) ≡ None) → Judges (part_places (depth + 1) m) (n + 1) (Ok k)
     → Judges (places depth later ms) k r → Judges (places depth earlier (member m ms)) n r
 level-more depth n k earlier later m ms r (is, fine) parts rest =
     judged-append (place depth earlier m ∷ []) (part_places (depth + 1) m ++ places depth (name_of m ∷ earlier) ms) n (n + 1) r (one-fine (place depth earlier m) n fine)
-    (judged-append (part_places (depth + 1) m) (places depth (name_of m ∷ earlier) ms) (n + 1) k r parts (rw is at rest))
+    (judged-append (part_places (depth + 1) m) (places depth (name_of m ∷ earlier) ms) (n + 1) k r parts
+    (judged-same (places depth later ms) (places depth (name_of m ∷ earlier) ms) k r (length-places ms depth later ∙ sym (length-places ms depth (name_of m ∷ earlier))) (same_fault depth later (name_of m ∷ earlier) is ms k) rest))
 
 pub level-bad_member : (depth n : ℕ) (earlier : List (List ℕ)) (m : Member) (ms : Members) (e : Unfit)
     → (e ≡ Memory) ⊎ (fault_at n (place depth earlier m) ≡ Some e) → Judges (places depth earlier (member m ms)) n (Err e)
@@ -62,7 +96,7 @@ level-bad_member depth n earlier m ms e bad =
     judged-stop (place depth earlier m ∷ []) (part_places (depth + 1) m ++ places depth (name_of m ∷ earlier) ms) n e (one-bad (place depth earlier m) n e bad)
 
 pub level-bad_part : (depth n : ℕ) (earlier later : List (List ℕ)) (m : Member) (ms : Members) (e : Unfit)
-    → (later ≡ name_of m ∷ earlier) × (fault_at n (place depth earlier m) ≡ None) → Judges (part_places (depth + 1) m) (n + 1) (Err e) → Judges (places depth earlier (member m ms)) n (Err e)
+    → HasAlso earlier (name_of m) later × (fault_at n (place depth earlier m) ≡ None) → Judges (part_places (depth + 1) m) (n + 1) (Err e) → Judges (places depth earlier (member m ms)) n (Err e)
 level-bad_part depth n earlier later m ms e (is, fine) bad =
     judged-append (place depth earlier m ∷ []) (part_places (depth + 1) m ++ places depth (name_of m ∷ earlier) ms) n (n + 1) (Err e) (one-fine (place depth earlier m) n fine)
     (judged-stop (part_places (depth + 1) m) (places depth (name_of m ∷ earlier) ms) (n + 1) e bad)

@@ -3,8 +3,10 @@ pub mod Faults
 pub mod Rules
 pub mod Escapes
 pub mod Counting
-pub mod LevelNames
+pub mod NameSets
 pub mod Judging
 pub mod Whole
 pub mod Found
 pub mod Numbering
+pub mod Preorder
+pub mod PreorderPlaces

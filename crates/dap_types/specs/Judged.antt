@@ -2,6 +2,7 @@
 use Rattle.std.specs.Prelude.{◌≡◌, ℕ, ◌+◌, ◌⊎◌, Bool, List, [], ◌∷◌, length, nat_eq, Some, None, Result, Ok, Err}
 use Rattle.std.specs.Cmp.Lexicographic.{pointwise}
 use Rattle.dap_types.specs.Model.{Member, scalar, array, structure, grid, sequence, Members, no_members, name_of, sizes}
+use Rattle.dap_types.specs.NameSet.{HasAlso}
 use Rattle.dap_types.specs.WellFormed.{Place, place, fault_at, first_fault}
 use Rattle.dap_types.specs.declared.declarations.ArrayDecl.{ArrayDecl}
 use Rattle.dap_types.specs.declared.unfit.Unfit.{Unfit}
@@ -12,9 +13,9 @@ abbrev pub Judges : List Place → ℕ → Result ℕ Unfit → Type 0
 Judges ps n (Ok next) = (next ≡ n + length ps) × (first_fault n ps ≡ None)
 Judges ps n (Err e) = (e ≡ Memory) ⊎ (first_fault n ps ≡ Some e)
 
--- one member, whose name is then one of its level
+-- one member, given the names before it on its level, in any order; its name is then one of them
 abbrev pub JudgesOne : ℕ → ℕ → List (List ℕ) → Member → List (List ℕ) → Result (Unit {0}) Unfit → Type 0
-JudgesOne n depth earlier m later (Ok u) = (later ≡ name_of m ∷ earlier) × (fault_at n (place depth earlier m) ≡ None)
+JudgesOne n depth earlier m later (Ok u) = HasAlso earlier (name_of m) later × (fault_at n (place depth earlier m) ≡ None)
 JudgesOne n depth earlier m later (Err e) = (e ≡ Memory) ⊎ (fault_at n (place depth earlier m) ≡ Some e)
 
 -- a map for a dimension of a size, and for each dimension

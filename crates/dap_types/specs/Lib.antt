@@ -2,8 +2,10 @@ pub mod formers
 pub mod Held
 pub mod Lends
 pub mod Names
+pub mod NameSet
 pub mod Model
 pub mod View
 pub mod WellFormed
 pub mod Judged
 pub mod Numbered
+pub mod Preorder

@@ -7,11 +7,15 @@ ghost use Rattle.dap_types.specs.WellFormed.{IsWellFormed, number_of, part_paths
 use crate::{ArrayDecl, Column, Dataset, Decl, Id, Memory};
 use indexmap::IndexMap;
 use std::alloc::Global;
+use std::hash::{BuildHasherDefault, DefaultHasher};
+
+/// SipHash: names whose hashes are alike are found by trying names alone.
+type PathHash = BuildHasherDefault<DefaultHasher>;
 
 /// The numbers of a dataset's members by their whole paths.
 #[derive(Drop)]
 pub struct Index {
-    numbers: IndexMap<Vec<Id>, u32>,
+    numbers: IndexMap<Vec<Id>, u32, PathHash>,
 }
 
 impl Index {
@@ -21,7 +25,7 @@ impl Index {
         ensures { IfOk result (λ index. (path : List (List ℕ)) → number_in index path ≡ number_of (dataset_view dataset.now) path) }
     {
         let mut index = Index {
-            numbers: IndexMap::new(alloc),
+            numbers: IndexMap::with_hasher(alloc, BuildHasherDefault::new()),
         };
         add_level(alloc, &mut index, &[], 1, dataset.members.items())?;
         Ok(index)

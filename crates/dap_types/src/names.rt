@@ -1,16 +1,18 @@
-ghost use Rattle.std.specs.Prelude.{◌≡◌, [], ◌∷◌, ◌++◌, IfOk, OnErr, if◌then◌else◌, not};
+ghost use Rattle.std.specs.Prelude.{◌≡◌, [], IfOk, OnErr, OnOk, not};
 ghost use Rattle.std.specs.List.{list_any};
 ghost use Rattle.std.specs.Str.{bytes_eq};
+ghost use Rattle.dap_types.specs.NameSet.{HasAlso};
 
 use crate::{Id, Memory};
-use indexmap::IndexSet;
 use std::alloc::Global;
+use std::collections::BTreeSet;
 use std::marker::Model;
 
-/// Names of which no two are equal, in order, found by look-up. Contracts see their list.
+/// A set of names, which no choice of names slows down. Contracts see them in the order of their
+/// bytes.
 #[derive(Drop)]
 pub struct Names {
-    set: IndexSet<Id>,
+    set: BTreeSet<Id>,
 }
 
 impl Model for Names {
@@ -27,22 +29,24 @@ impl Names {
         ensures { result ≡ [] }
     {
         Names {
-            set: IndexSet::new(alloc),
+            set: BTreeSet::new(alloc),
         }
     }
 
     /// Whether the name is one of them. Takes no memory.
+    #[tactic(auto, using(crate::proofs::NameSets::in_order))]
     pub fn has(&self, name: &Id) -> bool
         ensures { result ≡ list_any (bytes_eq name.now) self.now }
     {
         self.set.contains(name)
     }
 
-    /// Puts a name behind the others and answers true, or false where it is one of them. Where
-    /// memory is wanted they are as before.
+    /// Adds a name and answers true, or false where it is one of them. Where memory is wanted they
+    /// are as before.
+    #[tactic(auto, using(crate::proofs::NameSets::in_order))]
     pub fn insert(&mut self, name: &Id) -> Result<bool, Memory>
         ensures is_new { IfOk result (λ is_new. is_new ≡ not (list_any (bytes_eq name.now) self.old)) }
-        ensures names { IfOk result (λ is_new. self.new ≡ (if is_new then self.old ++ name.now ∷ [] else self.old)) }
+        ensures names { OnOk result (HasAlso self.old name.now self.new) }
         ensures err { OnErr result (self.new ≡ self.old) }
     {
         Ok(self.set.insert(name.try_clone()?)?)

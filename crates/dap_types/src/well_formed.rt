@@ -1,4 +1,4 @@
-ghost use Rattle.std.specs.Prelude.{◌≡◌, ◌+◌, ◌<◌, ◌≤◌, ◌^◌, ◌⊎◌, ℕ, Bool, [], ◌∷◌, ◌++◌, length, None, Some, map, nat_le, reverse, OnOk, IfErr, MatchResult};
+ghost use Rattle.std.specs.Prelude.{◌≡◌, ◌+◌, ◌<◌, ◌≤◌, ◌^◌, ◌⊎◌, ℕ, Bool, [], ◌∷◌, ◌++◌, length, None, Some, map, nat_le, OnOk, IfErr, MatchResult};
 ghost use Rattle.std.specs.List.{list_all};
 ghost use Rattle.dap_types.specs.Judged.{Judges, JudgesOne, are_mapped, is_mapped};
 ghost use Rattle.dap_types.specs.Model.{Member, array, count, count_all, name_of, scalar};
@@ -115,7 +115,7 @@ fn check_columns(alloc: Global, first: u32, depth: u32, columns: &[Column]) -> R
 
 /// Judges one member without its parts.
 fn check_member(names: &mut Names, number: u32, depth: u32, decl: &Decl) -> Result<(), Unfit>
-    ensures { JudgesOne number depth (reverse names.old) (member_view decl.now) (reverse names.new) result }
+    ensures { JudgesOne number depth names.old (member_view decl.now) names.new result }
 {
     let is_sized = has_sizes(decl);
     let is_mapped = has_maps(decl);
@@ -143,7 +143,6 @@ fn has_maps(decl: &Decl) -> bool
 }
 
 /// Judges one member without its parts, by its name and what is known of its sizes and maps.
-#[tactic(auto, using(crate::proofs::LevelNames::met))]
 fn check_one(
     names: &mut Names,
     number: u32,
@@ -152,7 +151,7 @@ fn check_one(
     is_sized: bool,
     is_mapped: bool,
 ) -> Result<(), Unfit>
-    ensures { (m : Member) → name_of m ≡ name.now → has_sizes m ≡ is_sized → has_maps m ≡ is_mapped → JudgesOne number depth (reverse names.old) m (reverse names.new) result }
+    ensures { (m : Member) → name_of m ≡ name.now → has_sizes m ≡ is_sized → has_maps m ≡ is_mapped → JudgesOne number depth names.old m names.new result }
 {
     if depth > DEEPEST {
         return Err(Unfit::TooDeep { member: number });

@@ -1,4 +1,4 @@
-use Rattle.std.proofs.Common.{[], Ok, Err, map, refl, sym, arith, reverse}
+use Rattle.std.proofs.Common.{[], Ok, Err, map, refl, sym, arith}
 use Rattle.std.proofs.lemmas.Result.{err_from_is_err_and}
 use Rattle.dap_types.proofs.Judging.{leaf-more, leaf-bad, walk-more, walk-bad, walk-end}
 use Rattle.dap_types.specs.Model.{array}
@@ -13,7 +13,7 @@ returns-in_err-check_one c =
 pub loop-map-init : goal.loop-map-init
 loop-map-init c = record {
   counted = omega arith;
-  judged = λ r more. leaf-more c.args.depth c.args.first _ (reverse c.check_one.new.names) (array c.args.array.now) (map array c.args.maps.now) r
+  judged = λ r more. leaf-more c.args.depth c.args.first _ c.check_one.new.names (array c.args.array.now) (map array c.args.maps.now) r
       (rw c.new-names.ensures at (c.in_ok-check_one.ensures (array c.args.array.now) refl (sym c.is_in_bounds.ensures) refl)) more;
 }
 
@@ -21,17 +21,17 @@ pub returns-in_err-check_one-2 : goal.returns-in_err-check_one-2
 returns-in_err-check_one-2 c =
     let p = err_from_is_err_and c.from_residual-in_err-check_one-2.result c.from_residual-in_err-check_one-2.ensures.1 in
     rw (p.1, p.2) (c.loop-map.invariant.judged (Err c.in_err-check_one-2.field-0.0)
-    (walk-bad array c.args.maps.now c.loop-map.map-index c.args.depth c.loop-map.number (reverse c.loop-map.names) c.map-item.result _ c.loop-map-test.true c.map-item.is
+    (walk-bad array c.args.maps.now c.loop-map.map-index c.args.depth c.loop-map.number c.loop-map.names c.map-item.result _ c.loop-map-test.true c.map-item.is
     (c.in_err-check_one-2.ensures (array c.map-item.result) refl (sym c.is_in_bounds-in-loop-map.ensures) refl)))
 
 pub loop-map-preserved : goal.loop-map-preserved
 loop-map-preserved c = record {
   counted = omega (arith, c.loop-map.invariant.counted);
   judged = λ r more. c.loop-map.invariant.judged r
-      (walk-more array c.args.maps.now c.loop-map.map-index c.args.depth c.loop-map.number (reverse c.loop-map.names) c.map-item.result (reverse c.check_one-in-loop-map.new.names) r c.loop-map-test.true c.map-item.is
+      (walk-more array c.args.maps.now c.loop-map.map-index c.args.depth c.loop-map.number c.loop-map.names c.map-item.result c.check_one-in-loop-map.new.names r c.loop-map-test.true c.map-item.is
       (c.in_ok-check_one-2.ensures (array c.map-item.result) refl (sym c.is_in_bounds-in-loop-map.ensures) refl) more);
 }
 
 pub returns : goal.returns
 returns c = c.loop-map.invariant.judged (Ok c.loop-map.number)
-    (walk-end array c.args.maps.now c.loop-map.map-index c.args.depth c.loop-map.number (reverse c.loop-map.names) c.loop-map-test.false)
+    (walk-end array c.args.maps.now c.loop-map.map-index c.args.depth c.loop-map.number c.loop-map.names c.loop-map-test.false)

@@ -20,5 +20,5 @@ add_level-requires c =
 pub returns : goal.returns
 returns c = λ path.
     c.in_ok-add_level.ensures.1 path
-    ∙ ap (λ es. option_or (lookup (λ k. pointwise bytes_eq path k.items) es) (position_from (pointwise bytes_eq path) 1 (under [] (paths (members_view c.items.result.now))))) c.new.ensures.empty
+    ∙ ap (λ es. option_or (lookup (λ k. pointwise bytes_eq path k.items) es) (position_from (pointwise bytes_eq path) 1 (under [] (paths (members_view c.items.result.now))))) c.with_hasher.ensures.empty
     ∙ ap (position_from (pointwise bytes_eq path) 1) (under-top (paths (members_view c.items.result.now)) ∙ ap (λ l. paths (members_view l)) c.items.ensures)
