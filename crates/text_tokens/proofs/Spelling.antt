@@ -15,7 +15,7 @@ Spelled signs text (t ∷ ts) rest =
 abbrev pub ReadsAll : List ℕ → List ℕ → ℕ → List Token → List ℕ → Type 0
 ReadsAll signs text at ts rest = (placed : List Placed) × (to : ℕ) × (map (λ p. p.token) placed ≡ ts) × Reads signs text at placed to × (drop to text ≡ rest)
 
-first_is : (signs before text white more : List ℕ) (t : Token) → IsTrue (list_all is_white white) → IsTrue (is_token signs t) → IsTrue (is_whole signs t more) → text ≡ white ++ (token_bytes t ++ more)
+pub first_is : (signs before text white more : List ℕ) (t : Token) → IsTrue (list_all is_white white) → IsTrue (is_token signs t) → IsTrue (is_whole signs t more) → text ≡ white ++ (token_bytes t ++ more)
     → Next signs (before ++ text) (length before) (length before + length white) (length (before ++ (white ++ token_bytes t))) t
 first_is signs before text white more t w ok wh e = record {
   white = white;

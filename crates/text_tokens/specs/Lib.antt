@@ -1,2 +1,4 @@
 pub mod Kinds
+pub mod Languages
+pub mod Machines
 pub mod Tokens

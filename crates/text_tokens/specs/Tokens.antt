@@ -76,3 +76,7 @@ pub record NoToken (signs rest : List ℕ) : Type 0 where
 abbrev pub Reads : List ℕ → List ℕ → ℕ → List Placed → ℕ → Type 0
 Reads signs text at [] to = to ≡ at
 Reads signs text at (t ∷ tokens) to = (behind : ℕ) × Next signs text at t.place behind t.token × Reads signs text behind tokens to
+
+-- these are the whole tokens of the text
+abbrev pub AreTokens : List ℕ → List ℕ → List Placed → Type 0
+AreTokens signs text tokens = (to : ℕ) × Reads signs text 0 tokens to × NoToken signs (drop to text)

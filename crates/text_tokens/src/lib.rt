@@ -3,6 +3,9 @@
 //! is whole, and what stands where none is left.
 #![tactic(auto)]
 
+mod laws;
 mod tokens;
+mod values;
 
+pub use laws::whole_tokens;
 pub use tokens::{Kind, Token, next_token, white_end};
