@@ -1,5 +1,4 @@
 pub mod Judged
-pub mod Passing
 pub mod Rows
 pub mod Tables
 pub mod Taken

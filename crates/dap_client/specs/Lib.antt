@@ -1,4 +1,3 @@
-pub mod Buffered
 pub mod Gathered
 pub mod Lines
 pub mod Showing

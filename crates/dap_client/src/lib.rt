@@ -4,7 +4,6 @@
 #![tactic(auto)]
 
 mod body;
-mod buffer;
 mod elements;
 mod gather;
 mod outcome;

@@ -1,6 +1,6 @@
 ghost use Rattle.std.specs.Prelude.{◌≡◌, [], map, OnErr, OnOk};
 ghost use Rattle.std.specs.Io.KnownBytes.{Appends};
-ghost use Rattle.dap_client.specs.Buffered.{Puts};
+ghost use Rattle.dap_outside.specs.Buffered.{Puts};
 ghost use Rattle.dap_client.specs.Lines.{IsTable};
 ghost use Rattle.dap_client.specs.Showing.{IsShowing};
 ghost use Rattle.dap_client.specs.Shows.{OnWriteFault};
@@ -11,7 +11,7 @@ ghost use Rattle.dap_outside.specs.Streams.{AppendsFront};
 ghost use Rattle.dap_types.specs.View.{dataset_view, members_view, tree_view};
 
 use crate::Outcome;
-use crate::buffer::Buffer;
+use dap_outside::Buffer;
 use crate::elements::put_elements;
 use crate::values::put_number;
 use dap_outside::{Failed, Sink};

@@ -1,11 +1,11 @@
 ghost use Rattle.std.specs.Prelude.{◌≡◌, ◌<◌, ◌≤◌, [], ◌∷◌, ◌++◌, codes, IsTrue, IfOk, OnErr, length, take};
 ghost use Rattle.std.specs.Fmt.{decimal, signed_decimal};
 ghost use Rattle.std.specs.List.{flat_map};
-ghost use Rattle.dap_client.specs.Buffered.{Passes, PassesFront, Puts};
+ghost use Rattle.dap_outside.specs.Buffered.{Passes, PassesFront, Puts};
 ghost use Rattle.dap_model.specs.Shown.{hex, shown_byte, shown_value};
 ghost use Rattle.dap_outside.specs.Causes.{HasCause};
 
-use crate::buffer::Buffer;
+use dap_outside::Buffer;
 use dap_outside::{Failed, Sink};
 use dap_types::Value;
 use text_lines::hex_digit;

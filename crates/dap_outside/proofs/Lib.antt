@@ -1,3 +1,6 @@
+pub mod ToldBack
 pub mod FirstNamed
-pub mod Transfers
 pub mod Fronts
+pub mod Passing
+pub mod Telling
+pub mod Transfers

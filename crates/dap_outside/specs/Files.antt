@@ -1,5 +1,5 @@
 -- What a shelf tells of its files.
-use Rattle.std.specs.Prelude.{◌≡◌, ℕ, List, length, take, drop, Option, Some, None, ⊤}
+use Rattle.std.specs.Prelude.{◌≡◌, ◌<◌, ℕ, All, List, length, take, drop, Option, Some, None, ⊤}
 
 -- the files by name, where a shelf tells them
 abbrev pub Told : Type 0
@@ -21,3 +21,7 @@ HasSize (Some bytes) size = size ≡ length bytes
 abbrev pub Reads : Option (List ℕ) → ℕ → List ℕ → Type 0
 Reads None at into = ⊤
 Reads (Some bytes) at into = into ≡ take (length into) (drop at bytes)
+
+-- each number is that of a byte
+abbrev pub IsBytes : List ℕ → Type 0
+IsBytes bytes = All (λ byte. byte < 256) bytes

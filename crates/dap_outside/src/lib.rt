@@ -3,7 +3,16 @@
 //! shelf, source and sink.
 #![tactic(auto)]
 
+mod buffer;
+mod calls;
+mod dial;
+mod door;
 mod failed;
+pub mod laws;
+mod link;
+mod memory_dial;
+mod memory_door;
+mod memory_link;
 mod memory_shelf;
 mod memory_sink;
 mod memory_source;
@@ -12,8 +21,17 @@ mod shelf;
 mod streams;
 mod sure_shelf;
 mod sure_source;
+#[cfg(test)]
+mod tests;
 
+pub use buffer::Buffer;
+pub use dial::Dial;
+pub use door::Door;
 pub use failed::Failed;
+pub use link::Link;
+pub use memory_dial::MemDial;
+pub use memory_door::MemDoor;
+pub use memory_link::MemLink;
 pub use memory_shelf::{MemFile, MemShelf};
 pub use memory_sink::MemSink;
 pub use memory_source::MemSource;

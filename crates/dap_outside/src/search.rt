@@ -1,6 +1,7 @@
 ghost use Rattle.std.specs.Prelude.{◌≡◌, ◌≤◌, ◌<◌, ◌+◌, ◌^◌, ℕ, List, Some, None, length, MatchOption};
-ghost use Rattle.dap_outside.specs.Files.{HasSize, Reads};
+ghost use Rattle.dap_outside.specs.Files.{HasSize, IsBytes, Reads};
 ghost use Rattle.dap_outside.specs.MemShelf.{bytes_at, bytes_named, name_at, size_at};
+ghost use Rattle.dap_outside.specs.Stored.{AreBytes};
 
 use crate::MemFile;
 
@@ -40,3 +41,16 @@ pub fn fill_from(files: &[MemFile], place: usize, at: u64, into: &mut [u8])
         into.copy_from_slice(&found.bytes.bytes()[from..from + into.len()]);
     }
 }
+
+/// What the files hold are bytes. It looks at each file once, and at none of its bytes.
+pub fn see_bytes(files: &[MemFile])
+    ensures { AreBytes files.now }
+{
+    for file in files {
+        are_bytes(file.bytes.bytes());
+    }
+}
+
+fn are_bytes(bytes: &[u8])
+    ensures { IsBytes bytes.now }
+{}

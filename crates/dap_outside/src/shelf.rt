@@ -1,6 +1,6 @@
-ghost use Rattle.std.specs.Prelude.{◌≡◌, ◌≤◌, ◌<◌, ◌+◌, ◌^◌, ℕ, List, Option, length, max, IfOk, OnOk, OnErr};
+ghost use Rattle.std.specs.Prelude.{◌≡◌, ◌≤◌, ◌<◌, ◌+◌, ◌^◌, ℕ, List, Option, Some, length, max, IfOk, OnOk, OnErr};
 ghost use Rattle.dap_outside.specs.Causes.{HasCause, more_asked};
-ghost use Rattle.dap_outside.specs.Files.{Told, Finds, HasSize, Reads};
+ghost use Rattle.dap_outside.specs.Files.{Told, Finds, HasSize, Reads, IsBytes};
 
 use crate::Failed;
 
@@ -61,4 +61,9 @@ pub trait Shelf {
         ensures asked { asked self.new ≡ more_asked (asked self.old) (length into.old) }
         ensures greatest { greatest self.new ≡ max (greatest self.old) (length into.old) }
         ensures cause { HasCause (faults self.old) (faults self.new) result };
+
+    /// What it tells of its files are bytes.
+    ghost files_are_bytes: { (s : Self) (named : List ℕ → Option (List ℕ)) (name bytes : List ℕ) → files s ≡ Some named → named name ≡ Some bytes → IsBytes bytes };
+
+    ghost content_is_bytes: { (s : Self) (file : Self.File) (bytes : List ℕ) → content s file ≡ Some bytes → IsBytes bytes };
 }

@@ -1,6 +1,7 @@
 ghost use Rattle.std.specs.Prelude.{◌≡◌, ◌≤◌, ◌<◌, ℕ, List, Some, Option, length};
+ghost use Rattle.dap_outside.specs.Stored.{AreBytes};
 
-use crate::search::{fill_from, place_named, size_of_entry};
+use crate::search::{fill_from, place_named, see_bytes, size_of_entry};
 use crate::{Failed, MemFile, Shelf};
 use dap_types::List;
 
@@ -10,6 +11,7 @@ pub struct SureShelf {
     files: List<MemFile>,
     asked: u128,
     greatest: u64,
+    ghost bytes: { AreBytes files },
 }
 
 impl SureShelf {
@@ -21,6 +23,7 @@ impl SureShelf {
         ensures asked { ⟦<SureShelf as Shelf>⟧.asked result ≡ 0 }
         ensures greatest { ⟦<SureShelf as Shelf>⟧.greatest result ≡ 0 }
     {
+        see_bytes(files.items());
         SureShelf {
             files,
             asked: 0,
@@ -32,6 +35,7 @@ impl SureShelf {
 impl Shelf for SureShelf {
     ghost use Rattle.std.specs.Prelude.{Some};
     ghost use Rattle.dap_outside.specs.MemShelf.{bytes_named, bytes_at, name_at, size_at};
+    ghost use Rattle.dap_outside.specs.inner.BytesFit.{all_named_fit, at_fit};
 
     type File = usize;
 
@@ -48,6 +52,10 @@ impl Shelf for SureShelf {
     ghost asked = { λ s. s.asked };
 
     ghost greatest = { λ s. s.greatest };
+
+    ghost files_are_bytes = { λ s files name bytes. all_named_fit s.files files name bytes s.bytes };
+
+    ghost content_is_bytes = { λ s file bytes. at_fit s.files file bytes s.bytes };
 
     fn find(&mut self, name: &str) -> Result<Option<usize>, Failed> {
         Ok(place_named(self.files.items(), name))

@@ -1,4 +1,4 @@
-ghost use Rattle.std.specs.Prelude.{◌≡◌, ◌≤◌, ◌<◌, ℕ, Some, length, false, Bool, IsTrue};
+ghost use Rattle.std.specs.Prelude.{◌≡◌, ◌≤◌, ◌<◌, ◌++◌, ◌↔◌, ℕ, Some, length, min, take, drop, false, Bool, IfOk, IsOk, IsTrue};
 
 use crate::{Failed, Source};
 use dap_types::Bytes;
@@ -37,6 +37,7 @@ impl Source for SureSource {
     ghost use Rattle.std.specs.Prelude.{ℕ, List, Some, drop, take};
     ghost use Rattle.std.proofs.Common.{sym, take-append-drop, arith};
     ghost use Rattle.std.proofs.lemmas.List.{drop_all};
+    ghost use Rattle.dap_outside.specs.MemSources.{sure_left};
 
     ghost Rest = { ℕ };
 
@@ -54,7 +55,17 @@ impl Source for SureSource {
 
     ghost ended_empty = { λ s e. drop_all s.at s.bytes (Prim.omega (arith, s.at_end e)) };
 
-    fn take(&mut self, into: &mut [u8]) -> Result<usize, Failed> {
+    /// Takes from the front as much as fits, at most a piece.
+    fn take(&mut self, into: &mut [u8]) -> Result<usize, Failed>
+        requires { 0 < length into.old }
+        ensures sure { IsOk result }
+        ensures count { IfOk result (λ n. n ≡ min (min (length (sure_left self.old)) (length into.old)) self.old.piece) }
+        ensures bytes { IfOk result (λ n. sure_left self.old ≡ take n into.new ++ sure_left self.new) }
+        ensures end { IfOk result (λ n. (n ≡ 0) ↔ IsTrue self.new.ended) }
+        ensures stays { IsTrue self.old.ended → IsTrue self.new.ended }
+        ensures whole { self.new.bytes ≡ self.old.bytes }
+        ensures piece { self.new.piece ≡ self.old.piece }
+    {
         let left = &self.bytes.bytes()[self.at..];
         let count = left.len().min(into.len()).min(self.piece as usize);
         into[..count].copy_from_slice(&left[..count]);

@@ -1,4 +1,4 @@
-use Rattle.dap_client.proofs.Passing.{puts_as}
+use Rattle.dap_outside.proofs.Passing.{puts_as}
 use Rattle.dap_client.proofs.Rows.{not-many, text-of-one}
 use Rattle.dap_client.proofs.elements.put_cell_value.Goals as goal
 

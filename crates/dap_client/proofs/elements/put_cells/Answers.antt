@@ -1,5 +1,5 @@
 use Rattle.std.proofs.Common.{◌<◌, ◌∙◌, arith, length}
-use Rattle.dap_client.proofs.Passing.{puts_failed, way_ends, way_failed, way_more}
+use Rattle.dap_outside.proofs.Passing.{puts_failed, way_ends, way_failed, way_more}
 use Rattle.dap_client.proofs.Rows.{cell-one, cells-end, cells-here, cells-many}
 use Rattle.dap_client.proofs.elements.put_cells.Goals as goal
 

@@ -1,4 +1,4 @@
-use Rattle.dap_client.proofs.Passing.{front_first, front_second, passes_two, puts_failed, puts_two}
+use Rattle.dap_outside.proofs.Passing.{front_first, front_second, passes_two, puts_failed, puts_two}
 use Rattle.std.proofs.Common.{◌++◌, codes}
 use Rattle.dap_model.specs.Shown.{index_text}
 use Rattle.dap_client.proofs.elements.put_path.Goals as goal

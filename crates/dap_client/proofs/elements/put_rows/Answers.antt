@@ -1,5 +1,5 @@
 use Rattle.std.proofs.Common.{◌∙◌, arith}
-use Rattle.dap_client.proofs.Passing.{puts_failed, way_ends, way_failed, way_more}
+use Rattle.dap_outside.proofs.Passing.{puts_failed, way_ends, way_failed, way_more}
 use Rattle.dap_client.proofs.Rows.{row-fits, rows-end, rows-here}
 use Rattle.dap_client.proofs.elements.put_rows.Goals as goal
 

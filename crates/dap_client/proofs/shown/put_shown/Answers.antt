@@ -1,4 +1,4 @@
-use Rattle.dap_client.proofs.Passing.{front_first, front_second, passes_two, puts_failed, puts_two}
+use Rattle.dap_outside.proofs.Passing.{front_first, front_second, passes_two, puts_failed, puts_two}
 use Rattle.std.proofs.Common.{◌++◌, [], codes, map}
 use Rattle.std.specs.Fmt.{decimal}
 use Rattle.std.specs.List.{flat_map}

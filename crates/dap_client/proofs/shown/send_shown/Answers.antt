@@ -1,4 +1,4 @@
-use Rattle.dap_client.proofs.Passing.{sent_or_stopped}
+use Rattle.dap_outside.proofs.Passing.{sent_or_stopped}
 use Rattle.dap_client.proofs.shown.send_shown.Goals as goal
 
 pub returns-clause-err : goal.returns-clause-err

@@ -1,5 +1,5 @@
 use Rattle.std.proofs.Common.{sym}
-use Rattle.dap_client.proofs.Passing.{front_as, front_first, puts_as, puts_failed, puts_two}
+use Rattle.dap_outside.proofs.Passing.{front_as, front_first, puts_as, puts_failed, puts_two}
 use Rattle.text_lines.proofs.Hex.{hex-more}
 use Rattle.dap_client.proofs.values.+put_hex.Goals as goal
 

@@ -1,6 +1,6 @@
 use Rattle.std.proofs.Common.{codes}
 use Rattle.dap_model.specs.Shown.{hex}
-use Rattle.dap_client.proofs.Passing.{front_first, puts_failed, puts_two}
+use Rattle.dap_outside.proofs.Passing.{front_first, puts_failed, puts_two}
 use Rattle.dap_client.proofs.values.put_bits.Goals as goal
 
 pub returns-in_err-put-clause-puts : goal.returns-in_err-put-clause-puts

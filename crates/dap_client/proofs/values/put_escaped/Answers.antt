@@ -1,6 +1,6 @@
 use Rattle.std.proofs.Common.{arith, sym, ◌∙◌}
 use Rattle.dap_outside.proofs.Transfers.{part_within}
-use Rattle.dap_client.proofs.Passing.{front_as, front_second, passes_as, passes_two, puts_failed}
+use Rattle.dap_outside.proofs.Passing.{front_as, front_second, passes_as, passes_two, puts_failed}
 use Rattle.dap_client.proofs.Texts.{part-rest, shown-more, shown-parts}
 use Rattle.dap_client.proofs.values.put_escaped.Goals as goal
 

@@ -1,7 +1,7 @@
 use Rattle.std.proofs.Common.{◌++◌, codes}
 use Rattle.std.specs.List.{flat_map}
 use Rattle.dap_model.specs.Shown.{shown_byte}
-use Rattle.dap_client.proofs.Passing.{front_first, front_second, passes_two, puts_failed, puts_two}
+use Rattle.dap_outside.proofs.Passing.{front_first, front_second, passes_two, puts_failed, puts_two}
 use Rattle.dap_client.proofs.values.put_quoted.Goals as goal
 
 pub returns-in_err-put-clause-puts : goal.returns-in_err-put-clause-puts

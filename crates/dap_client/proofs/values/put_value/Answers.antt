@@ -1,6 +1,6 @@
 use Rattle.std.proofs.Common.{ap, sym}
 use Rattle.dap_model.specs.Shown.{shown_value}
-use Rattle.dap_client.proofs.Passing.{puts_as}
+use Rattle.dap_outside.proofs.Passing.{puts_as}
 use Rattle.dap_client.proofs.values.put_value.Goals as goal
 
 pub returns-in-Bits64-clause-puts : goal.returns-in-Bits64-clause-puts

@@ -5,7 +5,7 @@ use Rattle.std.specs.Io.KnownBytes.{Appends}
 use Rattle.std.specs.Prelude.{IsErr}
 use Rattle.dap_outside.proofs.Fronts.{front_of, front_more}
 use Rattle.dap_outside.specs.Streams.{AppendsFront}
-use Rattle.dap_client.specs.Buffered.{Passes, PassesFront, Puts}
+use Rattle.dap_outside.specs.Buffered.{Passes, PassesFront, Puts}
 
 appends_none : (w : Option (List ℕ)) → Appends w w []
 appends_none None = tt

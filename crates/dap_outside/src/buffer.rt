@@ -1,10 +1,10 @@
 ghost use Rattle.std.specs.Prelude.{◌≡◌, ◌≤◌, ◌+◌, ℕ, [], ◌++◌, length, IfOk, OnErr, OnOk, vec_len, vec_capacity};
 ghost use Rattle.std.specs.Io.KnownBytes.{Appends};
-ghost use Rattle.dap_client.specs.Buffered.{Puts};
+ghost use Rattle.dap_outside.specs.Buffered.{Puts};
 ghost use Rattle.dap_outside.specs.Causes.{HasCause};
 ghost use Rattle.dap_outside.specs.Streams.{AppendsFront};
 
-use dap_outside::{Failed, Sink, put_all};
+use crate::{Failed, Sink, put_all};
 use dap_types::Memory;
 use std::alloc::Global;
 
@@ -14,7 +14,7 @@ const ROOM: usize = 65536;
 /// Bytes on their way to a sink, at most 64 KiB. It takes memory only when it is made.
 #[derive(Debug, Drop)]
 pub struct Buffer {
-    pub(crate) bytes: Vec<u8>,
+    pub bytes: Vec<u8>,
     ghost within: { vec_len bytes ≤ 65536 },
     ghost reserved: { 65536 ≤ vec_capacity bytes },
 }
@@ -26,6 +26,13 @@ impl Buffer {
     {
         let bytes = Vec::with_capacity(alloc, ROOM)?;
         Ok(Buffer { bytes })
+    }
+
+    /// Forgets what it holds.
+    pub fn clear(&mut self)
+        ensures { self.new.bytes.items ≡ [] }
+    {
+        self.bytes.clear();
     }
 
     /// Sends what it holds.

@@ -1,5 +1,5 @@
-use Rattle.dap_client.proofs.Passing.{puts_sent}
-use Rattle.dap_client.proofs.buffer.Buffer.put.Goals as goal
+use Rattle.dap_outside.proofs.Passing.{puts_sent}
+use Rattle.dap_outside.proofs.buffer.Buffer.put.Goals as goal
 
 pub returns-then-text-gt-ROOM-clause-puts : goal.returns-then-text-gt-ROOM-clause-puts
 returns-then-text-gt-ROOM-clause-puts g c =
