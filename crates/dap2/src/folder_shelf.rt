@@ -111,6 +111,7 @@ fn fill<F: Read + Seek>(file: &mut F, at: u64, into: &mut [u8]) -> Result<(), Fa
 
 impl<'a, R: Files> Shelf for FolderShelf<'a, R> {
     ghost use Rattle.std.specs.Prelude.{None};
+    ghost use Rattle.std.proofs.lemmas.Option.{none-some};
 
     type File = Opened<R::File>;
 
@@ -127,6 +128,10 @@ impl<'a, R: Files> Shelf for FolderShelf<'a, R> {
     ghost asked = { λ s. s.asked };
 
     ghost greatest = { λ s. s.greatest };
+
+    ghost files_are_bytes = { λ s named name bytes e f. absurd (none-some named e) };
+
+    ghost content_is_bytes = { λ s file bytes e. absurd (none-some bytes e) };
 
     fn find(&mut self, name: &str) -> Result<Option<Opened<R::File>>, Failed> {
         match open_file(self.files, name) {

@@ -14,7 +14,7 @@ const ROOM: usize = 65536;
 /// Bytes on their way to a sink, at most 64 KiB. It takes memory only when it is made.
 #[derive(Debug, Drop)]
 pub struct Buffer {
-    pub bytes: Vec<u8>,
+    bytes: Vec<u8>,
     ghost within: { vec_len bytes ≤ 65536 },
     ghost reserved: { 65536 ≤ vec_capacity bytes },
 }
