@@ -31,3 +31,5 @@ pub mod Counts
 pub mod Staying
 pub mod Values
 pub mod Whole
+pub mod EachSuits
+pub mod Picks
