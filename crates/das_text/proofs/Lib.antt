@@ -1,1 +1,11 @@
+pub mod Answered
+pub mod Complete
+pub mod EveryText
+pub mod Language
+pub mod OpenContainers
+pub mod ReadBack
+pub mod SameTokens
+pub mod Scanning
+pub mod Single
+pub mod Told
 pub mod Views

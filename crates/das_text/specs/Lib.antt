@@ -1,3 +1,11 @@
-pub mod Model
-pub mod View
 pub mod Das
+pub mod DdsTokens
+pub mod Grammar
+pub mod Held
+pub mod Machine
+pub mod Model
+pub mod Reading
+pub mod Refusals
+pub mod Standing
+pub mod View
+pub mod Words
