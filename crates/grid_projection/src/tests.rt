@@ -1,0 +1,6 @@
+mod causes;
+mod datasets;
+mod limits;
+mod marked;
+mod members;
+mod shapes;
