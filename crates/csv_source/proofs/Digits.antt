@@ -1,51 +1,84 @@
--- The number that a `-` or none and at most nine digits write.
-use Rattle.std.proofs.Common.{◌≡◌, ◌<◌, ◌^◌, ℕ, Bool, true, false, List, Option, Some, None, IsTrue, length, refl, sym, ◌∙◌, arith, to_z, of_z}
-use Rattle.std.specs.Prelude.{ℤ, pos, neg_ℤ, ◌-ℤ◌, ◌≤ℤ◌, ◌<ℤ◌, MatchOption, unwrap_or}
-use Rattle.std.specs.Int.{w64}
-use Rattle.std.proofs.lemmas.Int.{ints}
-use Rattle.std.specs.Str.Parse.{digits_value, starts_with_minus}
-use Rattle.std.proofs.Math.Seq.{take-length}
-use Rattle.viable.specs.Numerals.{is_numeral}
-use Rattle.viable.proofs.Digits.{number_bound, numeral_digits, numeral_short}
-use Rattle.csv_source.specs.Plain.{digits_of, is_whole_cell, whole_of}
+-- The numbers that digits write.
+use Rattle.std.proofs.Common.{◌≡◌, ◌≤◌, ◌<◌, ◌^◌, ◌+◌, ◌*◌, ℕ, zero, suc, Bool, true, false, List, [], ◌∷◌, ◌++◌, length, take, refl, arith, add-one}
+use Rattle.std.specs.Prelude.{◌==◌, ◌&&◌}
+use Rattle.std.specs.Char.{is_ascii_digit, digit_value}
+use Rattle.std.specs.Int.{IsInRange}
+use Rattle.std.specs.List.{list_all}
+use Rattle.std.proofs.lemmas.Str.{digit_value_digit}
+use Rattle.std.specs.Str.Parse.{digits_value, digits_value_after}
+use Rattle.std.proofs.Math.Nat.{pow-suc}
+use Rattle.std.proofs.lemmas.Bool.Decides.{nat_tests}
+use Rattle.csv_source.specs.Cells.{are_digits, without_end_spaces, without_front_spaces}
 
--- a cell of whole numbers has at most nine digits
-pub whole-bound : (field : List ℕ) → is_whole_cell field ≡ true → digits_value 10 (digits_of field) < 1000000000
-unfolding is_whole_cell
-whole-bound field is =
-    let digits = numeral_digits 9 (digits_of field) is in
-    let short = numeral_short 9 (digits_of field) is in
-    rw (take-length (digits_of field)) at (number_bound (digits_of field) (length (digits_of field)) 9 digits short)
+-- more digits write no smaller number
+after-ge : (n : ℕ) (ds : List ℕ) → n ≤ digits_value_after 10 n ds
+after-ge n [] = omega arith
+after-ge n (d ∷ ds) = omega (arith, after-ge (n * 10 + digit_value d) ds)
 
--- the number that is found of it
-pub whole-found : (o : Option ℕ) (field : List ℕ) → is_whole_cell field ≡ true
-    → MatchOption o (is_numeral 9 (digits_of field) ≡ false) (λ n. IsTrue (is_numeral 9 (digits_of field)) × (n ≡ digits_value 10 (digits_of field))) → unwrap_or o 0 ≡ digits_value 10 (digits_of field)
-unfolding is_whole_cell
-whole-found None field is none = let no : false ≡ true = sym none ∙ is in cc no
-whole-found (Some n) field is some = some.1
+taken-le : (n : ℕ) (ds : List ℕ) (i : ℕ) → digits_value_after 10 n (take i ds) ≤ digits_value_after 10 n ds
+taken-le n ds zero = after-ge n ds
+taken-le n [] (suc i) = omega arith
+taken-le n (d ∷ ds) (suc i) = taken-le (n * 10 + digit_value d) ds i
 
-pub whole-minus : (field : List ℕ) → starts_with_minus field ≡ true → whole_of field ≡ neg_ℤ (pos (digits_value 10 (digits_of field)))
-unfolding whole_of
-whole-minus field is = rw is refl
+pub front-le : (ds : List ℕ) (i : ℕ) → digits_value 10 (take i ds) ≤ digits_value 10 ds
+front-le ds i = taken-le 0 ds i
 
-pub whole-plus : (field : List ℕ) → starts_with_minus field ≡ false → whole_of field ≡ pos (digits_value 10 (digits_of field))
-unfolding whole_of
-whole-plus field is = rw is refl
+pub digits-none : (ds : List ℕ) → length ds ≡ 0 → are_digits ds ≡ false
+unfolding are_digits
+digits-none [] none = refl
+digits-none (d ∷ ds) none = absurd (omega (arith, none))
 
--- such numbers, and those below zero, are kept in 64 bits
-pub kept : (n : ℕ) → n < 1000000000 → to_z w64 n ≡ pos n
-kept n lt = omega (arith, ints, lt)
+pub digits-bad : (ds : List ℕ) → list_all is_ascii_digit ds ≡ false → are_digits ds ≡ false
+unfolding are_digits
+digits-bad [] bad = refl
+digits-bad (d ∷ ds) bad = bad
 
-pub negated : (n : ℕ) → n < 1000000000 → to_z w64 (of_z w64 (pos 0 -ℤ to_z w64 n)) ≡ neg_ℤ (pos n)
-negated n lt = rw (kept n lt) (omega (arith, ints, lt))
+pub digits-good : (ds : List ℕ) → 0 < length ds → list_all is_ascii_digit ds ≡ true → are_digits ds ≡ true
+unfolding are_digits
+digits-good [] some good = absurd (omega (arith, some))
+digits-good (d ∷ ds) some good = good
 
--- it is one of 32 bits
-abbrev IsSmall : ℤ → Type 0
-IsSmall z = (neg_ℤ (pos (2 ^ 31)) ≤ℤ z) × (z <ℤ pos (2 ^ 31))
+-- spaces in front
+pub front-space : (text : List ℕ) (b : ℕ) (rest : List ℕ) → text ≡ b ∷ rest → (b == 32) ≡ true → without_front_spaces text ≡ without_front_spaces rest
+unfolding without_front_spaces
+front-space text b rest is space = rw (is, space) refl
 
-pub whole-small : (field : List ℕ) → is_whole_cell field ≡ true → (neg_ℤ (pos (2 ^ 31)) ≤ℤ whole_of field) × (whole_of field <ℤ pos (2 ^ 31))
-whole-small field is = signed (starts_with_minus field) refl (whole-bound field is)
-  where
-    signed : (b : Bool) → starts_with_minus field ≡ b → digits_value 10 (digits_of field) < 1000000000 → IsSmall (whole_of field)
-    signed true minus bound = rw (whole-minus field minus) (omega (arith, ints, bound), omega (arith, ints, bound))
-    signed false plus bound = rw (whole-plus field plus) (omega (arith, ints, bound), omega (arith, ints, bound))
+pub front-other : (text : List ℕ) (b : ℕ) (rest : List ℕ) → text ≡ b ∷ rest → (b == 32) ≡ false → without_front_spaces text ≡ text
+unfolding without_front_spaces
+front-other text b rest is other = rw (is, other) refl
+
+pub front-none : (text : List ℕ) → text ≡ [] → without_front_spaces text ≡ text
+unfolding without_front_spaces
+front-none text is = rw is refl
+
+-- spaces behind
+pub end-space : (text : List ℕ) → without_end_spaces (text ++ 32 ∷ []) ≡ without_end_spaces text
+unfolding without_end_spaces
+end-space [] = refl
+end-space (b ∷ text) = rw (end-space text) refl
+
+both-false : (b : Bool) → (b && false) ≡ false
+both-false true = refl
+both-false false = refl
+
+more-than-none : (text : List ℕ) (b : ℕ) → (length (text ++ b ∷ []) == 0) ≡ false
+more-than-none [] b = refl
+more-than-none (c ∷ text) b = grind (arith, nat_tests)
+
+pub end-other : (text : List ℕ) (b : ℕ) → (b == 32) ≡ false → without_end_spaces (text ++ b ∷ []) ≡ text ++ b ∷ []
+unfolding without_end_spaces
+end-other [] b other = rw other refl
+end-other (c ∷ text) b other = rw (end-other text b other, more-than-none text b, both-false (c == 32)) refl
+
+pub end-none : without_end_spaces [] ≡ []
+unfolding without_end_spaces
+end-none = refl
+
+-- a hexadecimal digit more
+pub one-more : (value digit n : ℕ) → value < 16 ^ n → digit < 16 → value * 16 + digit < 16 ^ (n + 1)
+one-more value digit n bound small =
+    let step : 16 ^ (n + 1) ≡ 16 ^ n * 16 = rw add-one (pow-suc 16 n) in omega (arith, step, bound, small)
+
+-- the value of a decimal digit
+pub digit-is : (b : ℕ) → is_ascii_digit b ≡ true → (digit_value b + 48 ≡ b) × (b < 58)
+digit-is b is = let range : IsInRange 48 57 b = grind (arith, nat_tests, is) in (digit_value_digit b range, omega (arith, range))

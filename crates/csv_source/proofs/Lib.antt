@@ -1,16 +1,20 @@
 mod CellFacts
+mod Columns
 mod Datasets
 mod Digits
+mod FirstCauses
 pub mod Fitting
-mod Headers
-mod PlainColumns
-mod PlainFacts
-pub mod PlainForm
-mod PlainNames
+pub mod Formed
+mod KeptFields
+mod LastColons
+mod OneAnswers
 mod Reading
 mod Recorded
+mod RowCauses
 mod Rows
 mod Sizes
 mod Standings
+mod TableFacts
 mod Tabled
+mod Wholes
 mod Within

@@ -1,15 +1,14 @@
 -- Rows of one width, their fields one after the other.
-use Rattle.std.proofs.Common.{◌≡◌, ◌≤◌, ◌<◌, ◌+◌, ◌*◌, ℕ, zero, suc, Bool, true, false, List, [], ◌∷◌, ◌++◌, Some, length, take, drop, get_or, map, refl, sym, ap, arith, ◌∙◌, drop-cons, add-one}
-use Rattle.std.specs.Prelude.{All, slice_get, option_map, option_and_then, ◌&&◌}
+use Rattle.std.proofs.Common.{◌≡◌, ◌≤◌, ◌<◌, ◌+◌, ◌*◌, ℕ, zero, suc, Bool, true, List, [], ◌∷◌, ◌++◌, Some, length, take, drop, get_or, map, refl, sym, ap, arith, ◌∙◌, drop-cons, add-one}
+use Rattle.std.specs.Prelude.{All, slice_get, option_map, option_and_then}
 use Rattle.std.specs.List.{list_all}
-use Rattle.std.proofs.lemmas.List.{drop-append-le, drop-drop, length-drop, drop_all, length-map, take-append-le, take_all}
+use Rattle.std.proofs.lemmas.List.{drop-append-le, drop-drop, length-drop, length-map, take-append-le, take_all}
 use Rattle.std.proofs.lemmas.List.Elements.{All-cons}
-use Rattle.csv.specs.Records.{field_at}
-use Rattle.dap_types.proofs.Views.{drop-here}
 use Rattle.dap_types.specs.declared.declarations.Column.{Column}
-use Rattle.csv_source.specs.Held.{IsHeld, held_rows, is_short, rows_of}
+use Rattle.csv_source.specs.Causes.{is_row, row_values}
+use Rattle.csv_source.specs.Cells.{is_cell, cell_value}
+use Rattle.csv_source.specs.Held.{held_rows, rows_of}
 use Rattle.dap_model.proofs.Tests.{both_true}
-use Rattle.csv_source.specs.Plain.{is_cell, is_row, cell_value, row_values}
 
 -- a row more
 pub rows_of-push : (width n : ℕ) (fields row : List (List ℕ)) → length fields ≡ n * width → length row ≡ width
@@ -36,15 +35,8 @@ rows_of-at width (suc n) fields (suc i) lt =
     ∙ ap (λ xs. Some (take width xs)) (drop-drop (i * width) width fields)
     ∙ ap (λ k. Some (take width (drop k fields))) further
 
--- a field of a record of `csv`
-pub field_at-slice_get : (fields : List (List ℕ)) (i : ℕ) → field_at fields i ≡ slice_get fields i
-unfolding field_at
-field_at-slice_get [] i = refl
-field_at-slice_get (f ∷ fields) zero = refl
-field_at-slice_get (f ∷ fields) (suc i) = field_at-slice_get fields i
-
 -- what all pass, each passes
-list_all-get : {X : Type 0} (p : X → Bool) (xs : List X) (i : ℕ) (x : X) → list_all p xs ≡ true → slice_get xs i ≡ Some x → p x ≡ true
+pub list_all-get : {X : Type 0} (p : X → Bool) (xs : List X) (i : ℕ) (x : X) → list_all p xs ≡ true → slice_get xs i ≡ Some x → p x ≡ true
 list_all-get p [] i x all is = cc is
 list_all-get p (y ∷ ys) zero x all is =
     let same : y ≡ x = cc is in
@@ -96,21 +88,19 @@ slice_get-mapped f (y ∷ ys) zero x is = ap (option_map f) is
 slice_get-mapped f (y ∷ ys) (suc i) x is = slice_get-mapped f ys i x is
 
 -- the cell of a table at a row and a column
-pub held-cell : (columns : List Column) (rows : ℕ) (fields : List (List ℕ)) (row column : ℕ) (c : Column) → IsHeld columns rows fields
-    → row < rows → slice_get columns column ≡ Some c
-    → (field : List ℕ) × (field_at fields (row * length columns + column) ≡ Some field) × (is_cell c.base field ≡ true) × (length field ≤ 67108864)
+pub held-cell : (columns : List Column) (rows : ℕ) (fields : List (List ℕ)) (row column : ℕ) (c : Column)
+    → list_all (is_row columns) (rows_of (length columns) rows fields) ≡ true → row < rows → slice_get columns column ≡ Some c
+    → (field : List ℕ) × (slice_get fields (row * length columns + column) ≡ Some field) × (is_cell c.base field ≡ true)
     × (option_and_then (λ values. slice_get values column) (slice_get (held_rows columns rows fields) row) ≡ Some (cell_value c.base field))
 unfolding held_rows
-held-cell columns rows fields row column c held lt is =
+held-cell columns rows fields row column c are_rows lt is =
     let at = rows_of-at (length columns) rows fields row lt in
-    let whole_row = list_all-get (is_row columns) (rows_of (length columns) rows fields) row (take (length columns) (drop (row * length columns) fields)) held.are_rows at in
+    let whole_row = list_all-get (is_row columns) (rows_of (length columns) rows fields) row (take (length columns) (drop (row * length columns) fields)) are_rows at in
     let (field, there, good, value) = row-get columns (take (length columns) (drop (row * length columns) fields)) column c whole_row is in
-    let placed = take-drop-get fields (length columns) (row * length columns) column field there in
-    let short = list_all-get is_short fields (row * length columns + column) field held.are_short placed in (
+    let placed = take-drop-get fields (length columns) (row * length columns) column field there in (
       field,
-      field_at-slice_get fields (row * length columns + column) ∙ placed,
+      placed,
       good,
-      grind (arith, short),
       rw (slice_get-mapped (row_values columns) (rows_of (length columns) rows fields) row (take (length columns) (drop (row * length columns) fields)) at) value,
     )
 
@@ -130,29 +120,11 @@ all-long columns (row ∷ rows) all =
     All-cons (λ r. length r ≡ length columns) (row_values columns row) (map (row_values columns) rows) (row-long columns row here) (all-long columns rows rest)
 
 -- each row has a value for each column
-pub held-long : (columns : List Column) (rows : ℕ) (fields : List (List ℕ)) → IsHeld columns rows fields → All (λ row. length row ≡ length columns) (held_rows columns rows fields)
+pub held-long : (columns : List Column) (rows : ℕ) (fields : List (List ℕ)) → list_all (is_row columns) (rows_of (length columns) rows fields) ≡ true
+    → All (λ row. length row ≡ length columns) (held_rows columns rows fields)
 unfolding held_rows
-held-long columns rows fields held = all-long columns (rows_of (length columns) rows fields) held.are_rows
-
--- what has another number of fields is no row
-pub row-other : (columns : List Column) (fields : List (List ℕ)) → (length fields ≡ length columns → ⊥) → is_row columns fields ≡ false
-row-other columns fields other = by_test (is_row columns fields) refl
-  where
-    by_test : (b : Bool) → is_row columns fields ≡ b → b ≡ false
-    by_test true is = absurd (other (row-wide columns fields is))
-    by_test false is = refl
+held-long columns rows fields are_rows = all-long columns (rows_of (length columns) rows fields) are_rows
 
 -- from a place on there are the field there and those behind it
-fields-here : (fields : List (List ℕ)) (i : ℕ) (field : List ℕ) → i < length fields → get_or fields i [] ≡ field → drop i fields ≡ field ∷ drop (i + 1) fields
+pub fields-here : (fields : List (List ℕ)) (i : ℕ) (field : List ℕ) → i < length fields → get_or fields i [] ≡ field → drop i fields ≡ field ∷ drop (i + 1) fields
 fields-here fields i field lt is = drop-cons fields i [] lt ∙ ap (λ f. f ∷ drop (suc i) fields) is ∙ rw add-one refl
-
--- what a row is from a column on
-pub row-step : (columns : List Column) (fields : List (List ℕ)) (i : ℕ) (c : Column) (field : List ℕ)
-    → i < length columns → c ≡ get_or columns i c → i < length fields → get_or fields i [] ≡ field
-    → is_row (drop i columns) (drop i fields) ≡ (is_cell c.base field && is_row (drop (i + 1) columns) (drop (i + 1) fields))
-unfolding is_row
-row-step columns fields i c field lt is there at = rw (drop-here columns i c lt is, fields-here fields i field there at) refl
-
-pub row-end : (columns : List Column) (fields : List (List ℕ)) (i : ℕ) → length columns ≤ i → length fields ≤ i → is_row (drop i columns) (drop i fields) ≡ true
-unfolding is_row
-row-end columns fields i le there = rw (drop_all i columns le, drop_all i fields there) refl

@@ -9,6 +9,8 @@ use Rattle.csv.specs.declared.parser.Action.TheVariants as act
 use Rattle.csv.specs.declared.parser.Config.{Config}
 use Rattle.csv.specs.declared.parser.State.{State}
 use Rattle.csv.specs.declared.parser.State.TheVariants as st
+use Rattle.csv_source.specs.Held.{total, total_all}
+use Rattle.csv_source.proofs.KeptFields.{total-append, total-one}
 use Rattle.csv_source.proofs.Recorded.{next-shrinks}
 
 abbrev pub is_within : ℕ → List ℕ → Bool
@@ -78,3 +80,55 @@ strip_bom-shorter [] = omega arith
 strip_bom-shorter (a ∷ []) = omega arith
 strip_bom-shorter (a ∷ b ∷ []) = omega arith
 strip_bom-shorter (a ∷ b ∷ c ∷ rest) = grind arith
+
+-- all fields of a record together are no longer than the bytes that it took
+fields-total : (a : Action) (fields : List (List ℕ)) (field : List ℕ) → total (fields_after a fields field) ≤ total fields + length field
+fields-total act.EndField fields field = omega (arith, total-append fields (field ∷ []), total-one field)
+fields-total act.Skip fields field = omega arith
+fields-total act.Copy fields field = omega arith
+fields-total act.EndRecord fields field = omega (arith, total-append fields (field ∷ []), total-one field)
+
+both-total : (a : Action) (c : ℕ) (fields : List (List ℕ)) (field : List ℕ) → total (fields_after a fields field) + length (field_after a c field) ≤ total fields + length field + 1
+both-total act.EndField c fields field = omega (arith, total-append fields (field ∷ []), total-one field)
+both-total act.Skip c fields field = omega arith
+both-total act.Copy c fields field = omega (arith, length-append field (c ∷ []))
+both-total act.EndRecord c fields field = omega (arith, total-append fields (field ∷ []), total-one field)
+
+next-total : (cfg : Config) (s : State) (fields : List (List ℕ)) (field : List ℕ) (xs : List ℕ) (p : Read)
+    → next_record cfg s fields field xs ≡ Some p → total p.0 + length p.2 ≤ total fields + length field + length xs
+unfolding next_record
+next-total cfg s fields field [] p e = at_end (ends_at_end s) e
+  where
+    at_end : (b : Bool) → (if b then Some (fields ++ (field ∷ []), st.StartRecord, []) else None) ≡ Some p → total p.0 + length p.2 ≤ total fields + length field + 0
+    at_end true q =
+        let same : p ≡ (fields ++ (field ∷ []), st.StartRecord, []) = cc q in
+        rw same (omega (arith, total-append fields (field ∷ []), total-one field))
+    at_end false q = cc q
+next-total cfg s fields field (c ∷ rest) p e =
+    at_byte (is_end (step cfg s c).1) e
+    (next-total cfg (step cfg s c).0 (fields_after (step cfg s c).1 fields field) (field_after (step cfg s c).1 c field) rest p)
+  where
+    at_byte : (b : Bool)
+        → (if b then Some (fields_after (step cfg s c).1 fields field, (step cfg s c).0, rest)
+        else next_record cfg (step cfg s c).0 (fields_after (step cfg s c).1 fields field) (field_after (step cfg s c).1 c field) rest) ≡ Some p
+        → (next_record cfg (step cfg s c).0 (fields_after (step cfg s c).1 fields field) (field_after (step cfg s c).1 c field) rest ≡ Some p
+        → total p.0 + length p.2 ≤ total (fields_after (step cfg s c).1 fields field) + length (field_after (step cfg s c).1 c field) + length rest)
+        → total p.0 + length p.2 ≤ total fields + length field + length (c ∷ rest)
+    at_byte true q later =
+        let same : p ≡ (fields_after (step cfg s c).1 fields field, (step cfg s c).0, rest) = cc q in
+        rw same (omega (arith, fields-total (step cfg s c).1 fields field))
+    at_byte false q later = omega (arith, later q, both-total (step cfg s c).1 c fields field)
+
+none-total : total [] ≡ 0
+unfolding total
+none-total = refl
+
+-- nor are those of all records
+pub reached-total : (cfg : Config) (s : State) (xs : List ℕ) (rows : List (List (List ℕ))) (s2 : State) (ys : List ℕ) → Reached cfg s xs rows s2 ys → total_all rows ≤ length xs
+unfolding Reached total_all
+reached-total cfg s xs [] s2 ys h = omega arith
+reached-total cfg s xs (r ∷ rows) s2 ys h =
+    let (p, is, same, more) = h in
+    let here = next-total cfg s [] [] xs p is in
+    let later = reached-total cfg p.1 p.2 rows s2 ys more in
+    rw same (omega (arith, here, later, none-total))

@@ -2,7 +2,6 @@
 use Rattle.std.proofs.Common.{Bor, ◌≡◌, ◌≤◌, ℕ, true, List, ◌∷◌, [], ◌++◌, length, Some, refl, arith, ◌∙◌}
 use Rattle.std.specs.Prelude.{Bool, false, Result, Ok, Err, IfOk}
 use Rattle.std.specs.Bool.{MatchBool}
-use Rattle.std.specs.List.{list_all}
 use Rattle.csv.specs.Reading.{default_config, reader_state, strip_bom, ReadRecord, ReadsOn, Ready, reader_trim}
 use Rattle.csv.proofs.ReadFacts.{rows-end, rows-more}
 use Rattle.csv.specs.declared.error.Error.{Error}
@@ -10,10 +9,10 @@ use Rattle.csv.specs.declared.reader.Trim.TheVariants as trim
 use Rattle.csv.specs.declared.parser.State.TheVariants as st
 use Rattle.csv.specs.declared.reader.Reader.{Reader}
 use Rattle.csv_source.specs.Csv.{csv_records}
-use Rattle.csv_source.specs.Held.{is_short}
 use Rattle.csv_source.specs.Standing.{Stands}
 use Rattle.csv_source.proofs.Recorded.{reached-bound, recorded, recorded-front}
-use Rattle.csv_source.proofs.Sizes.{reached-within, strip_bom-shorter}
+use Rattle.csv_source.specs.Held.{total_all}
+use Rattle.csv_source.proofs.Sizes.{reached-total, strip_bom-shorter}
 
 -- the records so far are the first ones
 pub stands-front : (bytes : List ℕ) (done : List (List (List ℕ))) (reader : Reader (Bor (List ℕ))) → Stands bytes done reader
@@ -26,11 +25,11 @@ stands-count bytes done reader h =
     let below = reached-bound default_config st.StartRecord (strip_bom bytes) done (reader_state reader) h.rest refl h.reached in
     omega (arith, below, strip_bom-shorter bytes)
 
--- and no field of theirs is longer than a file
-pub stands-short : (bytes : List ℕ) (done : List (List (List ℕ))) (reader : Reader (Bor (List ℕ))) → Stands bytes done reader
-    → length bytes ≤ 67108864 → list_all (λ r. list_all is_short r) done ≡ true
-stands-short bytes done reader h le =
-    reached-within default_config 67108864 st.StartRecord (strip_bom bytes) done (reader_state reader) h.rest (omega (arith, le, strip_bom-shorter bytes)) h.reached
+-- and all their fields together are no longer than the bytes
+pub stands-total : (bytes : List ℕ) (done : List (List (List ℕ))) (reader : Reader (Bor (List ℕ))) → Stands bytes done reader → total_all done ≤ length bytes
+stands-total bytes done reader h =
+    let below = reached-total default_config st.StartRecord (strip_bom bytes) done (reader_state reader) h.rest h.reached in
+    omega (arith, below, strip_bom-shorter bytes)
 
 -- what a read of a record does to where a reader stands
 pub reads-stands : (old new : Reader (Bor (List ℕ))) (fields : List (List ℕ)) (r : Result Bool Error)

@@ -1,18 +1,35 @@
--- What the definitions of this crate promise to those of `dap_model`, each as a statement over all
--- files.
-use Rattle.std.specs.Prelude.{◌≡◌, ℕ, List, ◌++◌, Some, codes}
+-- What the definitions of this crate promise, to one another and to those of `dap_model`, each as a
+-- statement over all files.
+use Rattle.std.specs.Prelude.{◌≡◌, ◌↔◌, ℕ, List, Ok, Err, MatchResult}
 use Rattle.dap_model.specs.Fits.{FitsAll}
-use Rattle.dap_model.specs.Plain.{ArePlain, IsPlainName, plain_dataset}
+use Rattle.dap_types.specs.WellFormed.{IsWellFormed}
+use Rattle.dap_types.specs.declared.declarations.BaseType.{BaseType}
+use Rattle.csv_source.specs.Causes.{table_of}
 use Rattle.csv_source.specs.Dataset.{table_dataset, table_trees}
-use Rattle.csv_source.specs.Plain.{plain_table}
-use Rattle.csv_source.specs.PlainTable.{PlainTable}
+use Rattle.csv_source.specs.FirstCause.{IsFirstCause, IsTableOf}
+use Rattle.csv_source.specs.Header.{typed}
+use Rattle.csv_source.specs.LastColon.{IsNameAndType}
+use Rattle.csv_source.specs.Table.{CsvTable}
+use Rattle.csv_source.specs.declared.refusal.TableRefusal.{TableRefusal}
 
--- the values of a plain table are values of its dataset
+-- the type of a header's field is the word behind its last `:`
+abbrev pub TypedByLastColon : Type 0
+TypedByLastColon = (field name : List ℕ) (base : BaseType) → (typed field ≡ (name, base)) ↔ IsNameAndType field name base
+
+-- a file has a table, or a first cause
+abbrev pub TableOrCause : Type 0
+TableOrCause = (file_name bytes : List ℕ) → MatchResult (table_of file_name bytes) (IsTableOf file_name bytes) (IsFirstCause bytes)
+
+-- and no other of either
+abbrev pub OneAnswer : Type 0
+OneAnswer = (file_name bytes : List ℕ) →
+    ((t : CsvTable) → IsTableOf file_name bytes t → table_of file_name bytes ≡ Ok t)
+    × ((cause : TableRefusal) → IsFirstCause bytes cause → table_of file_name bytes ≡ Err cause)
+
+-- the dataset of a table is well formed
+abbrev pub TableIsWellFormed : Type 0
+TableIsWellFormed = (file_name bytes : List ℕ) (t : CsvTable) → table_of file_name bytes ≡ Ok t → IsWellFormed (table_dataset t)
+
+-- the values of a table are values of its dataset
 abbrev pub TableFits : Type 0
-TableFits = (file_name bytes : List ℕ) (t : PlainTable) → plain_table file_name bytes ≡ Some t → FitsAll (table_dataset t).members (table_trees t)
-
--- the columns of a plain table are those of the plain form, and where its file is `name.csv` for a
--- plain name, so is its dataset
-abbrev pub TableIsPlain : Type 0
-TableIsPlain = (file_name bytes : List ℕ) (t : PlainTable) → plain_table file_name bytes ≡ Some t →
-    ArePlain t.columns × ((name : List ℕ) → IsPlainName name → file_name ≡ name ++ codes ".csv" → table_dataset t ≡ plain_dataset name t.columns)
+TableFits = (file_name bytes : List ℕ) (t : CsvTable) → table_of file_name bytes ≡ Ok t → FitsAll (table_dataset t).members (table_trees t)

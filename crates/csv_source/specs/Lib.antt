@@ -1,9 +1,13 @@
-pub mod Names
 pub mod Csv
-pub mod PlainTable
-pub mod Plain
-pub mod Dataset
+pub mod Names
 pub mod Cells
+pub mod Header
+pub mod LastColon
+pub mod Table
+pub mod Causes
+pub mod FirstCause
+pub mod Dataset
+pub mod Lent
 pub mod Held
 pub mod Standing
 pub mod Laws

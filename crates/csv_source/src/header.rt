@@ -1,89 +1,108 @@
-ghost use Rattle.std.specs.Prelude.{◌≡◌, ◌≤◌, length, map, IfOk, drop, nat_eq};
-ghost use Rattle.std.specs.List.{list_all, list_any};
-ghost use Rattle.std.specs.Str.{bytes_eq};
+ghost use Rattle.std.specs.Prelude.{◌≡◌, ◌≤◌, IfOk, MatchOption, true, false, length};
 ghost use Rattle.csv.specs.Records.{fields_of};
-ghost use Rattle.csv_source.specs.Plain.{all_differ, column_of, is_header, is_plain_name, is_word_byte};
+ghost use Rattle.csv_source.specs.Header.{all_types, column_name, column_of, columns_of, repeated, type_mark, typed, typed_by};
+ghost use Rattle.csv_source.specs.Names.{has_suffix, before_suffix};
+ghost use Rattle.dap_types.specs.Names.{file_id};
 
 use csv::ByteRecord;
 use dap_types::{BaseType, Column, Id, List, Memory};
 use std::alloc::Global;
+use std::collections::BTreeMap;
 
 /// The columns that the fields of a header name.
 pub(crate) fn header_columns(alloc: Global, header: &ByteRecord) -> Result<List<Column>, Memory>
-    ensures { IfOk result (λ columns. columns ≡ map column_of (fields_of header.now)) }
+    ensures { IfOk result (λ columns. columns ≡ columns_of (fields_of header.now)) }
 {
     let mut columns = List::new(alloc);
     'fields: for i in 0..header.len() {
         if let Some(field) = header.get(i) {
-            columns.push(field_column(alloc, field)?)?;
+            columns.push(field_column(alloc, i as u64 + 1, field)?)?;
         }
     }
     Ok(columns)
 }
 
-#[tactic(auto, unfolding(crate::specs::Plain::column_of))]
-fn field_column(alloc: Global, field: &[u8]) -> Result<Column, Memory>
-    ensures { IfOk result (λ column. column ≡ column_of field.now) }
+#[tactic(auto, unfolding(crate::specs::Header::column_of))]
+fn field_column(alloc: Global, number: u64, field: &[u8]) -> Result<Column, Memory>
+    ensures { IfOk result (λ column. column ≡ column_of number field.now) }
 {
-    match field.strip_suffix(b":Int32") {
-        Some(name) => Ok(Column {
-            name: Id::raw(alloc, name)?,
-            base: BaseType::Int32,
-        }),
-        None => Ok(Column {
-            name: Id::raw(alloc, field)?,
-            base: BaseType::Text,
-        }),
+    let (name, base) = typed(field);
+    Ok(Column {
+        name: column_id(alloc, number, name)?,
+        base,
+    })
+}
+
+#[tactic(auto, unfolding(crate::specs::Header::column_name))]
+fn column_id(alloc: Global, number: u64, name: &[u8]) -> Result<Id, Memory>
+    ensures { IfOk result (λ id. id ≡ file_id (column_name number name.now)) }
+{
+    if name.is_empty() {
+        let name = format!(in alloc; "column{number}")?;
+        Id::of_file(alloc, name.as_bytes())
+    } else {
+        Id::of_file(alloc, name)
     }
 }
 
-/// Whether these are 1 to 16 columns with plain names that differ.
-#[tactic(auto, unfolding(crate::specs::Plain::is_header))]
-pub(crate) fn may_be_header(columns: &[Column]) -> bool
-    ensures { result ≡ is_header columns.now }
+/// `:` and the word for a type.
+fn type_mark(base: BaseType) -> &'static [u8]
+    ensures { result.now ≡ type_mark base }
 {
-    columns.len() >= 1
-        && columns.len() <= 16
-        && have_plain_names(columns)
-        && have_names_of_their_own(columns)
+    match base {
+        BaseType::Byte => b":Byte",
+        BaseType::Int16 => b":Int16",
+        BaseType::UInt16 => b":UInt16",
+        BaseType::Int32 => b":Int32",
+        BaseType::UInt32 => b":UInt32",
+        BaseType::Float32 => b":Float32",
+        BaseType::Float64 => b":Float64",
+        BaseType::Text => b":String",
+        BaseType::Url => b":Url",
+    }
 }
 
-fn have_plain_names(columns: &[Column]) -> bool
-    ensures { result ≡ list_all (λ c. is_plain_name c.name) columns.now }
+fn typed(field: &[u8]) -> (&[u8], BaseType)
+    ensures { (result.0.now, result.1) ≡ typed field.now }
 {
-    columns
-        .iter()
-        .all(|column| may_be_name(column.name.bytes()))
+    let types = [
+        BaseType::Byte,
+        BaseType::Int16,
+        BaseType::UInt16,
+        BaseType::Int32,
+        BaseType::UInt32,
+        BaseType::Float32,
+        BaseType::Float64,
+        BaseType::Text,
+        BaseType::Url,
+    ];
+    typed_by(&types, field)
 }
 
-#[tactic(auto, unfolding(crate::specs::Plain::is_plain_name))]
-fn may_be_name(name: &[u8]) -> bool
-    ensures { result ≡ is_plain_name name.now }
+fn typed_by<'a>(bases: &[BaseType], field: &'a [u8]) -> (&'a [u8], BaseType)
+    ensures { (result.0.now, result.1) ≡ typed_by bases.now field.now }
 {
-    name.len() >= 1 && name.len() <= 32 && are_word_bytes(name)
-}
-
-fn are_word_bytes(bytes: &[u8]) -> bool
-    ensures { result ≡ list_all is_word_byte bytes.now }
-{
-    bytes
-        .iter()
-        .all(|b| b.is_ascii_alphanumeric() || *b == b'_')
-}
-
-fn have_names_of_their_own(columns: &[Column]) -> bool
-    ensures { result ≡ all_differ columns.now }
-{
-    for (i, column) in columns.iter().enumerate() {
-        if is_name_among(column.name.bytes(), &columns[i + 1..]) {
-            return false;
+    for base in bases {
+        if let Some(name) = field.strip_suffix(type_mark(*base)) {
+            return (name, *base);
         }
     }
-    true
+    (field, BaseType::Text)
 }
 
-fn is_name_among(name: &[u8], columns: &[Column]) -> bool
-    ensures { result ≡ list_any (λ c. bytes_eq name.now c.name) columns.now }
+/// The number of the first column with the name of an earlier one. Names are kept in order, so that
+/// crafted ones cost no more than others.
+pub(crate) fn first_repeated(alloc: Global, columns: &[Column]) -> Result<Option<u32>, Memory>
+    requires { length columns.now ≤ 1024 }
+    ensures { IfOk result (λ number. number ≡ repeated columns.now) }
 {
-    columns.iter().any(|column| name == column.name.bytes())
+    let mut names = BTreeMap::new(alloc);
+    for (i, column) in columns.iter().enumerate() {
+        let number = i as u32 + 1;
+        let earlier: Option<u32> = names.insert(column.name.bytes(), number)?;
+        if earlier.is_some() {
+            return Ok(Some(number));
+        }
+    }
+    Ok(None)
 }

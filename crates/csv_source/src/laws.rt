@@ -1,11 +1,26 @@
-ghost use Rattle.csv_source.specs.Laws.{TableFits, TableIsPlain};
+ghost use Rattle.csv_source.specs.Laws.{OneAnswer, TableFits, TableIsWellFormed, TableOrCause, TypedByLastColon};
 
-/// The values of a plain table are values of its dataset.
-pub fn table_fits()
-    ensures law { TableFits }
+/// The type of a header's field is the word behind its last `:`.
+pub fn typed_by_last_colon()
+    ensures law { TypedByLastColon }
 {}
 
-/// A plain table in a file of a plain name has the dataset of the plain form.
-pub fn table_is_plain()
-    ensures law { TableIsPlain }
+/// A file has a table, or a first cause.
+pub fn table_or_cause()
+    ensures law { TableOrCause }
+{}
+
+/// It has one of them alone.
+pub fn one_answer()
+    ensures law { OneAnswer }
+{}
+
+/// The dataset of a table is well formed.
+pub fn table_is_well_formed()
+    ensures law { TableIsWellFormed }
+{}
+
+/// The values of a table are values of its dataset.
+pub fn table_fits()
+    ensures law { TableFits }
 {}

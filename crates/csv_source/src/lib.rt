@@ -1,12 +1,14 @@
 //! The table of a CSV file. The bytes of a file and its name come in; its columns, its cells and its
-//! dataset go out. They are those of `plain_table` in `specs/Plain`, over the records that the crate
-//! `csv` defines for the bytes.
+//! dataset go out, or the first thing that is wrong. They are those of `table_of` in `specs/Causes`,
+//! over the records that the crate `csv` defines for the bytes.
 #![tactic(auto)]
 
 mod cell;
+mod fields;
 mod header;
 pub mod laws;
 mod names;
+mod numbers;
 mod read;
 mod records;
 mod refusal;

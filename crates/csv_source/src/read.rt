@@ -1,14 +1,15 @@
-ghost use Rattle.std.specs.Prelude.{◌≡◌, ◌≤◌, ◌∷◌, ◌++◌, [], length, IfErr, IfOk, OnOk, Some, None, true, false};
+ghost use Rattle.std.specs.Prelude.{◌≡◌, ◌≢◌, ◌≤◌, ◌+◌, ◌∷◌, ◌++◌, [], length, Err, Ok, IfErr, IfOk, OnOk, Some, true};
 ghost use Rattle.std.specs.List.{list_all};
-ghost use Rattle.csv.specs.Records.{fields_of, partial_of};
+ghost use Rattle.csv.specs.Records.{fields_of};
+ghost use Rattle.csv_source.specs.Causes.{is_row, row_cause, table_of};
 ghost use Rattle.csv_source.specs.Csv.{csv_records};
-ghost use Rattle.csv_source.specs.Held.{is_short, rows_of};
-ghost use Rattle.csv_source.specs.Plain.{is_row, plain_table};
+ghost use Rattle.csv_source.specs.Held.{AreEnds, fields_in, rows_of, total};
 ghost use Rattle.csv_source.specs.Standing.{HasBadRow, Stands};
-ghost use Rattle.csv_source.specs.declared.refusal.TableRefusal.TheVariants.{Unbuilt};
+ghost use Rattle.csv_source.specs.declared.refusal.TableRefusal.TheVariants.{Memory};
 
 use crate::cell::may_be_cell;
-use crate::header::{header_columns, may_be_header};
+use crate::fields::Fields;
+use crate::header::{first_repeated, header_columns};
 use crate::records::{next_record, open};
 use crate::{Table, TableRefusal};
 use csv::{ByteRecord, Reader};
@@ -18,29 +19,32 @@ use std::alloc::Global;
 /// The most bytes of a file.
 const MOST_BYTES: usize = 67_108_864;
 /// The most columns of a table.
-const MOST_COLUMNS: usize = 16;
+const MOST_COLUMNS: usize = 1_024;
 
-/// The table of the bytes of a file, as `plain_table` has it: the first record names the columns, the
+/// The table of the bytes of a file, as `table_of` has it: the first record names the columns, the
 /// others are the rows (RFC 4180; the typed header and the limits are this project's).
 ///
 /// # Errors
 ///
-/// `Unbuilt` exactly where the bytes are no plain table, and `Memory` where memory was wanted.
+/// The first cause of `table_of`, or `Memory` where memory was wanted.
 pub fn read_table(alloc: Global, bytes: &[u8], file_name: &[u8]) -> Result<Table, TableRefusal>
-    ensures table { IfOk result (λ t. plain_table file_name.now bytes.now ≡ Some t) }
-    ensures unbuilt { IfErr result (λ e. e ≡ Unbuilt → plain_table file_name.now bytes.now ≡ None) }
+    ensures table { IfOk result (λ t. table_of file_name.now bytes.now ≡ Ok t) }
+    ensures first_cause { IfErr result (λ e. e ≢ Memory → table_of file_name.now bytes.now ≡ Err e) }
 {
     if bytes.len() > MOST_BYTES {
-        return Err(TableRefusal::Unbuilt);
+        return Err(TableRefusal::TooLong);
     }
     let mut reader = open(alloc, bytes);
     let mut header = ByteRecord::new(alloc);
-    if !next_record(&mut reader, &mut header)? || header.len() > MOST_COLUMNS {
-        return Err(TableRefusal::Unbuilt);
+    if !next_record(&mut reader, &mut header)? {
+        return Err(TableRefusal::NoHeader);
+    }
+    if header.len() > MOST_COLUMNS {
+        return Err(TableRefusal::TooWide);
     }
     let columns = header_columns(alloc, &header)?;
-    if !may_be_header(columns.items()) {
-        return Err(TableRefusal::Unbuilt);
+    if let Some(column) = first_repeated(alloc, columns.items())? {
+        return Err(TableRefusal::RepeatedColumn { column });
     }
     let (cells, rows) = read_rows(alloc, bytes, reader, header, columns.items())?;
     Ok(Table {
@@ -59,48 +63,57 @@ fn read_rows(
     mut reader: Reader<&[u8]>,
     header: ByteRecord,
     columns: &[Column],
-) -> Result<(ByteRecord, u32), TableRefusal>
+) -> Result<(Fields, u32), TableRefusal>
     requires stands { Stands bytes.now (fields_of header ∷ []) reader }
     requires short { length bytes.now ≤ 67108864 }
-    ensures rows { IfOk result (λ r. csv_records bytes.now ≡ fields_of header ∷ rows_of (length columns.now) r.1 (fields_of r.0)) }
-    ensures are_rows { IfOk result (λ r. list_all (is_row columns.now) (rows_of (length columns.now) r.1 (fields_of r.0)) ≡ true) }
-    ensures are_short { IfOk result (λ r. list_all is_short (fields_of r.0) ≡ true) }
-    ensures unbuilt { IfErr result (λ e. e ≡ Unbuilt → HasBadRow columns.now (fields_of header) (csv_records bytes.now)) }
+    requires few { length columns.now ≤ 1024 }
+    ensures rows { IfOk result (λ r. csv_records bytes.now ≡ fields_of header ∷ rows_of (length columns.now) r.1 (fields_in r.0.ends.items r.0.text.items)) }
+    ensures are_rows { IfOk result (λ r. list_all (is_row columns.now) (rows_of (length columns.now) r.1 (fields_in r.0.ends.items r.0.text.items)) ≡ true) }
+    ensures are_ends { IfOk result (λ r. AreEnds 0 r.0.ends.items (length r.0.text.items)) }
+    ensures short { IfOk result (λ r. length r.0.text.items ≤ 67108864) }
+    ensures first_cause { IfErr result (λ e. e ≢ Memory → HasBadRow columns.now (fields_of header) e (csv_records bytes.now)) }
 {
-    let mut cells = ByteRecord::with_capacity(alloc, bytes.len(), 0)?;
+    let mut cells = Fields::with_room(alloc, bytes.len())?;
     let mut rows = 0u32;
     let mut row = header;
     'records: for _ in 0..u64::MAX {
         if !next_record(&mut reader, &mut row)? {
             return Ok((cells, rows));
         }
-        push_row(&mut cells, &row, columns)?;
+        push_row(&mut cells, rows + 1, &row, columns)?;
         rows += 1;
     }
     Err(TableRefusal::Memory)
 }
 
-/// Adds the fields of a row.
+/// Adds the fields of the row of this number.
 fn push_row(
-    cells: &mut ByteRecord,
+    cells: &mut Fields,
+    number: u32,
     row: &ByteRecord,
     columns: &[Column],
 ) -> Result<(), TableRefusal>
-    requires { partial_of cells.old ≡ [] }
-    ensures fields { OnOk result (fields_of cells.new ≡ fields_of cells.old ++ fields_of row.now) }
-    ensures partial { OnOk result (partial_of cells.new ≡ []) }
+    requires are_ends { AreEnds 0 cells.old.ends.items (length cells.old.text.items) }
+    requires short { length cells.old.text.items + total (fields_of row.now) ≤ 67108864 }
+    requires few { length columns.now ≤ 1024 }
+    ensures fields { OnOk result (fields_in cells.new.ends.items cells.new.text.items ≡ fields_in cells.old.ends.items cells.old.text.items ++ fields_of row.now) }
+    ensures are_ends { OnOk result (AreEnds 0 cells.new.ends.items (length cells.new.text.items)) }
+    ensures length { OnOk result (length cells.new.text.items ≡ length cells.old.text.items + total (fields_of row.now)) }
     ensures row { OnOk result (is_row columns.now (fields_of row.now) ≡ true) }
-    ensures unbuilt { IfErr result (λ e. e ≡ Unbuilt → is_row columns.now (fields_of row.now) ≡ false) }
+    ensures first_cause { IfErr result (λ e. e ≢ Memory → row_cause columns.now number (fields_of row.now) ≡ Some e) }
 {
     if row.len() != columns.len() {
-        return Err(TableRefusal::Unbuilt);
+        return Err(TableRefusal::Ragged { row: number });
     }
     for (i, column) in columns.iter().enumerate() {
         if let Some(field) = row.get(i) {
             if !may_be_cell(column.base, field) {
-                return Err(TableRefusal::Unbuilt);
+                return Err(TableRefusal::BadCell {
+                    row: number,
+                    column: i as u32 + 1,
+                });
             }
-            cells.push_field(field)?;
+            cells.push(field)?;
         }
     }
     Ok(())

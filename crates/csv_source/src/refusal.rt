@@ -2,11 +2,21 @@ use csv::Error;
 use dap_types::Memory;
 use std::alloc::AllocError;
 
-/// Why a file gives no table.
+/// Why a file gives no table. Rows and columns are numbered from 1.
 #[derive(Clone, Copy, Debug, PartialEq, Eq)]
 pub enum TableRefusal {
-    /// The file is no plain table.
-    Unbuilt,
+    /// The file has more than 67,108,864 bytes.
+    TooLong,
+    /// There is no record.
+    NoHeader,
+    /// The header has more than 1,024 fields.
+    TooWide,
+    /// This column has the name of an earlier one.
+    RepeatedColumn { column: u32 },
+    /// This row has another number of fields than the header.
+    Ragged { row: u32 },
+    /// This cell is no value of its column.
+    BadCell { row: u32, column: u32 },
     /// Memory was wanted.
     Memory,
 }

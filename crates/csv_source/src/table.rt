@@ -1,46 +1,53 @@
-ghost use Rattle.std.specs.Prelude.{◌≡◌, ◌<◌, All, length, IfOk, Some};
+ghost use Rattle.std.specs.Prelude.{◌≡◌, ◌<◌, ◌^◌, All, length, IfOk, Some, slice_get, true};
+ghost use Rattle.dap_model.specs.Fits.{IsOf};
+ghost use Rattle.das_text.specs.View.{attributes_view};
 ghost use Rattle.dap_types.specs.View.{dataset_view};
-ghost use Rattle.csv_source.specs.Cells.{IsShort, lent_value};
-ghost use Rattle.csv_source.specs.Dataset.{table_dataset};
-ghost use Rattle.csv_source.specs.PlainTable.{value_at};
+ghost use Rattle.dap_types.specs.WellFormed.{IsWellFormed};
+ghost use Rattle.dap_types.specs.declared.declarations.Column as declared;
+ghost use Rattle.csv_source.specs.Cells.{cell_value, is_cell};
+ghost use Rattle.csv_source.specs.Dataset.{table_attributes, table_dataset};
+ghost use Rattle.csv_source.specs.Lent.{lent_value};
+ghost use Rattle.csv_source.specs.Table.{value_at};
 
-use crate::cell::{Cell, whole};
+use crate::cell::Cell;
+use crate::fields::Fields;
 use crate::names::sequence_id;
-use csv::ByteRecord;
+use crate::numbers::{bits, whole};
 use dap_types::{BaseType, Bytes, Column, Dataset, Decl, List, Memory};
+use das_text::{Attributes, Entry};
 use file_names::dataset_id;
 use std::alloc::Global;
 use std::marker::Model;
 
-/// The table of a CSV file. Contracts see it as a `PlainTable`: the name of the file, the columns,
+/// The table of a CSV file. Contracts see it as a `CsvTable`: the name of the file, the columns,
 /// and for each row a value of every column.
 #[derive(Drop)]
 pub struct Table {
     pub(crate) file_name: Bytes,
     pub(crate) columns: List<Column>,
-    /// The fields of all rows, one row after the other.
-    pub(crate) cells: ByteRecord,
+    /// The fields of all rows, one row after the other. Their values are read from them each time.
+    pub(crate) cells: Fields,
     pub(crate) rows: u32,
 }
 
 impl Model for Table {
-    ghost use Rattle.csv_source.specs.PlainTable.{PlainTable, table};
+    ghost use Rattle.csv_source.specs.Table.{CsvTable, table};
 
-    ghost Value = { PlainTable };
+    ghost Value = { CsvTable };
 
-    ghost use Rattle.csv.specs.Records.{fields_of};
-    ghost use Rattle.csv_source.specs.Held.{IsHeld, held_rows};
+    ghost use Rattle.csv_source.specs.Held.{IsHeld, fields_in, held_rows};
 
-    ghost view = { λ t. table t.file_name t.columns (held_rows t.columns t.rows (fields_of t.cells)) };
+    ghost view = { λ t. table t.file_name t.columns (held_rows t.columns t.rows (fields_in t.cells.ends.items t.cells.text.items)) };
 
-    ghost invariant = { λ t. IsHeld t.columns t.rows (fields_of t.cells) };
+    ghost invariant = { λ t. IsHeld t.columns t.rows t.cells.ends.items t.cells.text.items };
 }
 
 impl Table {
     /// The dataset of the table: one Sequence with its columns, named by the file (DAP 2.0,
     /// Sequence). Fails where memory is wanted.
     pub fn dataset(&self, alloc: Global) -> Result<Dataset, Memory>
-        ensures { IfOk result (λ d. dataset_view d ≡ table_dataset self.now) }
+        ensures dataset { IfOk result (λ d. dataset_view d ≡ table_dataset self.now) }
+        ensures well_formed { IfOk result (λ d. IsWellFormed (dataset_view d)) }
     {
         let mut members = List::new(alloc);
         let columns = copied(alloc, self.columns.items())?;
@@ -49,6 +56,17 @@ impl Table {
             name: dataset_id(alloc, self.file_name.bytes())?,
             members,
         })
+    }
+
+    /// The attributes of the table: one container without entries, of the Sequence's name (DAP 2.0,
+    /// DAS). Fails where memory is wanted.
+    pub fn attributes(&self, alloc: Global) -> Result<Attributes, Memory>
+        ensures { IfOk result (λ a. attributes_view a ≡ table_attributes self.now) }
+    {
+        let name = sequence_id(alloc, self.file_name.bytes())?;
+        let mut containers = List::new(alloc);
+        containers.push(Entry::Container(name, List::new(alloc)))?;
+        Ok(Attributes { containers })
     }
 
     /// The number of rows.
@@ -71,15 +89,27 @@ impl Table {
         requires row { row < length self.now.rows }
         requires column { column < length self.now.columns }
         ensures value { value_at self.now row column ≡ Some (lent_value result) }
-        ensures short { IsShort result }
+        ensures fits { (c : declared.Column) → slice_get self.now.columns column ≡ Some c → IsOf c.base (lent_value result) }
     {
         let base = self.columns.items()[column as usize].base;
         let at = row as usize * self.columns.items().len() + column as usize;
-        let field = self.cells.get(at).unwrap();
-        match base {
-            BaseType::Int32 => Cell::Whole(whole(field)),
-            _ => Cell::Text(field),
-        }
+        lent(base, self.cells.get(at))
+    }
+}
+
+/// The value of a field that is a cell of a column of this type.
+fn lent(base: BaseType, field: &[u8]) -> Cell<'_>
+    requires cell { is_cell base field.now ≡ true }
+    requires short { length field.now < 2 ^ 31 }
+    ensures value { lent_value result ≡ cell_value base field.now }
+    ensures fits { IsOf base (lent_value result) }
+{
+    match base {
+        BaseType::Float32 => Cell::Bits32(bits(field, 8).unwrap_or(0) as u32),
+        BaseType::Float64 => Cell::Bits64(bits(field, 16).unwrap_or(0)),
+        BaseType::Text => Cell::Text(field),
+        BaseType::Url => Cell::Text(field),
+        _ => Cell::Whole(whole(base, field).unwrap_or(0)),
     }
 }
 

@@ -1,12 +1,13 @@
 use crate::{Cell, Table, TableRefusal, read_table};
 use dap_types::{BaseType, Decl};
+use das_text::Entry;
 use std::alloc::Global;
 use std::test::Fail;
 
 fn crosses<T: Send + Sync>(_: &T) {}
 
 #[test]
-fn a_plain_table_is_read(rt: HostRuntime) -> Result<(), Fail> {
+fn a_table_is_read(rt: HostRuntime) -> Result<(), Fail> {
     let bytes = b"station,depth:Int32\nA1,5\nB22,-7\n";
     let table = read_table(rt.alloc(), bytes, b"sea/buoys.csv")?;
     crosses(&table);
@@ -33,36 +34,152 @@ fn a_plain_table_is_read(rt: HostRuntime) -> Result<(), Fail> {
         }
         _ => panic!(rt; "no Sequence"),
     }
+    let attributes = table.attributes(rt.alloc())?;
+    match attributes.containers.items() {
+        [Entry::Container(name, entries)] => {
+            assert_eq!(rt; name.bytes(), b"buoys".as_slice());
+            assert_eq!(rt; entries.items().len(), 0);
+        }
+        _ => panic!(rt; "no container"),
+    }
     Ok(())
 }
 
-// How many rows a file has, where it is a plain table.
-fn rows_of(alloc: Global, bytes: &[u8]) -> Option<u32> {
+// The first cell of a file with one row, or why there is none.
+fn first_cell(alloc: Global, bytes: &[u8], expected: Cell<'_>) -> bool {
     match read_table(alloc, bytes, b"t.csv") {
-        Ok(table) => Some(table.rows()),
-        Err(_) => None,
+        Ok(table) => table.rows() == 1 && table.columns() == 1 && table.cell(0, 0) == expected,
+        Err(_) => false,
     }
 }
 
 #[test]
-fn files_are_told_apart(rt: HostRuntime) {
-    let files: [(&[u8], Option<u32>); 14] = [
-        (b"station,depth:Int32\n", Some(0)),
-        (b"\xef\xbb\xbfa:Int32\r\n\"-123456789\"\r\n007", Some(2)),
-        (b"a,b\n\"x, \"\"y\"\"\nz\",\n\n,\n", Some(2)),
-        (b"", None),
-        (b"\n\n", None),
-        (b"a,a:Int32\n", None),
-        (b":Int32\n", None),
-        (b"a-b\n", None),
-        (b"a23456789012345678901234567890123\n", None),
-        (b"a,b,c,d,e,f,g,h,i,j,k,l,m,n,o,p,q\n", None),
-        (b"a,b\n1\n", None),
-        (b"a:Int32\n1234567890\n", None),
-        (b"a:Int32\n+1\n", None),
-        (b"a:Int32,b\n-,1\n", None),
+fn each_type_has_its_cells(rt: HostRuntime) {
+    let files: [(&[u8], Cell<'_>); 26] = [
+        (b"n:Byte\n0\n", Cell::Whole(0)),
+        (b"n:Byte\n255\n", Cell::Whole(255)),
+        (b"n:Int16\n32767\n", Cell::Whole(32_767)),
+        (b"n:UInt16\n 00 \n", Cell::Whole(0)),
+        (b"n:Int32\n +7 \n", Cell::Whole(7)),
+        (b"n:Int32\n2147483647\n", Cell::Whole(2_147_483_647)),
+        (b"n:UInt32\n-0\n", Cell::Whole(0)),
+        (b"x:Float64\n0xffffffffffffffff\n", Cell::Bits64(u64::MAX)),
+        (b"s\n\"a\0b\"", Cell::Text(b"a\0b")),
+        (b"n:Byte\n  +0007 \n", Cell::Whole(7)),
+        (b"n:Int16\n-32768\n", Cell::Whole(-32_768)),
+        (b"n:UInt16\n65535\n", Cell::Whole(65_535)),
+        (b"n:UInt16\n -0\n", Cell::Whole(0)),
+        (b"n:Int32\n-2147483648\n", Cell::Whole(-2_147_483_648)),
+        (b"n:UInt32\n4294967295\n", Cell::Whole(4_294_967_295)),
+        (
+            b"n:Int32\n000000000000000000000000000000000001\n",
+            Cell::Whole(1),
+        ),
+        (b"x:Float32\n0x7fC00001\n", Cell::Bits32(0x7fc0_0001)),
+        (
+            b"x:Float64\n0x400921FB54442d18\n",
+            Cell::Bits64(0x4009_21fb_5444_2d18),
+        ),
+        (b"u:Url\n x\n", Cell::Text(b" x")),
+        (b"s:String\n\"a,\n\"\"b\"\n", Cell::Text(b"a,\n\"b")),
+        (b"s:int32\n7\n", Cell::Text(b"7")),
+        (b"s:Int32 \n7\n", Cell::Text(b"7")),
+        (b"Int32\n7\n", Cell::Text(b"7")),
+        (b"a:String:Int32\n7\n", Cell::Whole(7)),
+        (b":Int32\n7\n", Cell::Whole(7)),
+        (b"\xef\xbb\xbf\xef\xbb\xbfa:Int32\r\n7", Cell::Whole(7)),
     ];
-    for (i, (bytes, rows)) in files.iter().enumerate() {
-        assert_eq!(rt; rows_of(rt.alloc(), bytes), *rows, "at {i}");
+    for (i, (bytes, cell)) in files.iter().enumerate() {
+        assert!(rt; first_cell(rt.alloc(), bytes, *cell), "at {i}");
     }
+}
+
+// Why a file gives no table.
+fn cause(alloc: Global, bytes: &[u8]) -> Option<TableRefusal> {
+    match read_table(alloc, bytes, b"t.csv") {
+        Ok(_) => None,
+        Err(cause) => Some(cause),
+    }
+}
+
+#[test]
+fn the_first_cause_is_told(rt: HostRuntime) {
+    let files: [(&[u8], Option<TableRefusal>); 11] = [
+        (b"a\n", None),
+        (b"", Some(TableRefusal::NoHeader)),
+        (b"\n\r\n", Some(TableRefusal::NoHeader)),
+        (
+            b"a,b,a:Byte\n1\n",
+            Some(TableRefusal::RepeatedColumn { column: 3 }),
+        ),
+        (
+            b",column1\n",
+            Some(TableRefusal::RepeatedColumn { column: 2 }),
+        ),
+        (
+            b"column2,\n",
+            Some(TableRefusal::RepeatedColumn { column: 2 }),
+        ),
+        (b"a b,a%20b,x\n", None),
+        (
+            b"a.b,a.b:Url\n",
+            Some(TableRefusal::RepeatedColumn { column: 2 }),
+        ),
+        (
+            b"a,b\n1,2\n1\n1,2,3\n",
+            Some(TableRefusal::Ragged { row: 2 }),
+        ),
+        (b"a:Byte,b\nx\n", Some(TableRefusal::Ragged { row: 1 })),
+        (
+            b"a,n:Int16\nx,1\nx,32768\n",
+            Some(TableRefusal::BadCell { row: 2, column: 2 }),
+        ),
+    ];
+    for (i, (bytes, expected)) in files.iter().enumerate() {
+        assert!(rt; cause(rt.alloc(), bytes) == *expected, "at {i}");
+    }
+}
+
+#[test]
+fn what_is_no_value_is_a_bad_cell(rt: HostRuntime) {
+    let files: [&[u8]; 20] = [
+        b"n:Byte\n256\n",
+        b"n:UInt32\n4294967296\n",
+        b"n:UInt32\n18446744073709551617\n",
+        b"n:Byte\n-1\n",
+        b"n:Int16\n-32769\n",
+        b"n:UInt16\n65536\n",
+        b"n:Int32\n2147483648\n",
+        b"n:Int32\n-2147483649\n",
+        b"n:Int32,s\n,\n",
+        b"n:Int32\n  \n",
+        b"n:Int32\n1 2\n",
+        b"n:Int32\n+-1\n",
+        b"x:Float32\n0x0000000\n",
+        b"x:Float64\n0x00000000\n",
+        b"x:Float32\n 0x00000000\n",
+        b"n:UInt16\n-1\n",
+        b"n:Int32\n\t7\n",
+        b"n:Int32\n+ 7\n",
+        b"x:Float32\n0X00000000\n",
+        b"x:Float64,y:Int32\n0x00000000,\n",
+    ];
+    let bad = Some(TableRefusal::BadCell { row: 1, column: 1 });
+    for (i, bytes) in files.iter().enumerate() {
+        assert!(rt; cause(rt.alloc(), bytes) == bad, "at {i}");
+    }
+}
+
+// A header of so many empty fields, in a file of so many bytes.
+fn wide(alloc: Global, commas: usize, len: usize) -> Result<Option<TableRefusal>, Fail> {
+    let mut bytes = vec![in alloc; b','; commas]?;
+    bytes.resize(len, b'\n')?;
+    Ok(cause(alloc, bytes.as_slice()))
+}
+
+#[test]
+fn limits_are_kept(rt: HostRuntime) -> Result<(), Fail> {
+    assert!(rt; wide(rt.alloc(), 1023, 1024)? == None);
+    assert!(rt; wide(rt.alloc(), 1024, 1025)? == Some(TableRefusal::TooWide));
+    Ok(())
 }

@@ -1,42 +1,79 @@
-use Rattle.std.proofs.Common.{rules, refl, arith, ◌≡◌, ◌∷◌, true, false, length}
+use Rattle.std.proofs.Common.{rules, refl, arith, ◌≡◌, ◌∷◌, ◌+◌, true, false, length}
 use Rattle.std.proofs.lemmas.Result.{err_from_is_err_and}
 use Rattle.csv.specs.Records.{fields_of}
-use Rattle.csv_source.specs.Held.{rows_of}
-use Rattle.csv_source.proofs.Reading.{row-bad, row-more}
+use Rattle.csv_source.specs.Held.{AreEnds, fields_from, fields_in, rows_of, total_all}
+use Rattle.csv_source.proofs.Reading.{row-bad, row-more, row-room}
+use Rattle.csv_source.proofs.Rows.{rows_of-length}
 use Rattle.csv_source.proofs.read.read_rows.Goals as goal
 
 pub records-init : goal.records-init
-unfolding rows_of
-records-init c = rw c.in_ok-cells.ensures.fields (c.requires.stands, c.in_ok-cells.ensures.partial, omega arith, refl, refl)
+unfolding rows_of fields_from AreEnds total_all
+records-init c =
+    rw (c.in_ok-cells.ensures.text, c.in_ok-cells.ensures.ends)
+    record {
+      stands = c.requires.stands;
+      are_ends = refl;
+      count = omega arith;
+      are_rows = refl;
+      long = refl;
+      short = omega arith;
+    }
 
 pub returns-then-not-branch-clause-rows : goal.returns-then-not-branch-clause-rows
 returns-then-not-branch-clause-rows c =
     let none : c.in_ok-next_record.field-0 ≡ false = search (rules, c.if-not-branch.true) in
-    let held = fields_of c.args.header ∷ rows_of (length c.args.columns.now) c.records.rows (fields_of c.records.cells) in
-    rw none at (c.in_ok-next_record.ensures.reads c.args.bytes.now held c.records.invariant.0)
-
-pub returns-in_err-push_row-clause-unbuilt : goal.returns-in_err-push_row-clause-unbuilt
-returns-in_err-push_row-clause-unbuilt c =
-    let found : c.in_ok-next_record.field-0 ≡ true = search (rules, c.if-not-branch.false) in
-    let held = fields_of c.args.header ∷ rows_of (length c.args.columns.now) c.records.rows (fields_of c.records.cells) in
-    let stands = rw found at (c.in_ok-next_record.ensures.reads c.args.bytes.now held c.records.invariant.0) in
-    let p = err_from_is_err_and c.from_residual-in_err-push_row.result c.from_residual-in_err-push_row.ensures.1 in
-    rw (p.1, p.2) (λ is. row-bad c.args.bytes.now (fields_of c.args.header) c.args.columns.now (rows_of (length c.args.columns.now) c.records.rows (fields_of c.records.cells)) (fields_of c.next_record.new.into) c.next_record.new.reader stands (c.in_err-push_row.ensures.unbuilt is))
+    let held = fields_of c.args.header ∷ rows_of (length c.args.columns.now) c.records.rows (fields_in c.records.cells.ends.items c.records.cells.text.items) in
+    rw none at (c.in_ok-next_record.ensures.reads c.args.bytes.now held c.records.invariant.stands)
 
 pub overflow_add-rows : goal.overflow_add-rows
 overflow_add-rows c =
-    let inv = c.records.invariant in
     let found : c.in_ok-next_record.field-0 ≡ true = search (rules, c.if-not-branch.false) in
-    let held = fields_of c.args.header ∷ rows_of (length c.args.columns.now) c.records.rows (fields_of c.records.cells) in
-    let stands = rw found at (c.in_ok-next_record.ensures.reads c.args.bytes.now held inv.0) in
-    let m = row-more c.args.bytes.now (fields_of c.args.header) c.args.columns.now c.records.rows (fields_of c.records.cells) (fields_of c.next_record.new.into) (fields_of c.push_row.new.cells) c.next_record.new.reader c.requires.short stands inv.2 inv.3 inv.4 c.in_ok-push_row.ensures.row c.in_ok-push_row.ensures.fields in
-    omega (arith, m.0)
+    let held = fields_of c.args.header ∷ rows_of (length c.args.columns.now) c.records.rows (fields_in c.records.cells.ends.items c.records.cells.text.items) in
+    let stands = rw found at (c.in_ok-next_record.ensures.reads c.args.bytes.now held c.records.invariant.stands) in
+    let room = row-room c.args.bytes.now (fields_of c.args.header) (length c.args.columns.now) c.records.rows (fields_in c.records.cells.ends.items c.records.cells.text.items) (fields_of c.next_record.new.into) c.next_record.new.reader c.requires.short stands in
+    omega (arith, room.0)
+
+pub overflow_add-rows-in-records : goal.overflow_add-rows-in-records
+overflow_add-rows-in-records c =
+    let found : c.in_ok-next_record.field-0 ≡ true = search (rules, c.if-not-branch.false) in
+    let held = fields_of c.args.header ∷ rows_of (length c.args.columns.now) c.records.rows (fields_in c.records.cells.ends.items c.records.cells.text.items) in
+    let stands = rw found at (c.in_ok-next_record.ensures.reads c.args.bytes.now held c.records.invariant.stands) in
+    let room = row-room c.args.bytes.now (fields_of c.args.header) (length c.args.columns.now) c.records.rows (fields_in c.records.cells.ends.items c.records.cells.text.items) (fields_of c.next_record.new.into) c.next_record.new.reader c.requires.short stands in
+    omega (arith, room.0)
+
+pub push_row-requires-clause-short : goal.push_row-requires-clause-short
+push_row-requires-clause-short c =
+    let found : c.in_ok-next_record.field-0 ≡ true = search (rules, c.if-not-branch.false) in
+    let held = fields_of c.args.header ∷ rows_of (length c.args.columns.now) c.records.rows (fields_in c.records.cells.ends.items c.records.cells.text.items) in
+    let stands = rw found at (c.in_ok-next_record.ensures.reads c.args.bytes.now held c.records.invariant.stands) in
+    let room = row-room c.args.bytes.now (fields_of c.args.header) (length c.args.columns.now) c.records.rows (fields_in c.records.cells.ends.items c.records.cells.text.items) (fields_of c.next_record.new.into) c.next_record.new.reader c.requires.short stands in
+    omega (arith, room.1, c.records.invariant.long)
+
+pub returns-in_err-push_row-clause-first_cause : goal.returns-in_err-push_row-clause-first_cause
+returns-in_err-push_row-clause-first_cause c =
+    let found : c.in_ok-next_record.field-0 ≡ true = search (rules, c.if-not-branch.false) in
+    let fields = fields_in c.records.cells.ends.items c.records.cells.text.items in
+    let rows = rows_of (length c.args.columns.now) c.records.rows fields in
+    let stands = rw found at (c.in_ok-next_record.ensures.reads c.args.bytes.now (fields_of c.args.header ∷ rows) c.records.invariant.stands) in
+    let p = err_from_is_err_and c.from_residual-in_err-push_row.result c.from_residual-in_err-push_row.ensures.1 in
+    let count : c.records.rows + 1 ≡ length rows + 1 = omega (arith, rows_of-length (length c.args.columns.now) c.records.rows fields) in
+    rw (p.1, p.2) (λ other. row-bad c.args.bytes.now (fields_of c.args.header) c.args.columns.now rows (fields_of c.next_record.new.into) c.in_err-push_row.field-0.0 (c.records.rows + 1) c.next_record.new.reader stands c.records.invariant.are_rows count (c.in_err-push_row.ensures.first_cause other))
 
 pub records-preserved : goal.records-preserved
 records-preserved c =
     let inv = c.records.invariant in
     let found : c.in_ok-next_record.field-0 ≡ true = search (rules, c.if-not-branch.false) in
-    let held = fields_of c.args.header ∷ rows_of (length c.args.columns.now) c.records.rows (fields_of c.records.cells) in
-    let stands = rw found at (c.in_ok-next_record.ensures.reads c.args.bytes.now held inv.0) in
-    let m = row-more c.args.bytes.now (fields_of c.args.header) c.args.columns.now c.records.rows (fields_of c.records.cells) (fields_of c.next_record.new.into) (fields_of c.push_row.new.cells) c.next_record.new.reader c.requires.short stands inv.2 inv.3 inv.4 c.in_ok-push_row.ensures.row c.in_ok-push_row.ensures.fields in
-    (m.1, c.in_ok-push_row.ensures.partial, m.2, m.3, m.4)
+    let fields = fields_in c.records.cells.ends.items c.records.cells.text.items in
+    let held = fields_of c.args.header ∷ rows_of (length c.args.columns.now) c.records.rows fields in
+    let stands = rw found at (c.in_ok-next_record.ensures.reads c.args.bytes.now held inv.stands) in
+    let room = row-room c.args.bytes.now (fields_of c.args.header) (length c.args.columns.now) c.records.rows fields (fields_of c.next_record.new.into) c.next_record.new.reader c.requires.short stands in
+    let e = c.in_ok-push_row.ensures in
+    let m = row-more c.args.bytes.now (fields_of c.args.header) c.args.columns.now c.records.rows fields (fields_of c.next_record.new.into) (fields_in c.push_row.new.cells.ends.items c.push_row.new.cells.text.items) c.next_record.new.reader stands inv.count inv.are_rows e.row e.fields in
+    record {
+      stands = m.0;
+      are_ends = e.are_ends;
+      count = m.1;
+      are_rows = m.2;
+      long = omega (arith, e.length, inv.long, m.3);
+      short = omega (arith, e.length, inv.long, room.1);
+    }

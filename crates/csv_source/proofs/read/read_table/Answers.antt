@@ -1,64 +1,95 @@
-use Rattle.std.proofs.Common.{rules, sym, ap, arith, ◌≡◌, ◌∙◌, ◌∷◌, [], map, true, false}
+use Rattle.std.proofs.Common.{rules, sym, ap, arith, ◌≡◌, ◌∙◌, ◌∷◌, [], true, false, None, Some}
 use Rattle.std.proofs.lemmas.Result.{err_from_is_err_and}
 use Rattle.csv.specs.Records.{fields_of}
 use Rattle.csv_source.specs.Csv.{csv_records}
-use Rattle.csv_source.specs.Plain.{column_of, is_header}
-use Rattle.csv_source.proofs.PlainFacts.{header-bad, header-many, no-records, plain-long, plain-none, plain-some, rows-bad}
+use Rattle.csv_source.specs.Header.{columns_of, repeated}
+use Rattle.csv_source.specs.Held.{fields_in}
+use Rattle.csv_source.proofs.Columns.{columns-length}
 use Rattle.csv_source.proofs.Standings.{stands-front}
+use Rattle.csv_source.proofs.TableFacts.{file-long, file-records, no-header, repeats, row-wrong, table-found, too-wide}
 use Rattle.csv_source.proofs.read.read_table.Goals as goal
-use Rattle.csv_source.proofs.read.read_table.Goals.{then-not-branch-via-then-not-branch, then-not-branch-via-else-not-branch+then-len-gt-MOST_COLUMNS}
 
-pub returns-then-bytes-gt-MOST_BYTES-clause-unbuilt : goal.returns-then-bytes-gt-MOST_BYTES-clause-unbuilt
-returns-then-bytes-gt-MOST_BYTES-clause-unbuilt c = λ _. plain-long c.args.file_name.now c.args.bytes.now (omega (arith, c.if-bytes-gt-MOST_BYTES.true))
+pub returns-then-bytes-gt-MOST_BYTES-clause-first_cause : goal.returns-then-bytes-gt-MOST_BYTES-clause-first_cause
+returns-then-bytes-gt-MOST_BYTES-clause-first_cause c = λ _. file-long c.args.file_name.now c.args.bytes.now (omega (arith, c.if-bytes-gt-MOST_BYTES.true))
 
-pub returns-then-not-branch-clause-unbuilt : goal.returns-then-not-branch-clause-unbuilt
-returns-then-not-branch-clause-unbuilt c =
+pub returns-then-not-branch-clause-first_cause : goal.returns-then-not-branch-clause-first_cause
+returns-then-not-branch-clause-first_cause c = λ _.
     let file_name = c.args.file_name.now in
     let bytes = c.args.bytes.now in
-    let header = fields_of c.next_record.new.into in
     let reads = c.in_ok-next_record.ensures.reads bytes [] c.open-reader.ensures in
-    elim c.then-not-branch.branch [
-      | then-not-branch-via-then-not-branch w ↦ λ _.
-          let none : c.in_ok-next_record.field-0 ≡ false = search (rules, w.if-not-branch.true) in
-          plain-none file_name bytes (no-records file_name (csv_records bytes) (rw none at reads))
-      | then-not-branch-via-else-not-branch+then-len-gt-MOST_COLUMNS w ↦ λ _.
-          let found : c.in_ok-next_record.field-0 ≡ true = search (rules, w.if-not-branch.false) in
-          let (rest, front) = stands-front bytes (header ∷ []) c.next_record.new.reader (rw found at reads) in
-          plain-none file_name bytes (header-bad file_name (csv_records bytes) header rest front (header-many header (omega (arith, w.len.ensures, w.if-len-gt-MOST_COLUMNS.true))))
-    ]
+    let none : c.in_ok-next_record.field-0 ≡ false = search (rules, c.if-not-branch.true) in
+    file-records file_name bytes (omega (arith, c.if-bytes-gt-MOST_BYTES.false)) ∙ no-header file_name (csv_records bytes) (rw none at reads)
 
-pub returns-then-not-may_be_header-clause-unbuilt : goal.returns-then-not-may_be_header-clause-unbuilt
-returns-then-not-may_be_header-clause-unbuilt c = λ _.
+pub returns-then-len-gt-MOST_COLUMNS-clause-first_cause : goal.returns-then-len-gt-MOST_COLUMNS-clause-first_cause
+returns-then-len-gt-MOST_COLUMNS-clause-first_cause c = λ _.
     let file_name = c.args.file_name.now in
     let bytes = c.args.bytes.now in
     let header = fields_of c.next_record.new.into in
     let reads = c.in_ok-next_record.ensures.reads bytes [] c.open-reader.ensures in
     let found : c.in_ok-next_record.field-0 ≡ true = search (rules, c.if-not-branch.false) in
     let (rest, front) = stands-front bytes (header ∷ []) c.next_record.new.reader (rw found at reads) in
-    let bad : is_header (map column_of header) ≡ false =
-    ap is_header (sym (c.items.ensures ∙ c.in_ok-columns.ensures)) ∙ sym c.may_be_header.ensures ∙ c.if-not-may_be_header.true in
-    plain-none file_name bytes (header-bad file_name (csv_records bytes) header rest front bad)
+    file-records file_name bytes (omega (arith, c.if-bytes-gt-MOST_BYTES.false))
+    ∙ too-wide file_name (csv_records bytes) header rest front (omega (arith, c.len.ensures, c.if-len-gt-MOST_COLUMNS.true))
 
-pub returns-in_err-cells-clause-unbuilt : goal.returns-in_err-cells-clause-unbuilt
-returns-in_err-cells-clause-unbuilt c =
+pub first_repeated-requires : goal.first_repeated-requires
+first_repeated-requires c =
+    let header = fields_of c.next_record.new.into in
+    rw (c.items.ensures, c.in_ok-columns.ensures) (omega (arith, columns-length 1 header, c.len.ensures, c.if-len-gt-MOST_COLUMNS.false))
+
+pub returns-in-Some-clause-first_cause : goal.returns-in-Some-clause-first_cause
+returns-in-Some-clause-first_cause c = λ _.
     let file_name = c.args.file_name.now in
     let bytes = c.args.bytes.now in
     let header = fields_of c.next_record.new.into in
+    let reads = c.in_ok-next_record.ensures.reads bytes [] c.open-reader.ensures in
+    let found : c.in_ok-next_record.field-0 ≡ true = search (rules, c.if-not-branch.false) in
+    let (rest, front) = stands-front bytes (header ∷ []) c.next_record.new.reader (rw found at reads) in
+    let again : repeated (columns_of header) ≡ Some c.in-Some.column = ap repeated (sym (c.items.ensures ∙ c.in_ok-columns.ensures)) ∙ sym c.in_ok-column.ensures ∙ c.in-Some.is in
+    file-records file_name bytes (omega (arith, c.if-bytes-gt-MOST_BYTES.false))
+    ∙ repeats file_name (csv_records bytes) header rest c.in-Some.column front (omega (arith, c.len.ensures, c.if-len-gt-MOST_COLUMNS.false)) again
+
+pub read_rows-requires-clause-few : goal.read_rows-requires-clause-few
+read_rows-requires-clause-few c =
+    let header = fields_of c.next_record.new.into in
+    rw (c.items-2.ensures, c.in_ok-columns.ensures) (omega (arith, columns-length 1 header, c.len.ensures, c.if-len-gt-MOST_COLUMNS.false))
+
+pub returns-in_err-cells-clause-first_cause : goal.returns-in_err-cells-clause-first_cause
+returns-in_err-cells-clause-first_cause c =
+    let file_name = c.args.file_name.now in
+    let bytes = c.args.bytes.now in
+    let header = fields_of c.next_record.new.into in
+    let once : repeated (columns_of header) ≡ None = ap repeated (sym (c.items.ensures ∙ c.in_ok-columns.ensures)) ∙ sym c.in_ok-column.ensures ∙ c.in_default.is in
     let p = err_from_is_err_and c.from_residual-in_err-cells.result c.from_residual-in_err-cells.ensures.1 in
-    let bad = rw (c.items-2.ensures, c.in_ok-columns.ensures) at c.in_err-cells.ensures.unbuilt in
-    rw (p.1, p.2) (λ is. plain-none file_name bytes (rows-bad file_name (csv_records bytes) header (bad is)))
+    let bad = rw (c.items-2.ensures, c.in_ok-columns.ensures) at c.in_err-cells.ensures.first_cause in
+    rw (p.1, p.2) (λ other.
+    file-records file_name bytes (omega (arith, c.if-bytes-gt-MOST_BYTES.false))
+    ∙ row-wrong file_name (csv_records bytes) header c.in_err-cells.field-0.0 (omega (arith, c.len.ensures, c.if-len-gt-MOST_COLUMNS.false)) once (bad other))
+
+pub invariant_of-result : goal.invariant_of-result
+invariant_of-result c =
+    let header = fields_of c.next_record.new.into in
+    let few = columns-length 1 header in
+    let rows = rw (c.items-2.ensures) at c.in_ok-cells.ensures.are_rows in
+    let once : repeated (columns_of header) ≡ None = ap repeated (sym (c.items.ensures ∙ c.in_ok-columns.ensures)) ∙ sym c.in_ok-column.ensures ∙ c.in_default.is in
+    record {
+      once = rw c.in_ok-columns.ensures once;
+      few = rw c.in_ok-columns.ensures (omega (arith, few, c.len.ensures, c.if-len-gt-MOST_COLUMNS.false));
+      are_rows = rows;
+      are_ends = c.in_ok-cells.ensures.are_ends;
+      short = c.in_ok-cells.ensures.short;
+    }
 
 pub returns-clause-table : goal.returns-clause-table
 returns-clause-table c =
     let file_name = c.args.file_name.now in
     let bytes = c.args.bytes.now in
     let header = fields_of c.next_record.new.into in
-    let good : is_header (map column_of header) ≡ true =
-    ap is_header (sym (c.items.ensures ∙ c.in_ok-columns.ensures)) ∙ sym c.may_be_header.ensures ∙ c.if-not-may_be_header.false in
+    let once : repeated (columns_of header) ≡ None = ap repeated (sym (c.items.ensures ∙ c.in_ok-columns.ensures)) ∙ sym c.in_ok-column.ensures ∙ c.in_default.is in
     rw (c.in_ok-columns.ensures, c.in_ok-new.ensures) (
-    plain-some file_name bytes header c.in_ok-cells.rows (fields_of c.in_ok-cells.cells)
-    (omega (arith, c.if-bytes-gt-MOST_BYTES.false))
+    file-records file_name bytes (omega (arith, c.if-bytes-gt-MOST_BYTES.false))
+    ∙ table-found file_name (csv_records bytes) header c.in_ok-cells.rows (fields_in c.in_ok-cells.cells.ends.items c.in_ok-cells.cells.text.items)
+    (omega (arith, c.len.ensures, c.if-len-gt-MOST_COLUMNS.false))
+    once
     (rw (c.items-2.ensures, c.in_ok-columns.ensures) at c.in_ok-cells.ensures.rows)
-    good
     (rw (c.items-2.ensures, c.in_ok-columns.ensures) at c.in_ok-cells.ensures.are_rows)
     )

@@ -1,7 +1,7 @@
 use Rattle.std.proofs.Common.{sym}
-use Rattle.csv.specs.Records.{fields_of}
+use Rattle.csv_source.specs.Held.{fields_in}
 use Rattle.csv_source.proofs.Rows.{held-count}
 use Rattle.csv_source.proofs.table.Table.rows.Goals as goal
 
 pub returns : goal.returns
-returns c = rw (← c.self.view_is) (sym (held-count c.self.inside.columns c.self.inside.rows (fields_of c.self.inside.cells)))
+returns c = rw (← c.self.view_is) (sym (held-count c.self.inside.columns c.self.inside.rows (fields_in c.self.inside.cells.ends.items c.self.inside.cells.text.items)))
