@@ -36,18 +36,18 @@ use Rattle.xdr_stream.specs.declared.decoder.State.TheVariants as state
 
 -- values that end in the front of some bytes end there in all of them
 ends_further : (d : Dataset) (bytes more : List ℕ) (n : ℕ) → EndsBehind d bytes n → EndsBehind d (bytes ++ more) n
-ends_further d bytes more n (ts, le, spells) = (ts, omega (arith, le, length-append bytes more), subst (Spells d ts) (sym (take-append-le n bytes more le)) spells)
+ends_further d bytes more n (ts, at) = (ts, (omega (arith, at.0, length-append bytes more), subst (Spells d ts) (sym (take-append-le n bytes more at.0)) at.1))
 
 -- they end at one place
 end_below : (d : Dataset) (bs : List ℕ) (n k : ℕ) → EndsBehind d bs n → EndsBehind d bs (n + k) → k ≡ 0
-end_below d bs n k (ts, le, spells) (us, le', spells') =
+end_below d bs n k (ts, one) (us, two) =
     let same : take (n + k) bs ≡ take n bs ++ take k (drop n bs) = take-add n k bs in
-    let (_, none) = one_spelling d ts us (take n bs) (take k (drop n bs)) spells (subst (Spells d us) same spells') in
-    omega (arith, ap length none, length-take k (drop n bs), length-drop n bs, le')
+    let (_, none) = one_spelling d ts us (take n bs) (take k (drop n bs)) one.1 (subst (Spells d us) same two.1) in
+    omega (arith, ap length none, length-take k (drop n bs), length-drop n bs, two.0)
 
 less_or_more : (a b : ℕ) → ((k : ℕ) × (b ≡ a + k)) ⊎ ((k : ℕ) × (a ≡ b + k))
-less_or_more zero b = inl (b, refl)
-less_or_more (suc a) zero = inr (suc a, refl)
+less_or_more zero b = inl (b, omega arith)
+less_or_more (suc a) zero = inr (suc a, omega arith)
 less_or_more (suc a) (suc b) = ⊎_elim (λ x. inl (x.0, omega (arith, x.1))) (λ x. inr (x.0, omega (arith, x.1))) (less_or_more a b)
 
 one_end : (d : Dataset) (bs : List ℕ) (n m : ℕ) → EndsBehind d bs n → EndsBehind d bs m → n ≡ m
