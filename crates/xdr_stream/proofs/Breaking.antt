@@ -94,9 +94,11 @@ goes_on : (d : Dataset) (bytes put t : List ℕ) (ws : List Want) (own : List �
 goes_on d bytes put t ws own s fs vs last front (more, is) =
     let w = wants_of d in
     let joined = said_join w s.fields fs ws s.steps in
-    prefix_trans t put (said w (s.fields ++ fs) ++ says_next vs last) front
-    (more, ap (λ l. l ++ says_next vs last) joined ∙ append_assoc (said w s.fields) (said ws fs) (says_next vs last) ∙ ap (λ l. said w s.fields ++ l) is
-        ∙ sym (append_assoc (said w s.fields) (says_next ws own) more) ∙ ap (λ l. l ++ more) (sym s.is_put))
+    prefix_trans t put (said w (s.fields ++ fs) ++ says_next vs last) front (
+      more,
+      ap (λ l. l ++ says_next vs last) joined ∙ append_assoc (said w s.fields) (said ws fs) (says_next vs last) ∙ ap (λ l. said w s.fields ++ l) is
+          ∙ sym (append_assoc (said w s.fields) (says_next ws own) more) ∙ ap (λ l. l ++ more) (sym s.is_put),
+    )
 
 cons_none : (w : Want) (ws vs : List Want) → w ∷ ws ≡ vs → vs ≡ [] → ⊥
 cons_none w ws vs one two = cc

@@ -59,9 +59,11 @@ pub says_done : (q : Decoder) (d : Dataset) (piece bytes put : List ℕ) (p : Pu
 says_done q d piece bytes put (pushed.Done used) same said =
     let read : EndsBehind (dataset_of q) (bytes ++ take used piece) (length (bytes ++ take used piece)) = ends q (bytes ++ take used piece) put said.1 said.2 in
     let long : length (bytes ++ take used piece) ≡ length bytes + used = omega (arith, length-append bytes (take used piece), length-take used piece, said.0) in
-    let whole : (bytes ++ take used piece) ++ drop used piece ≡ bytes ++ piece = append_assoc bytes (take used piece) (drop used piece) ∙ ap (λ l. bytes ++ l) (take-append-drop used piece) in
-    (said.0, subst (λ e. EndsBehind e (bytes ++ piece) (length bytes + used)) same
-    (subst (λ l. EndsBehind (dataset_of q) l (length bytes + used)) whole (ends_further (dataset_of q) (bytes ++ take used piece) (drop used piece) (length bytes + used) (subst (EndsBehind (dataset_of q) (bytes ++ take used piece)) long read))))
+    let whole : (bytes ++ take used piece) ++ drop used piece ≡ bytes ++ piece = append_assoc bytes (take used piece) (drop used piece) ∙ ap (λ l. bytes ++ l) (take-append-drop used piece) in (
+      said.0,
+      subst (λ e. EndsBehind e (bytes ++ piece) (length bytes + used)) same
+          (subst (λ l. EndsBehind (dataset_of q) l (length bytes + used)) whole (ends_further (dataset_of q) (bytes ++ take used piece) (drop used piece) (length bytes + used) (subst (EndsBehind (dataset_of q) (bytes ++ take used piece)) long read))),
+    )
 says_done q d piece bytes put p same said = tt
 
 pub says_refused : (q : Decoder) (d : Dataset) (start : ℕ) (piece bytes put : List ℕ) (p : Pushed) → dataset_of q ≡ d → start_of q ≡ start → IsSaid q piece bytes put p → WhereRefused (IsFirstBad d start (bytes ++ piece)) p
@@ -122,7 +124,8 @@ stands_then q piece bytes put gained pushed.WriteFault all more said = tt
 pub stopped_more : (r : Decoder) (bad : BadField) (bytes put piece : List ℕ) → IsStopped r bad bytes put → IsStopped r bad (bytes ++ piece) put
 stopped_more r bad bytes put piece s =
     record {
-      fault = s.fault; place = s.place;
+      fault = s.fault;
+      place = s.place;
       stays = λ more. subst (λ l. IsBadField (dataset_of r) l s.fault s.place) (sym (append_assoc bytes piece more)) (s.stays (piece ++ more));
       shows = λ more. subst (λ l. ShowsFront (dataset_of r) l put) (sym (append_assoc bytes piece more)) (s.shows (piece ++ more));
       is = s.is;
@@ -135,8 +138,19 @@ in_state r s = record { start = r.start; dataset = r.dataset; place = r.place; h
 reads_in : (r : Decoder) (s : State) (bytes put : List ℕ) → Reads r bytes put → Reads (in_state r s) bytes put
 reads_in r s bytes put read =
     record {
-      well_formed = read.well_formed; front = read.front; own = read.own; fields = read.fields; parts = read.parts; good = read.good; steps = read.steps; is_placed = read.is_placed; is_own = read.is_own;
-      is_put = read.is_put; have_marks = read.have_marks; is_place = read.is_place; small = read.small;
+      well_formed = read.well_formed;
+      front = read.front;
+      own = read.own;
+      fields = read.fields;
+      parts = read.parts;
+      good = read.good;
+      steps = read.steps;
+      is_placed = read.is_placed;
+      is_own = read.is_own;
+      is_put = read.is_put;
+      have_marks = read.have_marks;
+      is_place = read.is_place;
+      small = read.small;
     }
 
 stopped_in : (r : Decoder) (s : State) (bad : BadField) (bytes put : List ℕ) → IsStopped r bad bytes put → IsStopped (in_state r s) bad bytes put
@@ -173,7 +187,9 @@ some_said q piece bytes put t pushed.More answer all read front =
     let P : List ℕ → Type 0 = λ l. Spelled (dataset_of q) (bytes ++ l) put (wants_left (dataset_of q).members q.place) s.own in
     let b : IsBroken (dataset_of q) piece bytes put =
     record {
-      used = length piece; wants = wants_left (dataset_of q).members q.place; own = s.own;
+      used = length piece;
+      wants = wants_left (dataset_of q).members q.place;
+      own = s.own;
       spelled = subst P (sym (all_used piece)) (record { front = s.front; fields = s.fields; parts = s.parts; good = s.good; steps = s.steps; is_put = s.is_put });
       is_loose = own_loose q.place (wants_left (dataset_of q).members q.place) q.held.items s.own s.is_own;
     } in

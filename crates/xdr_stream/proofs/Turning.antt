@@ -63,7 +63,8 @@ spelled_one : (d : Dataset) (bytes put put' : List ℕ) (w : Want) (ws : List Wa
     → said (wants_of d) s.fields ++ says w f ≡ put' → Spelled d bytes put' (becomes w f ++ ws) []
 spelled_one d bytes put put' w ws own f s goes good is =
     record {
-      front = s.front ++ own; fields = s.fields ++ f ∷ [];
+      front = s.front ++ own;
+      fields = s.fields ++ f ∷ [];
       parts = s.parts ∙ sym (append-nil (s.front ++ own));
       good = spells_one s.fields s.front f own s.good good;
       steps = steps_one (wants_of d) s.fields w ws f s.steps goes;
@@ -82,7 +83,11 @@ spelled_field d bytes put w ws own f s none goes good =
 pub spelled_more : (d : Dataset) (bytes put : List ℕ) (w : Want) (ws : List Want) (own piece : List ℕ) → Spelled d bytes put (w ∷ ws) own → ((l : List ℕ) → says_part w l ≡ []) → Spelled d (bytes ++ piece) put (w ∷ ws) (own ++ piece)
 spelled_more d bytes put w ws own piece s none =
     record {
-      front = s.front; fields = s.fields; parts = ap (λ l. l ++ piece) s.parts ∙ append_assoc s.front own piece; good = s.good; steps = s.steps;
+      front = s.front;
+      fields = s.fields;
+      parts = ap (λ l. l ++ piece) s.parts ∙ append_assoc s.front own piece;
+      good = s.good;
+      steps = s.steps;
       is_put = s.is_put ∙ ap (λ l. said (wants_of d) s.fields ++ l) (none own ∙ sym (none (own ++ piece)));
     }
 
@@ -90,7 +95,11 @@ spelled_more d bytes put w ws own piece s none =
 pub spelled_text : (d : Dataset) (bytes put : List ℕ) (n : ℕ) (ws : List Want) (own piece : List ℕ) → Spelled d bytes put (a_text n ∷ ws) own → Spelled d (bytes ++ piece) (put ++ flat_map shown_byte piece) (a_text n ∷ ws) (own ++ piece)
 spelled_text d bytes put n ws own piece s =
     record {
-      front = s.front; fields = s.fields; parts = ap (λ l. l ++ piece) s.parts ∙ append_assoc s.front own piece; good = s.good; steps = s.steps;
+      front = s.front;
+      fields = s.fields;
+      parts = ap (λ l. l ++ piece) s.parts ∙ append_assoc s.front own piece;
+      good = s.good;
+      steps = s.steps;
       is_put = ap (λ l. l ++ flat_map shown_byte piece) s.is_put ∙ append_assoc (said (wants_of d) s.fields) (flat_map shown_byte own) (flat_map shown_byte piece)
           ∙ ap (λ l. said (wants_of d) s.fields ++ l) (sym (flat_map-append shown_byte own piece));
     }
@@ -291,7 +300,8 @@ held_of ms p held own is = inner p.text refl
 pub reads_stays : (r : Decoder) (bytes put : List ℕ) → Reads r bytes put → Stays r bytes put
 reads_stays r bytes put s =
     record {
-      well_formed = s.well_formed; own = s.own;
+      well_formed = s.well_formed;
+      own = s.own;
       spelled = record { front = s.front; fields = s.fields; parts = s.parts; good = s.good; steps = s.steps; is_put = s.is_put };
       is_placed = s.is_placed;
       is_held = held_of (dataset_of r).members r.place r.held.items s.own s.is_own;
@@ -302,8 +312,19 @@ reads_stays r bytes put s =
 pub stays_reads : (r : Decoder) (bytes put : List ℕ) (s : Stays r bytes put) → IsOwn r.place (wants_left (dataset_of r).members r.place) r.held.items s.own → place_of r < 2 ^ 64 → Reads r bytes put
 stays_reads r bytes put s own small =
     record {
-      well_formed = s.well_formed; front = s.spelled.front; own = s.own; fields = s.spelled.fields; parts = s.spelled.parts; good = s.spelled.good; steps = s.spelled.steps;
-      is_placed = s.is_placed; is_own = own; is_put = s.spelled.is_put; have_marks = s.have_marks; is_place = s.is_place; small = small;
+      well_formed = s.well_formed;
+      front = s.spelled.front;
+      own = s.own;
+      fields = s.spelled.fields;
+      parts = s.spelled.parts;
+      good = s.spelled.good;
+      steps = s.spelled.steps;
+      is_placed = s.is_placed;
+      is_own = own;
+      is_put = s.spelled.is_put;
+      have_marks = s.have_marks;
+      is_place = s.is_place;
+      small = small;
     }
 
 none_long : (l : List ℕ) → length l ≤ 0 → l ≡ []
@@ -321,6 +342,7 @@ stays_ended r bytes put s none small =
   where
     empty : r.held.items ≡ s.own → length s.own ≤ 0 → IsOwn r.place [] r.held.items s.own
     empty same le = let nil = none_long s.own le in (same ∙ nil, nil)
+
     inner : (ms : Members) (t : Texts) → r.place.text ≡ t → IsHeld t [] r.held.items s.own → IsOwn r.place [] r.held.items s.own
     inner ms texts.Nothing at is = empty is.0 is.1
     inner ms (texts.Padding n) at is = empty is.0 is.1
@@ -428,9 +450,13 @@ stops m bytes put rest a w ws kind s first asks whole faulty =
     let shown = shows d sp.fields (w ∷ ws) sp.front [] sp.steps sp.good (faulty_wide w s.own kind is' wide) in
     let at : m.taken ≡ start_of m + length sp.front = omega (arith, s.is_place, ap length sp.parts, length-append sp.front s.own, ap length own) in
     record {
-      fault = is'.0; place = length sp.front; stays = bad;
+      fault = is'.0;
+      place = length sp.front;
+      stays = bad;
       shows = λ more. record {
-        good = sp.front; whole = shown.whole; more = shown.more;
+        good = sp.front;
+        whole = shown.whole;
+        more = shown.more;
         has_good = record { rest = s.own ++ (rest ++ more); parts = parts more; whole = inr (is'.0, bad more) };
         is_front = subst (λ l. IsFront d l shown.whole shown.more) (append-nil sp.front) shown.is_front;
         begins = subst (IsPrefix shown.whole) (sym silent) shown.begins;
@@ -467,7 +493,9 @@ breaks m d bytes put rest n a w ws f same s first asks goes good =
     let sp : Spelled (dataset_of m) (bytes ++ take n rest) put (w ∷ ws) s.own = subst (λ l. Spelled (dataset_of m) (bytes ++ take n rest) put l s.own) first s.spelled in
     subst (λ e. IsBroken e rest bytes (put ++ says w f)) (sym same)
     (record {
-      used = n; wants = becomes w f ++ ws; own = [];
+      used = n;
+      wants = becomes w f ++ ws;
+      own = [];
       spelled = spelled_field (dataset_of m) (bytes ++ take n rest) put w ws s.own f sp (asks_silent a w asks s.own) goes (subst (SpellsField f) own good);
       is_loose = loose_none (becomes w f ++ ws);
     })
@@ -500,7 +528,9 @@ pub string_breaks : (r : Decoder) (bytes put rest : List ℕ) (left size n : ℕ
 string_breaks r bytes put rest left size n s is le =
     let has = string_held r bytes put left size s is in
     record {
-      used = n; wants = a_text size ∷ a_padding size ∷ later (dataset_of r).members r.place; own = s.own ++ take n rest;
+      used = n;
+      wants = a_text size ∷ a_padding size ∷ later (dataset_of r).members r.place;
+      own = s.own ++ take n rest;
       spelled = string_spelled r bytes put (take n rest) left size s is;
       is_loose = omega (arith, has.1, length-append s.own (take n rest), length-take n rest, le);
     }

@@ -7,9 +7,13 @@ use Rattle.xdr_stream.specs.After.{dataset_of, place_of, start_of}
 pub turns-init : goal.turns-init
 turns-init g c =
     record {
-      within = omega arith; dataset = refl; start = refl; place = omega arith;
+      within = omega arith;
+      dataset = refl;
+      start = refl;
+      place = omega arith;
       comes = comes_first c.args.self.now c.args.self.now (g.O.Sink.written c.args.out.now) (g.O.Sink.written c.args.out.now) c.args.buffer.now.bytes.items c.args.buffer.now.bytes.items c.args.piece.now refl refl refl;
-      count = omega arith; beside = refl;
+      count = omega arith;
+      beside = refl;
     }
 
 pub turns-preserved : goal.turns-preserved
