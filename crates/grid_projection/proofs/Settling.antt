@@ -1,5 +1,5 @@
 -- Wholes that are marked already.
-use Rattle.std.proofs.Common.{◌≡◌, ℕ, zero, suc, ◌+◌, ◌-◌, ◌<◌, ◌≤◌, Bool, true, false, not, ◌||◌, ◌&&◌, cond, eqb, leb, List, [], ◌∷◌, ◌++◌, length, map, slice_get, get_or, All, Option, Some, None, refl, ap, ◌∙◌, sym, subst, arith}
+use Rattle.std.proofs.Common.{◌≡◌, ℕ, suc, ◌+◌, ◌-◌, ◌≤◌, Bool, true, false, not, ◌||◌, ◌&&◌, cond, eqb, leb, List, [], ◌∷◌, ◌++◌, map, slice_get, All, Option, Some, None, refl, ap, ◌∙◌, sym, subst, arith}
 use Rattle.std.specs.Cmp.Lexicographic.{pointwise}
 use Rattle.std.specs.List.{list_any}
 use Rattle.std.specs.Option.{option_and_then, option_or}
@@ -18,11 +18,10 @@ use Rattle.grid_projection.specs.First.{first_there}
 use Rattle.grid_projection.specs.Items.{are_some, slab_tests}
 use Rattle.grid_projection.specs.Members.{Found, named}
 use Rattle.constraint_parse.specs.declared.constraint.RawSlab.{RawSlab}
-use Rattle.grid_projection.proofs.Preorder.{member_at-get}
+use Rattle.dap_types.proofs.Preorder.{member_at-get}
 use Rattle.grid_projection.proofs.Within.{at_number}
 use Rattle.grid_projection.specs.Marks.{Row, placed, differ, clash, row_of}
 use Rattle.grid_projection.specs.Settled.{IsSettled, AreSettled}
-use Rattle.grid_projection.specs.Slabs.{pick_same}
 use Rattle.grid_projection.proofs.Fits.{neither}
 
 numbers_itself : (xs : List ℕ) → same_numbers xs xs ≡ true

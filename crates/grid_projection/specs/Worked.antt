@@ -1,10 +1,8 @@
 -- What the definitions say of some constraints on small datasets, computed.
-use Rattle.std.specs.Prelude.{◌≡◌, ℕ, pos, List, [], ◌∷◌, map, Option, Some, None, codes}
-use Rattle.dap_types.specs.Model.{Member, scalar, array, structure, grid, sequence, Members, no_members, member, Dataset}
+use Rattle.std.specs.Prelude.{◌≡◌, ℕ, pos, List, [], ◌∷◌, map, Some, None, codes}
+use Rattle.dap_types.specs.Model.{array, structure, grid, sequence, no_members, member, Dataset}
 use Rattle.dap_types.specs.declared.declarations.ArrayDecl.{ArrayDecl}
-use Rattle.dap_types.specs.declared.declarations.BaseType.{BaseType}
 use Rattle.dap_types.specs.declared.declarations.BaseType.TheVariants.{Int16, Int32, Text}
-use Rattle.dap_types.specs.declared.declarations.Column.{Column}
 use Rattle.dap_types.specs.declared.declarations.Dim.{Dim}
 use Rattle.dap_types.specs.declared.slabs.Slab.{Slab}
 use Rattle.dap_model.specs.Filter.{constrained}

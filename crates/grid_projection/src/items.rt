@@ -1,11 +1,11 @@
-ghost use Rattle.std.specs.Prelude.{◌≡◌, ◌+◌, ◌++◌, ◌==◌, ◌≤◌, ◌&&◌, not, if◌then◌else◌, ℕ, List, [], ◌∷◌, map, length, None, Some, IfOk, IfErr, OnOk, MatchResult, false};
+ghost use Rattle.std.specs.Prelude.{◌≡◌, ◌+◌, ◌++◌, ◌==◌, ◌&&◌, not, if◌then◌else◌, ℕ, [], ◌∷◌, length, None, Some, IfOk, IfErr, OnOk, false};
 ghost use Rattle.std.specs.List.{list_any};
 ghost use Rattle.std.specs.Option.{option_or};
 ghost use Rattle.dap_types.specs.View.{dataset_view};
 ghost use Rattle.grid_projection.specs.First.{first_there};
 ghost use Rattle.grid_projection.specs.Items.{are_some, item_cause, slab_tests, sliced_inside, sliced_sizes};
 ghost use Rattle.grid_projection.specs.Marks.{item_marks, last_slabs, path_of, row_of};
-ghost use Rattle.grid_projection.specs.Members.{preorder_all};
+ghost use Rattle.dap_types.specs.Preorder.{preorder_all};
 ghost use Rattle.grid_projection.specs.Settled.{AreSettled};
 ghost use Rattle.grid_projection.specs.Resolved.{AreMembers, Refuses, marks_in, part_view};
 

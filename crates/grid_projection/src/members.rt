@@ -1,8 +1,9 @@
-ghost use Rattle.std.specs.Prelude.{◌≡◌, ◌+◌, ◌≤◌, ◌<◌, ℕ, List, map, length, IfOk, MatchOption, None, Some};
+ghost use Rattle.std.specs.Prelude.{◌≡◌, ◌<◌, ℕ, List, map, IfOk, MatchOption, None, Some};
 ghost use Rattle.dap_types.specs.Numbered.{number_in};
 ghost use Rattle.dap_types.specs.View.{dataset_view};
 ghost use Rattle.dap_types.specs.WellFormed.{IsWellFormed, number_of};
-ghost use Rattle.grid_projection.specs.Members.{named, preorder_all};
+ghost use Rattle.dap_types.specs.Preorder.{preorder_all};
+ghost use Rattle.grid_projection.specs.Members.{named};
 ghost use Rattle.grid_projection.specs.Resolved.{AreMembers, part_view, found_view};
 
 use crate::parts::{Part, list_level};

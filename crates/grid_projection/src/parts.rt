@@ -1,7 +1,7 @@
 ghost use Rattle.std.specs.Prelude.{◌≡◌, [], ◌∷◌, ◌++◌, map, OnOk};
 ghost use Rattle.dap_types.specs.Model.{Member, scalar};
 ghost use Rattle.dap_types.specs.View.{member_view, members_view};
-ghost use Rattle.grid_projection.specs.Members.{preorder, preorder_all};
+ghost use Rattle.dap_types.specs.Preorder.{preorder, preorder_all};
 ghost use Rattle.grid_projection.specs.Resolved.{part_view};
 
 use dap_types::{ArrayDecl, Column, Decl, Memory};

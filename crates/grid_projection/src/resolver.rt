@@ -6,7 +6,7 @@ ghost use Rattle.dap_types.specs.WellFormed.{IsWellFormed, number_of};
 ghost use Rattle.grid_projection.specs.Clauses.{clauses_cause};
 ghost use Rattle.grid_projection.specs.Items.{items_cause};
 ghost use Rattle.grid_projection.specs.Marks.{marks, marks_of_items, whole};
-ghost use Rattle.grid_projection.specs.Members.{preorder_all};
+ghost use Rattle.dap_types.specs.Preorder.{preorder_all};
 ghost use Rattle.grid_projection.specs.Resolved.{AreMembers, Refuses, cause, marks_in};
 
 use crate::clauses::judge_clause;

@@ -1,11 +1,8 @@
-use Rattle.std.proofs.Common.{◌≡◌, [], ◌∷◌, List, length, ◌≤◌, true, false, cond, eqb, Bool, refl, sym, ◌∙◌, ap, append-nil, arith}
+use Rattle.std.proofs.Common.{◌≡◌, [], ◌∷◌, true, false, cond, sym, ◌∙◌, ap, append-nil}
 use Rattle.dap_types.proofs.Views.{view-Sequence}
-use Rattle.dap_types.specs.Model.{Member, sequence}
-use Rattle.dap_types.specs.declared.declarations.Column.{Column}
-use Rattle.dap_model.specs.Filter.{marked, unchanged}
-use Rattle.grid_projection.specs.Left.{are_left, left_of}
+use Rattle.dap_types.specs.Model.{sequence}
+use Rattle.grid_projection.specs.Left.{are_left}
 use Rattle.grid_projection.specs.Resolved.{marks_in}
-use Rattle.grid_projection.proofs.Causes.{some_from_not_empty}
 use Rattle.grid_projection.proofs.Leaving.{pushed, left_sequence, are_left_some, are_left_none}
 use Rattle.grid_projection.proofs.sequences.leave_sequence.Goals as goal
 
