@@ -1,10 +1,10 @@
--- The body of a plain table is a good one.
-use Rattle.std.proofs.Common.{◌≡◌, ℕ, ◌<◌, ◌^◌, List, [], ◌∷◌, ◌++◌, length, map, All, codes, refl, ap, arith}
+-- The body of a table with plain columns is a good one.
+use Rattle.std.proofs.Common.{◌≡◌, ◌∙◌, ℕ, ◌<◌, ◌^◌, List, [], ◌∷◌, ◌++◌, length, map, All, codes, refl, ap, arith}
 use Rattle.std.proofs.lemmas.List.Elements.{All-append, All-cons, All-nil}
-use Rattle.csv_source.proofs.Fitting.{fits}
-use Rattle.csv_source.proofs.PlainForm.{plain-form}
+use Rattle.csv_source.proofs.Fitting.{fits, named}
 use Rattle.csv_source.specs.Dataset.{table_dataset, table_trees}
-use Rattle.csv_source.specs.PlainTable.{PlainTable}
+use Rattle.csv_source.specs.Causes.{table_of}
+use Rattle.csv_source.specs.Table.{CsvTable}
 use Rattle.dap_model.proofs.Spelling.{xdr_spells}
 use Rattle.dap_model.specs.Body.{body}
 use Rattle.dap_model.specs.Dds.{dds}
@@ -15,6 +15,7 @@ use Rattle.dap_types.specs.WellFormed.{Place, place, leaf_places, places_of, ele
 use Rattle.dap_types.specs.declared.declarations.Column.{Column}
 use Rattle.xdr_decode.specs.Verdict.{budget, IsGood}
 use Rattle.dap2.specs.Laws.{AnsweredIsGood}
+use Rattle.dap2.proofs.PlainNames.{plain-dataset}
 
 -- a plain dataset has no arrays
 abbrev Few : Place → Type 0
@@ -25,7 +26,7 @@ columns-few depth earlier [] = All-nil Few
 columns-few depth earlier (c ∷ columns) =
     All-cons Few (place depth earlier (scalar c)) (leaf_places depth (c.name ∷ earlier) (map scalar columns)) (omega arith) (columns-few depth (c.name ∷ earlier) columns)
 
-table-few : (t : PlainTable) → All Few (places_of (table_dataset t))
+table-few : (t : CsvTable) → All Few (places_of (table_dataset t))
 table-few t =
     let columns = leaf_places 2 [] (map scalar t.columns) in
     All-cons Few _ (columns ++ []) (omega arith) (All-append Few columns [] (columns-few 2 [] t.columns) (All-nil Few))
@@ -56,7 +57,7 @@ pub answered-is-good : AnsweredIsGood
 answered-is-good target file bytes text names is short =
     let (name, plain, file_is, target_is) = names in
     let t = is.table in
-    let (columns, dataset) = plain-form file bytes t is.is_table in
+    (t, is.is_table, λ columns.
     let spells = xdr_spells (table_dataset t) (table_trees t) (table-few t) (fits file bytes t is.is_table) in
-    let whole = good-body name t.columns (table_dataset t) (table_trees t) plain columns (dataset name plain file_is) spells in
-    (t, is.is_table, (rw is.is_body whole, within-budget text short))
+    let dataset = plain-dataset t name plain (named file bytes t is.is_table ∙ file_is) in
+    (rw is.is_body (good-body name t.columns (table_dataset t) (table_trees t) plain columns dataset spells), within-budget text short))

@@ -2,14 +2,15 @@
 use Rattle.std.proofs.Common.{◌≡◌, ◌≢◌, ℕ, List, length, get_or, Option, Some, None, IsSome, inl, inr, codes, refl, sym, ap, ◌∙◌, arith}
 use Rattle.std.specs.Prelude.{◌⊎◌}
 use Rattle.std.proofs.lemmas.List.{append_cancel_right}
-use Rattle.csv_source.specs.Plain.{plain_table}
+use Rattle.csv_source.specs.Causes.{table_of}
+use Rattle.dap_errors.specs.declared.file_cause.FileCause.{FileCause}
 use Rattle.dap_outside.specs.Files.{Told}
-use Rattle.dap2.specs.Answer.{AnswersBody, Asks, IsMissing, IsUnbuilt}
+use Rattle.dap2.specs.Answer.{AnswersBody, Asks, IsDamaged, IsMissing}
 use Rattle.dap2.specs.Show.{IsFor, status_for}
-use Rattle.dap2.specs.Words.{AreAnswer, IsCommand, IsShow, Names}
+use Rattle.dap2.specs.Words.{AreAnswer, IsBuilt, IsCommand, IsShow, Names}
 use Rattle.xdr_decode.specs.Verdict.{Verdict}
 use Rattle.dap2.specs.declared.status.Status.{Status}
-use Rattle.dap2.specs.declared.status.Status.TheVariants.{Complete, Words, Refused, BadReply, ReadFault, WriteFault, Memory, Unbuilt}
+use Rattle.dap2.specs.declared.status.Status.TheVariants.{Complete, Words, Refused, Damaged, BadReply, ReadFault, WriteFault, Memory, Unbuilt}
 
 -- words have one target, and a target names one file
 same_target : (words : List (List ℕ)) (t u : List ℕ) → AreAnswer words t → AreAnswer words u → t ≡ u
@@ -27,20 +28,16 @@ module _ (files : List ℕ → Option (List ℕ)) (words : List (List ℕ)) wher
   found_and_missing t u bytes f g p q names other there not_there =
       some_is_not_none (files f) (files g) bytes (ap files (same_file t u f g (same_target words t u p q) names other)) there not_there
 
-  table_and_none : (t u : List ℕ) (text : List ℕ) → AreAnswer words t → AreAnswer words u → AnswersBody t (Some files) text → IsUnbuilt u (Some files) → ⊥
-  table_and_none t u text p q body (inl other) =
-      let same = same_target words t u p q in other (body.file, (body.names.0, body.names.1, body.names.2, sym same ∙ body.names.3))
-  table_and_none t u text p q body (inr other) =
+  table_and_damaged : (t u : List ℕ) (text : List ℕ) (reason : FileCause) → AreAnswer words t → AreAnswer words u → AnswersBody t (Some files) text → IsDamaged u (Some files) reason → ⊥
+  table_and_damaged t u text reason p q body other =
       let file : body.file ≡ other.file = same_file t u body.file other.file (same_target words t u p q) body.names other.names in
       let bytes : Some body.bytes ≡ Some other.bytes = sym body.there ∙ ap files file ∙ other.there in
       let same : body.bytes ≡ other.bytes = cc bytes in
-      cc (sym body.is_body.is_table ∙ ap (λ f. plain_table f body.bytes) file ∙ ap (plain_table other.file) same ∙ other.no_table)
+      cc (sym body.is_body.is_table ∙ ap (λ f. table_of f body.bytes) file ∙ ap (table_of other.file) same ∙ other.is_damaged.is_first)
 
-  missing_and_unbuilt : (t u : List ℕ) → AreAnswer words t → AreAnswer words u → IsMissing t (Some files) → IsUnbuilt u (Some files) → ⊥
-  missing_and_unbuilt t u p q missing (inl other) =
-      let same = same_target words t u p q in other (missing.file, (missing.names.0, missing.names.1, missing.names.2, sym same ∙ missing.names.3))
-  missing_and_unbuilt t u p q missing (inr other) =
-      found_and_missing u t other.bytes other.file missing.file q p other.names missing.names other.there missing.not_there
+  built_and_not : (t u file : List ℕ) → AreAnswer words t → AreAnswer words u → Names t file → ¬ (IsBuilt u) → ⊥
+  built_and_not t u file p q names other =
+      let same = same_target words t u p q in other (file, (names.0, names.1, names.2, sym same ∙ names.3))
 
 -- words that are `answer` and a target are not `show`
 not_show : (words : List (List ℕ)) (t : List ℕ) → AreAnswer words t → IsShow words → ⊥
@@ -54,7 +51,8 @@ answers_only words t p (inr (is, y)) = absurd (not_show words t p is)
 pub record Means (told : Told) (words : List (List ℕ)) (s : Status) : Type 0 where
   pub complete : s ≡ Complete → Asks words (λ t. (text : List ℕ) × AnswersBody t told text)
   pub refused : s ≡ Refused → Asks words (λ t. IsMissing t told)
-  pub unbuilt : s ≡ Unbuilt → Asks words (λ t. IsUnbuilt t told)
+  pub damaged : s ≡ Damaged → Asks words (λ t. (reason : FileCause) × IsDamaged t told reason)
+  pub unbuilt : s ≡ Unbuilt → Asks words (λ t. ¬ (IsBuilt t))
   pub no_words : s ≢ Words
   pub no_bad_reply : s ≢ BadReply
   pub no_read_fault : s ≢ ReadFault
@@ -62,15 +60,17 @@ pub record Means (told : Told) (words : List (List ℕ)) (s : Status) : Type 0 w
   pub no_memory : s ≢ Memory
 
 -- from the clauses of a command with a target, where no count of a fault rose and memory was had
-pub means : (told : Told) (words : List (List ℕ)) (s : Status) (t : List ℕ) (P Q X Y Z V W : Type 0) (R : List ℕ → Type 0) → AreAnswer words t
+pub means : (told : Told) (words : List (List ℕ)) (s : Status) (t : List ℕ) (P Q X Y Z V W : Type 0) (R : List ℕ → Type 0) (G : Type 0) (D : List ℕ → Type 0) → AreAnswer words t
     → (s ≡ Complete → Asks words (λ u. (text : List ℕ) × AnswersBody u told text × R text) ⊎ (IsShow words × X × Y))
-    → (s ≡ Refused → Asks words (λ u. IsMissing u told)) → (s ≡ Unbuilt → Asks words (λ u. IsUnbuilt u told) ⊎ (IsShow words × Z))
+    → (s ≡ Refused → Asks words (λ u. IsMissing u told × G)) → (s ≡ Damaged → Asks words D) → ((u : List ℕ) → D u → (reason : FileCause) × IsDamaged u told reason)
+    → (s ≡ Unbuilt → Asks words (λ u. ¬ (IsBuilt u)) ⊎ (IsShow words × Z))
     → (s ≡ Words → ¬ (IsCommand words)) → (s ≡ BadReply → IsShow words × V) → (s ≡ ReadFault → Asks words (λ u. P) ⊎ (IsShow words × W)) → (s ≡ WriteFault → Q)
     → (P → ⊥) → (Q → ⊥) → s ≢ Memory → Means told words s
-means told words s t P Q X Y Z V W R p complete refused unbuilt words_only bad_reply read_fault write_fault no_p no_q had =
+means told words s t P Q X Y Z V W R G D p complete refused damaged told_damage unbuilt words_only bad_reply read_fault write_fault no_p no_q had =
     record {
       complete = λ is. elim (complete is) [ inl (u, q, (text, body, rest)) ↦ (u, q, (text, body)) | inr (shown, x, y) ↦ absurd (not_show words t p shown) ];
-      refused = refused;
+      refused = λ is. let (u, q, (missing, rest)) = refused is in (u, q, missing);
+      damaged = λ is. let (u, q, told_so) = damaged is in (u, q, told_damage u told_so);
       unbuilt = λ is. answers_only words t p (unbuilt is);
       no_words = λ is. words_only is (inl (t, p));
       no_bad_reply = λ is. not_show words t p (bad_reply is).0;
@@ -87,11 +87,13 @@ completes (Some files) words BadReply tells means asks = absurd (means.no_bad_re
 completes (Some files) words Refused tells means (t, p, (text, body)) =
     let (u, q, missing) = means.refused refl in
     absurd (found_and_missing files words t u body.bytes body.file missing.file p q body.names missing.names body.there missing.not_there)
+completes (Some files) words Damaged tells means (t, p, (text, body)) =
+    let (u, q, (reason, other)) = means.damaged refl in absurd (table_and_damaged files words t u text reason p q body other)
 completes (Some files) words ReadFault tells means asks = absurd (means.no_read_fault refl)
 completes (Some files) words WriteFault tells means asks = absurd (means.no_write_fault refl)
 completes (Some files) words Memory tells means asks = absurd (means.no_memory refl)
 completes (Some files) words Unbuilt tells means (t, p, (text, body)) =
-    let (u, q, other) = means.unbuilt refl in absurd (table_and_none files words t u text p q body other)
+    let (u, q, other) = means.unbuilt refl in absurd (built_and_not files words t u body.file p q body.names other)
 
 pub refuses : (told : Told) (words : List (List ℕ)) (s : Status) → IsSome told → Means told words s → Asks words (λ t. IsMissing t told) → s ≡ Refused
 refuses None words s tells means asks = cc tells
@@ -101,30 +103,37 @@ refuses (Some files) words BadReply tells means asks = absurd (means.no_bad_repl
 refuses (Some files) words Complete tells means (t, p, missing) =
     let (u, q, (text, body)) = means.complete refl in
     absurd (found_and_missing files words u t body.bytes body.file missing.file q p body.names missing.names body.there missing.not_there)
+refuses (Some files) words Damaged tells means (t, p, missing) =
+    let (u, q, (reason, other)) = means.damaged refl in
+    absurd (found_and_missing files words u t other.bytes other.file missing.file q p other.names missing.names other.there missing.not_there)
 refuses (Some files) words ReadFault tells means asks = absurd (means.no_read_fault refl)
 refuses (Some files) words WriteFault tells means asks = absurd (means.no_write_fault refl)
 refuses (Some files) words Memory tells means asks = absurd (means.no_memory refl)
 refuses (Some files) words Unbuilt tells means (t, p, missing) =
-    let (u, q, other) = means.unbuilt refl in absurd (missing_and_unbuilt files words t u p q missing other)
+    let (u, q, other) = means.unbuilt refl in absurd (built_and_not files words t u missing.file p q missing.names other)
 
-pub unbuilds : (told : Told) (words : List (List ℕ)) (s : Status) → IsSome told → Means told words s → Asks words (λ t. IsUnbuilt t told) → s ≡ Unbuilt
-unbuilds None words s tells means asks = cc tells
-unbuilds (Some files) words Unbuilt tells means asks = refl
-unbuilds (Some files) words Words tells means asks = absurd (means.no_words refl)
-unbuilds (Some files) words BadReply tells means asks = absurd (means.no_bad_reply refl)
-unbuilds (Some files) words Complete tells means (t, p, other) =
-    let (u, q, (text, body)) = means.complete refl in absurd (table_and_none files words u t text q p body other)
-unbuilds (Some files) words Refused tells means (t, p, other) =
-    let (u, q, missing) = means.refused refl in absurd (missing_and_unbuilt files words u t q p missing other)
-unbuilds (Some files) words ReadFault tells means asks = absurd (means.no_read_fault refl)
-unbuilds (Some files) words WriteFault tells means asks = absurd (means.no_write_fault refl)
-unbuilds (Some files) words Memory tells means asks = absurd (means.no_memory refl)
+pub damages : (told : Told) (words : List (List ℕ)) (s : Status) → IsSome told → Means told words s → Asks words (λ t. (reason : FileCause) × IsDamaged t told reason) → s ≡ Damaged
+damages None words s tells means asks = cc tells
+damages (Some files) words Damaged tells means asks = refl
+damages (Some files) words Words tells means asks = absurd (means.no_words refl)
+damages (Some files) words BadReply tells means asks = absurd (means.no_bad_reply refl)
+damages (Some files) words Complete tells means (t, p, (reason, other)) =
+    let (u, q, (text, body)) = means.complete refl in absurd (table_and_damaged files words u t text reason q p body other)
+damages (Some files) words Refused tells means (t, p, (reason, other)) =
+    let (u, q, missing) = means.refused refl in
+    absurd (found_and_missing files words t u other.bytes other.file missing.file p q other.names missing.names other.there missing.not_there)
+damages (Some files) words ReadFault tells means asks = absurd (means.no_read_fault refl)
+damages (Some files) words WriteFault tells means asks = absurd (means.no_write_fault refl)
+damages (Some files) words Memory tells means asks = absurd (means.no_memory refl)
+damages (Some files) words Unbuilt tells means (t, p, (reason, other)) =
+    let (u, q, none) = means.unbuilt refl in absurd (built_and_not files words t u other.file p q other.names none)
 
 -- the status for a verdict, where nothing failed and memory was had
 pub shows : (v : Verdict) (s : Status) → IsFor v s → s ≢ ReadFault → s ≢ WriteFault → s ≢ Memory → s ≡ status_for v
 shows v Complete is no_read no_write had = is
 shows v Words is no_read no_write had = is
 shows v Refused is no_read no_write had = is
+shows v Damaged is no_read no_write had = is
 shows v BadReply is no_read no_write had = is
 shows v Unbuilt is no_read no_write had = is
 shows v ReadFault is no_read no_write had = absurd (no_read refl)

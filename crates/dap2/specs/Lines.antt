@@ -2,7 +2,7 @@
 use Rattle.std.specs.Prelude.{ℕ, List, [], ◌++◌, codes}
 use Rattle.std.specs.Fmt.{decimal}
 use Rattle.dap2.specs.declared.status.Status.{Status}
-use Rattle.dap2.specs.declared.status.Status.TheVariants.{Complete, Words, Refused, BadReply, ReadFault, WriteFault, Memory, Unbuilt}
+use Rattle.dap2.specs.declared.status.Status.TheVariants.{Complete, Words, Refused, Damaged, BadReply, ReadFault, WriteFault, Memory, Unbuilt}
 use Rattle.xdr_decode.specs.Bads.{bad_name}
 use Rattle.xdr_decode.specs.declared.bad.BadField.{BadField}
 
@@ -11,22 +11,27 @@ abbrev pub number_of : Status → ℕ
 number_of Complete = 0
 number_of Words = 2
 number_of Refused = 3
+number_of Damaged = 4
 number_of BadReply = 5
 number_of ReadFault = 7
 number_of WriteFault = 8
 number_of Memory = 10
 number_of Unbuilt = 11
 
--- for standard error. That of a bad reply says what is wrong
+-- for standard error. Those of a damaged file and of a bad reply say what is wrong
 abbrev pub line_of : Status → List ℕ
 line_of Complete = []
 line_of Words = codes "usage: dap2 answer TARGET | show\n"
 line_of Refused = codes "dap2: refused: no such file\n"
+line_of Damaged = []
 line_of BadReply = []
 line_of ReadFault = codes "dap2: read fault\n"
 line_of WriteFault = codes "dap2: write fault\n"
 line_of Memory = codes "dap2: out of memory\n"
 line_of Unbuilt = codes "dap2: not built\n"
+
+abbrev pub damaged_line : List ℕ → List ℕ
+damaged_line message = codes "dap2: damaged: " ++ message ++ codes "\n"
 
 abbrev pub bad_reply_line : BadField → List ℕ
 bad_reply_line bad = codes "dap2: bad reply: " ++ bad_name bad.kind ++ codes " at " ++ decimal bad.place ++ codes "\n"

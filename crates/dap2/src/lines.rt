@@ -3,7 +3,7 @@ ghost use Rattle.std.specs.Io.KnownBytes.{Appends};
 ghost use Rattle.std.specs.List.{flat_map};
 ghost use Rattle.dap_outside.specs.Causes.{HasCause};
 ghost use Rattle.dap_outside.specs.Streams.{AppendsFront};
-ghost use Rattle.dap2.specs.Lines.{bad_reply_line};
+ghost use Rattle.dap2.specs.Lines.{bad_reply_line, damaged_line};
 
 use dap_outside::{Failed, Sink, put_all};
 use xdr_decode::BadField;
@@ -33,4 +33,14 @@ pub fn put_bad_reply<E: Sink>(err: &mut E, bad: BadField) -> Result<(), Failed>
     let place = digits.format(bad.place).as_bytes();
     let name = bad.kind.name().as_bytes();
     put_each(err, &[b"dap2: bad reply: ", name, b" at ", place, b"\n"])
+}
+
+/// Puts the line for a damaged file with this message.
+pub fn put_damaged<E: Sink>(err: &mut E, message: &[u8]) -> Result<(), Failed>
+    ensures ok { OnOk result (Appends (E.written err.old) (E.written err.new) (damaged_line message.now)) }
+    ensures err { OnErr result (AppendsFront (E.written err.old) (E.written err.new) (damaged_line message.now)) }
+    ensures cause { HasCause (E.put_faults err.old) (E.put_faults err.new) result }
+    ensures beside { E.beside_writing err.new ≡ E.beside_writing err.old }
+{
+    put_each(err, &[b"dap2: damaged: ", message, b"\n"])
 }

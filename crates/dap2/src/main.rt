@@ -8,6 +8,7 @@ mod command;
 mod folder_shelf;
 mod laws;
 mod lines;
+mod no_body;
 mod run;
 mod show;
 mod status;

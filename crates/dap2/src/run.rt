@@ -3,10 +3,12 @@ ghost use Rattle.std.specs.Io.KnownBytes.{Appends, IsAtEnd};
 ghost use Rattle.dap_client.specs.Shows.{IsShownBy};
 ghost use Rattle.dap_outside.specs.Causes.{Rose};
 ghost use Rattle.dap_outside.specs.Streams.{AppendsFront};
-ghost use Rattle.dap2.specs.Answer.{AnswersBody, Asks, IsMissing, IsUnbuilt};
+ghost use Rattle.dap_errors.specs.declared.cause.Cause.TheVariants as cause;
+ghost use Rattle.dap_errors.specs.declared.file_cause.FileCause.{FileCause};
+ghost use Rattle.dap2.specs.Answer.{Answers, AnswersBody, Asks, IsDamaged, IsMissing, TellsDamage, error_object};
 ghost use Rattle.dap2.specs.Lines.{line_of};
 ghost use Rattle.dap2.specs.Show.{IsFor, IsRefusedBy, status_for};
-ghost use Rattle.dap2.specs.Words.{IsCommand, IsShow};
+ghost use Rattle.dap2.specs.Words.{IsBuilt, IsCommand, IsShow};
 ghost use Rattle.xdr_decode.specs.Verdict.{Verdict, IsVerdict, unbuilt};
 
 use crate::answer::answer;
@@ -29,10 +31,13 @@ fn obey<S: Shelf, I: Source, O: Sink, E: Sink>(
     ensures complete { result ≡ Status.Complete →
         Asks words.now (λ target. (text : List ℕ) × AnswersBody target (S.files shelf.old) text × Appends (O.written out.old) (O.written out.new) text)
         ⊎ IsShow words.now × IfSome (I.left input.old) (λ body. IsShownBy body (Appends (O.written out.old) (O.written out.new))) × IsAtEnd (I.left input.new) }
-    ensures refused { result ≡ Status.Refused → Asks words.now (λ target. IsMissing target (S.files shelf.old)) }
+    ensures refused { result ≡ Status.Refused → Asks words.now (λ target. IsMissing target (S.files shelf.old) × Appends (O.written out.old) (O.written out.new) (error_object cause.NoFile)) }
+    ensures damaged { result ≡ Status.Damaged → Asks words.now (λ target.
+        TellsDamage target (S.files shelf.old) (O.written out.old) (O.written out.new) (E.put_faults err.old) (E.put_faults err.new) (E.written err.old) (E.written err.new)) }
     ensures unbuilt { result ≡ Status.Unbuilt →
-        Asks words.now (λ target. IsUnbuilt target (S.files shelf.old))
+        Asks words.now (λ target. ¬ (IsBuilt target))
         ⊎ IsShow words.now × IfSome (I.left input.old) (λ body. IsVerdict body unbuilt) }
+    ensures unbuilds { Asks words.now (λ target. ¬ (IsBuilt target)) → result ≡ Status.Unbuilt }
     ensures bad_reply { result ≡ Status.BadReply → IsShow words.now
         × IfSome (I.left input.old) (λ body. IsRefusedBy body (E.put_faults err.old) (E.put_faults err.new) (E.written err.old) (E.written err.new)) }
     ensures verdict { IsShow words.now → (body : List ℕ) (v : Verdict) → I.left input.old ≡ Some body → IsVerdict body v → IsFor v result }
@@ -42,26 +47,26 @@ fn obey<S: Shelf, I: Source, O: Sink, E: Sink>(
         ⊎ IsShow words.now × Rose (I.take_faults input.old) (I.take_faults input.new) }
     ensures write_fault { result ≡ Status.WriteFault → Rose (O.put_faults out.old) (O.put_faults out.new) }
     ensures prefix { result ≡ Status.WriteFault →
-        Asks words.now (λ target. (text : List ℕ) × AnswersBody target (S.files shelf.old) text × AppendsFront (O.written out.old) (O.written out.new) text)
+        Asks words.now (λ target. (text : List ℕ) × Answers target (S.files shelf.old) text × AppendsFront (O.written out.old) (O.written out.new) text)
         ⊎ IsShow words.now × IfSome (I.left input.old) (λ body. IsShownBy body (AppendsFront (O.written out.old) (O.written out.new))) }
-    ensures unchanged { result ≢ Status.Complete → result ≢ Status.WriteFault → O.written out.new ≡ O.written out.old }
+    ensures unchanged { result ≢ Status.Complete → result ≢ Status.Refused → result ≢ Status.Damaged → result ≢ Status.WriteFault → O.written out.new ≡ O.written out.old }
     ensures shelf { IsShow words.now → shelf.new ≡ shelf.old }
     ensures input { ¬ (IsShow words.now) → input.new ≡ input.old }
     ensures whole { I.whole input.new ≡ I.whole input.old }
     ensures beside_input { I.beside_reading input.new ≡ I.beside_reading input.old }
     ensures beside_out { O.beside_writing out.new ≡ O.beside_writing out.old }
-    ensures quiet { result ≢ Status.BadReply → err.new ≡ err.old }
+    ensures quiet { result ≢ Status.BadReply → result ≢ Status.Damaged → err.new ≡ err.old }
     ensures beside_err { E.beside_writing err.new ≡ E.beside_writing err.old }
 {
     match command_of(words) {
-        Command::Answer(target) => answer(alloc, target, shelf, out),
+        Command::Answer(target) => answer(alloc, target, shelf, out, err),
         Command::Show => show_input(alloc, input, out, err),
         Command::Other => Status::Words,
     }
 }
 
 /// Does all that the program does with the words after its name. `answer TARGET` finds a file on the
-/// shelf and puts its data response to `out`; `show` reads a data response from `input` and shows it
+/// shelf and puts its data response to `out`, or the Error object that says why there is none; `show` reads a data response from `input` and shows it
 /// on `out`. For each status but `Complete` a line goes to `err`.
 pub fn run<S: Shelf, I: Source, O: Sink, E: Sink>(
     alloc: Global,
@@ -74,10 +79,13 @@ pub fn run<S: Shelf, I: Source, O: Sink, E: Sink>(
     ensures complete { result ≡ Status.Complete →
         Asks words.now (λ target. (text : List ℕ) × AnswersBody target (S.files shelf.old) text × Appends (O.written out.old) (O.written out.new) text)
         ⊎ IsShow words.now × IfSome (I.left input.old) (λ body. IsShownBy body (Appends (O.written out.old) (O.written out.new))) × IsAtEnd (I.left input.new) }
-    ensures refused { result ≡ Status.Refused → Asks words.now (λ target. IsMissing target (S.files shelf.old)) }
+    ensures refused { result ≡ Status.Refused → Asks words.now (λ target. IsMissing target (S.files shelf.old) × Appends (O.written out.old) (O.written out.new) (error_object cause.NoFile)) }
+    ensures damaged { result ≡ Status.Damaged → Asks words.now (λ target.
+        TellsDamage target (S.files shelf.old) (O.written out.old) (O.written out.new) (E.put_faults err.old) (E.put_faults err.new) (E.written err.old) (E.written err.new)) }
     ensures unbuilt { result ≡ Status.Unbuilt →
-        Asks words.now (λ target. IsUnbuilt target (S.files shelf.old))
+        Asks words.now (λ target. ¬ (IsBuilt target))
         ⊎ IsShow words.now × IfSome (I.left input.old) (λ body. IsVerdict body unbuilt) }
+    ensures unbuilds { Asks words.now (λ target. ¬ (IsBuilt target)) → result ≡ Status.Unbuilt }
     ensures bad_reply { result ≡ Status.BadReply → IsShow words.now
         × IfSome (I.left input.old) (λ body. IsRefusedBy body (E.put_faults err.old) (E.put_faults err.new) (E.written err.old) (E.written err.new)) }
     ensures words { (result ≡ Status.Words) ↔ (¬ (IsCommand words.now)) }
@@ -86,9 +94,9 @@ pub fn run<S: Shelf, I: Source, O: Sink, E: Sink>(
         ⊎ IsShow words.now × Rose (I.take_faults input.old) (I.take_faults input.new) }
     ensures write_fault { result ≡ Status.WriteFault → Rose (O.put_faults out.old) (O.put_faults out.new) }
     ensures prefix { result ≡ Status.WriteFault →
-        Asks words.now (λ target. (text : List ℕ) × AnswersBody target (S.files shelf.old) text × AppendsFront (O.written out.old) (O.written out.new) text)
+        Asks words.now (λ target. (text : List ℕ) × Answers target (S.files shelf.old) text × AppendsFront (O.written out.old) (O.written out.new) text)
         ⊎ IsShow words.now × IfSome (I.left input.old) (λ body. IsShownBy body (AppendsFront (O.written out.old) (O.written out.new))) }
-    ensures unchanged { result ≢ Status.Complete → result ≢ Status.WriteFault → O.written out.new ≡ O.written out.old }
+    ensures unchanged { result ≢ Status.Complete → result ≢ Status.Refused → result ≢ Status.Damaged → result ≢ Status.WriteFault → O.written out.new ≡ O.written out.old }
 
     // Over a shelf that tells its files, each of these comes wherever its cause stands, no count of
     // a fault rose and memory was had.
@@ -98,9 +106,9 @@ pub fn run<S: Shelf, I: Source, O: Sink, E: Sink>(
     ensures refuses { IsSome (S.files shelf.old) → Asks words.now (λ target. IsMissing target (S.files shelf.old))
         → ¬ (Rose (S.faults shelf.old) (S.faults shelf.new)) → ¬ (Rose (O.put_faults out.old) (O.put_faults out.new))
         → result ≢ Status.Memory → result ≡ Status.Refused }
-    ensures unbuilds { IsSome (S.files shelf.old) → Asks words.now (λ target. IsUnbuilt target (S.files shelf.old))
+    ensures damages { IsSome (S.files shelf.old) → Asks words.now (λ target. (reason : FileCause) × IsDamaged target (S.files shelf.old) reason)
         → ¬ (Rose (S.faults shelf.old) (S.faults shelf.new)) → ¬ (Rose (O.put_faults out.old) (O.put_faults out.new))
-        → result ≢ Status.Memory → result ≡ Status.Unbuilt }
+        → result ≢ Status.Memory → result ≡ Status.Damaged }
 
     // The same for the verdict on what a source that tells has left.
     ensures shows { IsShow words.now → (body : List ℕ) (v : Verdict) → I.left input.old ≡ Some body → IsVerdict body v
@@ -112,8 +120,8 @@ pub fn run<S: Shelf, I: Source, O: Sink, E: Sink>(
     ensures whole { I.whole input.new ≡ I.whole input.old }
     ensures beside_input { I.beside_reading input.new ≡ I.beside_reading input.old }
     ensures beside_out { O.beside_writing out.new ≡ O.beside_writing out.old }
-    ensures err_line { result ≢ Status.BadReply → ¬ (Rose (E.put_faults err.old) (E.put_faults err.new)) → Appends (E.written err.old) (E.written err.new) (line_of result) }
-    ensures err_front { result ≢ Status.BadReply → AppendsFront (E.written err.old) (E.written err.new) (line_of result) }
+    ensures err_line { result ≢ Status.BadReply → result ≢ Status.Damaged → ¬ (Rose (E.put_faults err.old) (E.put_faults err.new)) → Appends (E.written err.old) (E.written err.new) (line_of result) }
+    ensures err_front { result ≢ Status.BadReply → result ≢ Status.Damaged → AppendsFront (E.written err.old) (E.written err.new) (line_of result) }
     ensures beside_err { E.beside_writing err.new ≡ E.beside_writing err.old }
 {
     let status = obey(alloc, words, shelf, input, out, err);

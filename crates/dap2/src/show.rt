@@ -32,6 +32,7 @@ pub fn show_input<I: Source, O: Sink, E: Sink>(
     ensures beside_writing { O.beside_writing out.new ≡ O.beside_writing out.old }
     ensures words { result ≢ Status.Words }
     ensures refused { result ≢ Status.Refused }
+    ensures damaged { result ≢ Status.Damaged }
     ensures quiet { result ≢ Status.BadReply → err.new ≡ err.old }
     ensures beside_err { E.beside_writing err.new ≡ E.beside_writing err.old }
 {

@@ -10,6 +10,8 @@ pub enum Status {
     Words,
     /// There is no such file.
     Refused,
+    /// The file has no dataset.
+    Damaged,
     /// Something is wrong with the data response that came in.
     BadReply,
     /// A read failed.
@@ -31,6 +33,7 @@ impl Status {
             Status::Complete => 0,
             Status::Words => 2,
             Status::Refused => 3,
+            Status::Damaged => 4,
             Status::BadReply => 5,
             Status::ReadFault => 7,
             Status::WriteFault => 8,
@@ -39,13 +42,13 @@ impl Status {
         }
     }
 
-    /// The line for standard error. It is empty where the command is complete, and for a bad reply,
-    /// whose line says what is wrong.
+    /// The line for standard error. It is empty where the command is complete, and for a damaged file
+    /// and a bad reply, whose lines say what is wrong.
     pub fn line(self) -> &'static str
         ensures { result.now ≡ line_of self }
     {
         match self {
-            Status::Complete | Status::BadReply => "",
+            Status::Complete | Status::Damaged | Status::BadReply => "",
             Status::Words => "usage: dap2 answer TARGET | show\n",
             Status::Refused => "dap2: refused: no such file\n",
             Status::ReadFault => "dap2: read fault\n",

@@ -23,6 +23,26 @@ const BUOYS_SHOWN: &[u8] =
 const HEAD_BODY: &[u8] =
     b"Dataset {\n    Sequence {\n        String station;\n        Int32 depth;\n    } head;\n} head.csv;\nData:\n\xa5\0\0\0";
 
+const K_BODY: &[u8] =
+    b"Dataset {\n    Sequence {\n        UInt16 n;\n        Url u;\n    } k;\n} k.csv;\nData:\n\x5a\0\0\0\0\0\0\x07\0\0\0\x01x\0\0\0\xa5\0\0\0";
+
+const ALL: &[u8] =
+    b"b:Byte,i:Int16,u:UInt32,f:Float32,d:Float64\n255,-32768,4294967295,0x7fC00001,0x400921FB54442d18\n";
+
+const ALL_BODY: &[u8] =
+    b"Dataset {\n    Sequence {\n        Byte b;\n        Int16 i;\n        UInt32 u;\n        Float32 f;\n        Float64 d;\n    } all;\n} all.csv;\nData:\n\x5a\0\0\0\0\0\0\xff\xff\xff\x80\0\xff\xff\xff\xff\x7f\xc0\0\x01\x40\x09\x21\xfb\x54\x44\x2d\x18\xa5\0\0\0";
+
+const MISSING: &[u8] = b"Error {\n    code = 15;\n    message = \"no such file\";\n};\n";
+
+const BAD_CELL: &[u8] =
+    b"Error {\n    code = 19;\n    message = \"damaged file: bad cell in row 1 column 1\";\n};\n";
+
+const RAGGED: &[u8] =
+    b"Error {\n    code = 19;\n    message = \"damaged file: ragged row 1\";\n};\n";
+
+const TWICE: &[u8] =
+    b"Error {\n    code = 19;\n    message = \"damaged file: repeated column 2\";\n};\n";
+
 /// What a run wrote, and how it ended.
 #[derive(Drop)]
 struct Written {
@@ -73,6 +93,10 @@ fn files(alloc: Global) -> Result<List<MemFile>, Memory> {
     files.push(file(alloc, "buoys.csv", BUOYS)?)?;
     files.push(file(alloc, "head.csv", HEAD)?)?;
     files.push(file(alloc, "ragged.csv", b"a,b\n1\n")?)?;
+    files.push(file(alloc, "bad.csv", b"n:Byte\n256\n")?)?;
+    files.push(file(alloc, "twice.csv", b"a,a\n")?)?;
+    files.push(file(alloc, "k.csv", b"n:UInt16,u:Url\n 7 ,x\n")?)?;
+    files.push(file(alloc, "all.csv", ALL)?)?;
     Ok(files)
 }
 
@@ -102,7 +126,7 @@ fn ran(alloc: Global, words: &[&str], outside: Outside<'_>) -> Result<Written, M
 fn each_status_comes_from_its_cause(rt: HostRuntime) -> Result<(), Fail> {
     let buoys = ["answer", "buoys.csv.dods"];
     let none: &[u8] = b"";
-    let rows: [(&[&str], Outside<'_>, Status, &[u8], &[u8]); 12] = [
+    let rows: [(&[&str], Outside<'_>, Status, &[u8], &[u8]); 18] = [
         (&buoys, SURE, Status::Complete, BUOYS_BODY, none),
         (
             &["answer", "head.csv.dods"],
@@ -136,15 +160,63 @@ fn each_status_comes_from_its_cause(rt: HostRuntime) -> Result<(), Fail> {
             &["answer", "none.csv.dods"],
             SURE,
             Status::Refused,
-            none,
+            MISSING,
             b"dap2: refused: no such file\n",
         ),
         (
             &["answer", "ragged.csv.dods"],
             SURE,
-            Status::Unbuilt,
+            Status::Damaged,
+            RAGGED,
+            b"dap2: damaged: damaged file: ragged row 1\n",
+        ),
+        (
+            &["answer", "bad.csv.dods"],
+            SURE,
+            Status::Damaged,
+            BAD_CELL,
+            b"dap2: damaged: damaged file: bad cell in row 1 column 1\n",
+        ),
+        (
+            &["answer", "twice.csv.dods"],
+            SURE,
+            Status::Damaged,
+            TWICE,
+            b"dap2: damaged: damaged file: repeated column 2\n",
+        ),
+        (
+            &["answer", "twice.csv.dods"],
+            Outside {
+                out_fails: &[2],
+                ..SURE
+            },
+            Status::WriteFault,
+            &TWICE[..64],
+            b"dap2: write fault\n",
+        ),
+        (
+            &["answer", "none.csv.dods"],
+            Outside {
+                out_fails: &[1],
+                ..SURE
+            },
+            Status::WriteFault,
             none,
-            b"dap2: not built\n",
+            b"dap2: write fault\n",
+        ),
+        (
+            &["answer", "k.csv.dods"],
+            SURE,
+            Status::Complete,
+            K_BODY,
+            none,
+        ),
+        (
+            &["answer", "all.csv.dods"],
+            SURE,
+            Status::Complete,
+            ALL_BODY,
+            none,
         ),
         (
             &["answer", "buoys.csv.dds"],
