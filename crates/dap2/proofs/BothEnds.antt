@@ -56,8 +56,11 @@ within-budget text short = short
 pub answered-is-good : AnsweredIsGood
 answered-is-good target file bytes text names is short =
     let (name, plain, file_is, target_is) = names in
-    let t = is.table in
-    (t, is.is_table, λ columns.
-    let spells = xdr_spells (table_dataset t) (table_trees t) (table-few t) (fits file bytes t is.is_table) in
-    let dataset = plain-dataset t name plain (named file bytes t is.is_table ∙ file_is) in
-    (rw is.is_body (good-body name t.columns (table_dataset t) (table_trees t) plain columns dataset spells), within-budget text short))
+    let t = is.table in (
+      t,
+      is.is_table,
+      λ columns.
+          let spells = xdr_spells (table_dataset t) (table_trees t) (table-few t) (fits file bytes t is.is_table) in
+          let dataset = plain-dataset t name plain (named file bytes t is.is_table ∙ file_is) in
+          (rw is.is_body (good-body name t.columns (table_dataset t) (table_trees t) plain columns dataset spells), within-budget text short),
+    )

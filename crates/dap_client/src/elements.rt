@@ -7,9 +7,8 @@ ghost use Rattle.dap_outside.specs.Causes.{HasCause};
 ghost use Rattle.dap_types.specs.Model.{kids, member, no_members};
 ghost use Rattle.dap_types.specs.View.{member_view, members_view, tree_view};
 
-use dap_outside::Buffer;
 use crate::values::{put_number, put_value};
-use dap_outside::{Failed, Sink};
+use dap_outside::{Buffer, Failed, Sink};
 use dap_types::{Column, Decl, Tree};
 
 /// Puts the index of a row in brackets.

@@ -11,10 +11,9 @@ ghost use Rattle.dap_outside.specs.Streams.{AppendsFront};
 ghost use Rattle.dap_types.specs.View.{dataset_view, members_view, tree_view};
 
 use crate::Outcome;
-use dap_outside::Buffer;
 use crate::elements::put_elements;
 use crate::values::put_number;
-use dap_outside::{Failed, Sink};
+use dap_outside::{Buffer, Failed, Sink};
 use dds_text::print;
 use std::alloc::Global;
 use xdr_decode::Filled;

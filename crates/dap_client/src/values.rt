@@ -5,8 +5,7 @@ ghost use Rattle.dap_outside.specs.Buffered.{Passes, PassesFront, Puts};
 ghost use Rattle.dap_model.specs.Shown.{hex, shown_byte, shown_value};
 ghost use Rattle.dap_outside.specs.Causes.{HasCause};
 
-use dap_outside::Buffer;
-use dap_outside::{Failed, Sink};
+use dap_outside::{Buffer, Failed, Sink};
 use dap_types::Value;
 use text_lines::hex_digit;
 

@@ -42,5 +42,5 @@ returns-clause-damaged g c = λ is.
       target,
       asks,
       tells_still c.put_all.result _ _ _ _ _ _ _ _ _ _ c.as_bytes.result.now (c.as_bytes.ensures.value ∙ c.line.ensures ∙ ap line_of is) c.put_all.ensures.cause.later
-      c.put_all.ensures.ok c.put_all.ensures.err told,
+          c.put_all.ensures.ok c.put_all.ensures.err told,
     )
