@@ -16,6 +16,7 @@ use Rattle.dap_types.specs.declared.declarations.BaseType.{BaseType}
 use Rattle.dap_types.specs.declared.values.Value.{Value}
 use Rattle.dap_model.specs.Cutting.{Nested, array_tree}
 use Rattle.dap_model.specs.Fits.{IsOf, FitsArray, Fits, FitsAll}
+use Rattle.netcdf_source.specs.Header.{IsHeader}
 use Rattle.netcdf_source.specs.Laws.{HasHeader, ValuesFit, ValuesArePlaced}
 use Rattle.netcdf_source.specs.Layouts.{slice, element_sizes, element_at, AreWithin, layout_of, place, IsPlaced}
 use Rattle.netcdf_source.specs.Mapping.{base_of, size_at, is_char_type, is_char, element_dimensions, element_size, is_offered, is_empty, is_grid, column_of, array_of, maps_of, member_of, leaf_in, leaves_from, leaf_variable}
@@ -184,13 +185,13 @@ members_fit c file before (v ∷ vs) bytes h past whole =
 
 -- ---- a file with a header
 
-header_sound : (c : Contents) (file : List ℕ) → HasHeader c file → IsSound c
+header_sound : (c : Contents) (file : List ℕ) → IsHeader c (take 1048576 file) (length file) → IsSound c
 header_sound c file h =
-    let (tree, rest, stands, says, past) = h.1 in
+    let (tree, rest, stands, says, past) = h in
     subst IsSound says (stands_sound tree (take 1048576 file) rest (omega (arith, length-take 1048576 file)) stands)
 
 pub values_fit : ValuesFit
-values_fit c file_name file h = members_fit c file [] c.variables (file_bytes file h.0) (header_sound c file h) h.1.4 refl
+values_fit c file_name file h = members_fit c file [] c.variables (file_bytes file h.0) (header_sound c file h.1) h.1.4 refl
 
 is_variable : (c : Contents) (leaf : ℕ) (v : Variable) → leaf_variable c leaf ≡ Some v → (k : ℕ) × (slice_get c.variables k ≡ Some v)
 unfolding leaf_variable
@@ -204,7 +205,7 @@ pub values_are_placed : ValuesArePlaced
 unfolding tree_of IsPlaced
 values_are_placed c file leaf v h is =
     let found = is_variable c leaf v is in
-    let placed = sound_placed c (length file) found.0 v (header_sound c file h) h.1.4 found.1 in
+    let placed = sound_placed c (length file) found.0 v (header_sound c file h) h.4 found.1 in
     ap (array_tree (length (element_sizes c v)))
     (same_indexed (element_sizes c v) (λ indexes. value_of v.external_type (element_at c file v indexes)) (λ indexes. value_of v.external_type (slice file (place (layout_of c v) indexes) (layout_of c v).size))
     (λ indexes within. ap (value_of v.external_type) (sym (placed file indexes refl within).1)))

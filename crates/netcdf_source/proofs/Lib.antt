@@ -23,3 +23,4 @@ pub mod Fitting
 pub mod Shaped
 pub mod Zeros
 pub mod AttributeValues
+pub mod NewNames

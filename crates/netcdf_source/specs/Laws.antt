@@ -33,7 +33,7 @@ ValuesFit = (c : Contents) (file_name file : List ℕ) → HasHeader c file → 
 
 -- the values of a leaf are those that stand at the places of its layout
 abbrev pub ValuesArePlaced : Type 0
-ValuesArePlaced = (c : Contents) (file : List ℕ) (leaf : ℕ) (v : Variable) → HasHeader c file → leaf_variable c leaf ≡ Some v → tree_of c file v ≡ placed_tree c file v (layout_of c v)
+ValuesArePlaced = (c : Contents) (file : List ℕ) (leaf : ℕ) (v : Variable) → IsHeader c (take 1048576 file) (length file) → leaf_variable c leaf ≡ Some v → tree_of c file v ≡ placed_tree c file v (layout_of c v)
 
 -- a text lacks the zero bytes at its end, and nothing else
 abbrev pub ZerosAreCut : Type 0

@@ -1,4 +1,5 @@
 ghost use Rattle.std.specs.Prelude.{◌≡◌, ℕ, ◌+◌, ◌≤◌, Bool, ◌||◌, [], ◌∷◌, ◌++◌, IfOk};
+ghost use Rattle.dap_types.specs.NameSet.{HasAlso};
 ghost use Rattle.netcdf_source.specs.Grammar.{length_fault, is_record_dimension};
 ghost use Rattle.netcdf_source.specs.Parts.{length_at};
 ghost use Rattle.netcdf_source.specs.Reading.{Gives, new_name_at, judged_at, dimension_at, next_dimension, times, list_at};
@@ -23,7 +24,7 @@ pub fn new_name<'a>(
     bytes: &'a [u8],
 ) -> Result<(Id, &'a [u8]), Stop>
     ensures reading { Gives (λ x. (x.0, x.1.now)) result (new_name_at names.old bytes.now) }
-    ensures names { IfOk result (λ x. names.new ≡ names.old ++ x.0 ∷ []) }
+    ensures names { IfOk result (λ x. HasAlso names.old x.0 names.new) }
 {
     let (length, rest) = name_length(bytes)?;
     let (name, after) = run(u64::from(length), rest)?;
@@ -53,7 +54,7 @@ fn dimension<'a>(
     bytes: &'a [u8],
 ) -> Result<(Dimension, &'a [u8]), Stop>
     ensures reading { Gives (λ x. (x.0, x.1.now)) result (dimension_at names.old has_records bytes.now) }
-    ensures names { IfOk result (λ x. names.new ≡ names.old ++ x.0.name ∷ []) }
+    ensures names { IfOk result (λ x. HasAlso names.old x.0.name names.new) }
 {
     let (name, rest) = new_name(alloc, names, bytes)?;
     let (length, rest) = length(has_records, rest)?;
@@ -72,7 +73,7 @@ fn items(alloc: Global, count: u32, bytes: &[u8]) -> Result<(List<Dimension>, &[
 {
     let room = (bytes.len() / LEAST).min(count as usize);
     let mut dimensions = List::with_capacity(alloc, room)?;
-    let mut names = Names::with_capacity(alloc, room)?;
+    let mut names = Names::new(alloc);
     let mut has_records = false;
     let mut rest = bytes;
     for _ in 0..count {

@@ -1,4 +1,5 @@
 ghost use Rattle.std.specs.Prelude.{◌≡◌, ℕ, ◌+◌, ◌^◌, ◌≤◌, Bool, List, [], ◌∷◌, ◌++◌, IfOk};
+ghost use Rattle.dap_types.specs.NameSet.{HasAlso};
 ghost use Rattle.netcdf_source.specs.Grammar.{rank_fault, dimension_fault, part_fault};
 ghost use Rattle.netcdf_source.specs.Parts.{share};
 ghost use Rattle.netcdf_source.specs.Reading.{Gives, judged_at, unread_at, next_id, ids_at, variable_at, next_variable, times, list_at};
@@ -110,7 +111,7 @@ fn variable<'a>(
 ) -> Result<(Variable, u64, &'a [u8]), Stop>
     requires { sum ≤ 2 ^ 62 }
     ensures reading { Gives (λ x. (x.0, x.2.now)) result (variable_at version dimensions.now names.old sum bytes.now) }
-    ensures names { IfOk result (λ x. names.new ≡ names.old ++ x.0.name ∷ []) }
+    ensures names { IfOk result (λ x. HasAlso names.old x.0.name names.new) }
     ensures sum { IfOk result (λ x. (x.1 ≡ sum + share dimensions.now x.0.dimensions x.0.external_type) × (x.1 ≤ 2 ^ 62)) }
 {
     let (name, rest) = new_name(alloc, names, bytes)?;
@@ -143,7 +144,7 @@ fn items<'a>(
 {
     let room = (bytes.len() / LEAST).min(count as usize);
     let mut variables = List::with_capacity(alloc, room)?;
-    let mut names = Names::with_capacity(alloc, room)?;
+    let mut names = Names::new(alloc);
     let mut sum = 0u64;
     let mut rest = bytes;
     for _ in 0..count {
