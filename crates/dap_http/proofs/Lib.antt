@@ -1,4 +1,5 @@
 pub mod Answered
+pub mod Carrying
 pub mod Decimal
 pub mod Ends
 pub mod EscapedSet
