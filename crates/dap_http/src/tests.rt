@@ -1,6 +1,0 @@
-mod framing;
-mod heads;
-mod replies;
-mod targets;
-mod texts;
-mod unframing;
