@@ -24,4 +24,3 @@ pub mod Shaped
 pub mod Zeros
 pub mod AttributeValues
 pub mod NewNames
-pub mod Counted

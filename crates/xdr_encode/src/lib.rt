@@ -1,41 +1,11 @@
-//! The bytes of a data response (DAP 2.0, DODS). A netCDF header or a table comes in with the marks of a
-//! constraint; the DDS, the line `Data:` and the values as XDR (RFC 4506) go out to a sink, the file read
-//! in batches. They are `body` of `dap_model` over what the constraint leaves of the dataset.
+//! The bytes of a data response. Words and strings, and a table with its dataset, come in; the forms of
+//! XDR go out (RFC 4506), and the body with the DDS before them (DAP 2.0). They are `word`,
+//! `string_fields` and `body` of `dap_model`.
 #![tactic(auto)]
 
-mod array;
-mod body;
-mod buffered;
-mod elements;
-mod fault;
-#[cfg(test)]
-mod fault_tests;
-mod fetch;
-mod kept;
-mod leaf;
-pub mod laws;
-mod leaves;
-mod make;
-mod numbers;
-mod plans;
+mod cells;
 mod put;
-mod refusal;
-#[cfg(test)]
-mod row_tests;
-mod scalar;
-#[cfg(test)]
-mod slab_tests;
-mod stream;
-mod streamed;
 mod table;
-mod table_rows;
-#[cfg(test)]
-mod testing;
-mod texts;
-mod wanted;
 
-pub use body::Body;
 pub use put::{put_string, put_word};
-pub use refusal::BodyRefusal;
-pub use streamed::Streamed;
 pub use table::table_body;
