@@ -2,5 +2,4 @@ pub mod BothEnds
 pub mod Causes
 pub mod Pieces
 pub mod PlainNames
-pub mod Quiet
 pub mod Tables

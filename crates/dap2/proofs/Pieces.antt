@@ -1,10 +1,11 @@
 -- Pieces that are put one after the other.
-use Rattle.std.proofs.Common.{Bor, ◌≡◌, ℕ, ◌<◌, List, [], ◌++◌, length, take, drop, get_or, suc, Option, codes, sym, ap, ◌∙◌, subst, append_assoc, drop-cons, take-append-drop}
+use Rattle.std.proofs.Common.{Bor, ◌≡◌, ℕ, ◌<◌, List, [], ◌++◌, length, take, drop, get_or, suc, Option, Result, OnOk, Ok, Err, codes, sym, ap, ◌∙◌, subst, append_assoc, drop-cons, take-append-drop}
 use Rattle.std.proofs.lemmas.Grind.{flat_map-append}
 use Rattle.std.specs.Fmt.{decimal}
 use Rattle.std.specs.Io.KnownBytes.{Appends}
 use Rattle.std.specs.List.{flat_map}
 use Rattle.dap_outside.proofs.Fronts.{front_more, front_of}
+use Rattle.dap_outside.specs.Causes.{HasCause, Rose}
 use Rattle.dap_outside.specs.Streams.{AppendsFront}
 use Rattle.dap2.specs.Lines.{bad_reply_line}
 use Rattle.xdr_decode.specs.Bads.{bad_name}
@@ -35,3 +36,9 @@ line-pieces bad name place p q =
     ∙ ap (λ l. codes "dap2: bad reply: " ++ (bad_name bad.kind ++ (codes " at " ++ (l ++ codes "\n")))) q
     ∙ ap (λ l. codes "dap2: bad reply: " ++ l) (sym (append_assoc (bad_name bad.kind) (codes " at ") (decimal bad.place ++ codes "\n")))
     ∙ ap (λ l. codes "dap2: bad reply: " ++ l) (sym (append_assoc (bad_name bad.kind ++ codes " at ") (decimal bad.place) (codes "\n")))
+
+-- all is put unless the count rose
+pub whole_said : {T E : Type 0} (r : Result T E) (before now : ℕ) (old new : Option (List ℕ)) (line : List ℕ) → OnOk r (Appends old new line) → HasCause before now r
+    → ¬ (Rose before now) → Appends old new line
+whole_said (Ok x) before now old new line ok cause quiet = ok
+whole_said (Err e) before now old new line ok cause quiet = absurd (quiet cause.failed)

@@ -10,14 +10,13 @@ use Rattle.dap_errors.specs.declared.file_cause.FileCause.{FileCause}
 use Rattle.dap_errors.specs.declared.file_cause.FileCause.TheVariants as file
 use Rattle.dap_outside.specs.Causes.{Rose}
 use Rattle.dap_outside.specs.Files.{Told}
-use Rattle.dap_outside.specs.Streams.{AppendsFront}
 use Rattle.csv_source.specs.Causes.{table_of}
 use Rattle.csv_source.specs.Dataset.{table_dataset, table_trees}
 use Rattle.csv_source.specs.Table.{CsvTable}
 use Rattle.csv_source.specs.declared.refusal.TableRefusal.{TableRefusal}
 use Rattle.csv_source.specs.declared.refusal.TableRefusal.TheVariants as table
 use Rattle.dap_model.specs.Body.{body}
-use Rattle.dap2.specs.Lines.{damaged_line}
+use Rattle.dap2.specs.Lines.{IsSaid, damaged_line}
 use Rattle.dap2.specs.Words.{AreAnswer, IsBuilt, Names}
 use Rattle.dap2.specs.declared.no_body.NoBody.{NoBody}
 use Rattle.dap2.specs.declared.no_body.NoBody.TheVariants as why
@@ -130,8 +129,7 @@ pub record TellsDamage (target : List ℕ) (files : Told) (out_old out_new : Opt
   pub cause : FileCause
   pub is_damaged : IsDamaged target files cause
   pub object : Appends out_old out_new (error_object (Damaged cause))
-  pub line : ¬ (Rose before now) → Appends err_old err_new (damaged_line (message_text (Damaged cause)))
-  pub front : AppendsFront err_old err_new (damaged_line (message_text (Damaged cause)))
+  pub line : IsSaid (damaged_line (message_text (Damaged cause))) before now err_old err_new
 
 -- the words are `answer` and such a target
 abbrev pub Asks : List (List ℕ) → (List ℕ → Type 0) → Type 0

@@ -1,6 +1,9 @@
 -- The number and the line of each status (this project's).
-use Rattle.std.specs.Prelude.{ℕ, List, [], ◌++◌, codes}
+use Rattle.std.specs.Prelude.{ℕ, List, ◌++◌, Option, Some, None, codes}
 use Rattle.std.specs.Fmt.{decimal}
+use Rattle.std.specs.Io.KnownBytes.{Appends}
+use Rattle.dap_outside.specs.Causes.{Rose}
+use Rattle.dap_outside.specs.Streams.{AppendsFront}
 use Rattle.dap2.specs.declared.status.Status.{Status}
 use Rattle.dap2.specs.declared.status.Status.TheVariants.{Complete, Words, Refused, Damaged, BadReply, ReadFault, WriteFault, Memory, Unbuilt}
 use Rattle.xdr_decode.specs.Bads.{bad_name}
@@ -19,19 +22,23 @@ number_of Memory = 10
 number_of Unbuilt = 11
 
 -- for standard error. Those of a damaged file and of a bad reply say what is wrong
-abbrev pub line_of : Status → List ℕ
-line_of Complete = []
-line_of Words = codes "usage: dap2 answer TARGET | show\n"
-line_of Refused = codes "dap2: refused: no such file\n"
-line_of Damaged = []
-line_of BadReply = []
-line_of ReadFault = codes "dap2: read fault\n"
-line_of WriteFault = codes "dap2: write fault\n"
-line_of Memory = codes "dap2: out of memory\n"
-line_of Unbuilt = codes "dap2: not built\n"
+abbrev pub line_of : Status → Option (List ℕ)
+line_of Complete = None
+line_of Words = Some (codes "usage: dap2 answer TARGET | show\n")
+line_of Refused = Some (codes "dap2: refused: no such file\n")
+line_of Damaged = None
+line_of BadReply = None
+line_of ReadFault = Some (codes "dap2: read fault\n")
+line_of WriteFault = Some (codes "dap2: write fault\n")
+line_of Memory = Some (codes "dap2: out of memory\n")
+line_of Unbuilt = Some (codes "dap2: not built\n")
 
 abbrev pub damaged_line : List ℕ → List ℕ
 damaged_line message = codes "dap2: damaged: " ++ message ++ codes "\n"
 
 abbrev pub bad_reply_line : BadField → List ℕ
 bad_reply_line bad = codes "dap2: bad reply: " ++ bad_name bad.kind ++ codes " at " ++ decimal bad.place ++ codes "\n"
+
+-- unless its count of faults rose the sink gained the line, and a front of it wherever it rose
+abbrev pub IsSaid : List ℕ → ℕ → ℕ → Option (List ℕ) → Option (List ℕ) → Type 0
+IsSaid line before now old new = (¬ (Rose before now) → Appends old new line) × AppendsFront old new line

@@ -8,10 +8,10 @@ ghost use Rattle.dap_model.specs.Body.{body};
 ghost use Rattle.dap_outside.specs.Causes.{Rose};
 ghost use Rattle.dap_outside.specs.Streams.{AppendsFront};
 ghost use Rattle.dap2.specs.Answer.{Answers, AnswersBody, HasFile, HasNoFile, IsBodyOf, IsDamaged, IsMissing, IsRead, IsWhy, IsWhyOfBytes, IsPut, IsWhyNotRead, IsWhyOfFile, TellsDamage, error_object, file_cause};
-ghost use Rattle.dap2.specs.Lines.{damaged_line};
+ghost use Rattle.dap2.specs.Lines.{IsSaid, damaged_line};
 ghost use Rattle.dap2.specs.Words.{IsBuilt};
 
-use crate::lines::put_damaged;
+use crate::lines::say_damaged;
 use crate::no_body::NoBody;
 use crate::status::Status;
 use crate::words::file_asked;
@@ -155,8 +155,7 @@ fn put_damage<O: Sink, E: Sink>(
     err: &mut E,
 ) -> Status
     ensures object { result ≡ Status.Damaged → Appends (O.written out.old) (O.written out.new) (error_object (cause.Damaged reason)) }
-    ensures line { result ≡ Status.Damaged → ¬ (Rose (E.put_faults err.old) (E.put_faults err.new)) → Appends (E.written err.old) (E.written err.new) (damaged_line (message_text (cause.Damaged reason))) }
-    ensures front { result ≡ Status.Damaged → AppendsFront (E.written err.old) (E.written err.new) (damaged_line (message_text (cause.Damaged reason))) }
+    ensures line { result ≡ Status.Damaged → IsSaid (damaged_line (message_text (cause.Damaged reason))) (E.put_faults err.old) (E.put_faults err.new) (E.written err.old) (E.written err.new) }
     ensures write_fault { result ≡ Status.WriteFault → Rose (O.put_faults out.old) (O.put_faults out.new) }
     ensures prefix { result ≡ Status.WriteFault → AppendsFront (O.written out.old) (O.written out.new) (error_object (cause.Damaged reason)) }
     ensures unchanged { result ≡ Status.Memory → O.written out.new ≡ O.written out.old }
@@ -174,7 +173,7 @@ fn put_damage<O: Sink, E: Sink>(
     };
     match put_all(out, text.bytes()) {
         Ok(()) => {
-            let _ = put_damaged(err, message.bytes());
+            say_damaged(err, message.bytes());
             Status::Damaged
         }
         Err(_) => Status::WriteFault,
@@ -198,6 +197,7 @@ pub fn answer<S: Shelf, O: Sink, E: Sink>(
     ensures write_fault { result ≡ Status.WriteFault → Rose (O.put_faults out.old) (O.put_faults out.new) }
     ensures prefix { result ≡ Status.WriteFault → (text : List ℕ) × Answers target.now (S.files shelf.old) text × AppendsFront (O.written out.old) (O.written out.new) text }
     ensures unchanged { result ≢ Status.Complete → result ≢ Status.Refused → result ≢ Status.Damaged → result ≢ Status.WriteFault → O.written out.new ≡ O.written out.old }
+    ensures unasked { ¬ (IsBuilt target.now) → shelf.new ≡ shelf.old }
     ensures words { result ≢ Status.Words }
     ensures bad_reply { result ≢ Status.BadReply }
     ensures quiet { result ≢ Status.Damaged → err.new ≡ err.old }

@@ -1,9 +1,9 @@
-ghost use Rattle.std.specs.Prelude.{◌≡◌, OnErr, OnOk};
+ghost use Rattle.std.specs.Prelude.{◌≡◌, ◌≤◌, OnErr, OnOk};
 ghost use Rattle.std.specs.Io.KnownBytes.{Appends};
 ghost use Rattle.std.specs.List.{flat_map};
 ghost use Rattle.dap_outside.specs.Causes.{HasCause};
 ghost use Rattle.dap_outside.specs.Streams.{AppendsFront};
-ghost use Rattle.dap2.specs.Lines.{bad_reply_line, damaged_line};
+ghost use Rattle.dap2.specs.Lines.{IsSaid, bad_reply_line, damaged_line};
 
 use dap_outside::{Failed, Sink, put_all};
 use xdr_decode::BadField;
@@ -22,25 +22,29 @@ fn put_each<O: Sink>(out: &mut O, pieces: &[&[u8]]) -> Result<(), Failed>
     Ok(())
 }
 
-/// Puts the line that says what is wrong with a data response.
-pub fn put_bad_reply<E: Sink>(err: &mut E, bad: BadField) -> Result<(), Failed>
-    ensures ok { OnOk result (Appends (E.written err.old) (E.written err.new) (bad_reply_line bad)) }
-    ensures err { OnErr result (AppendsFront (E.written err.old) (E.written err.new) (bad_reply_line bad)) }
-    ensures cause { HasCause (E.put_faults err.old) (E.put_faults err.new) result }
+/// Says a line, which is these pieces one after the other. A put that fails ends it.
+pub fn say<E: Sink>(err: &mut E, pieces: &[&[u8]])
+    ensures said { IsSaid (flat_map (λ piece. piece.now) pieces.now) (E.put_faults err.old) (E.put_faults err.new) (E.written err.old) (E.written err.new) }
+    ensures beside { E.beside_writing err.new ≡ E.beside_writing err.old }
+{
+    let _ = put_each(err, pieces);
+}
+
+/// Says what is wrong with a data response.
+pub fn say_bad_reply<E: Sink>(err: &mut E, bad: BadField)
+    ensures said { IsSaid (bad_reply_line bad) (E.put_faults err.old) (E.put_faults err.new) (E.written err.old) (E.written err.new) }
     ensures beside { E.beside_writing err.new ≡ E.beside_writing err.old }
 {
     let mut digits = itoa::Buffer::new();
     let place = digits.format(bad.place).as_bytes();
     let name = bad.kind.name().as_bytes();
-    put_each(err, &[b"dap2: bad reply: ", name, b" at ", place, b"\n"])
+    say(err, &[b"dap2: bad reply: ", name, b" at ", place, b"\n"])
 }
 
-/// Puts the line for a damaged file with this message.
-pub fn put_damaged<E: Sink>(err: &mut E, message: &[u8]) -> Result<(), Failed>
-    ensures ok { OnOk result (Appends (E.written err.old) (E.written err.new) (damaged_line message.now)) }
-    ensures err { OnErr result (AppendsFront (E.written err.old) (E.written err.new) (damaged_line message.now)) }
-    ensures cause { HasCause (E.put_faults err.old) (E.put_faults err.new) result }
+/// Says what is wrong with a damaged file, of which this is the message.
+pub fn say_damaged<E: Sink>(err: &mut E, message: &[u8])
+    ensures said { IsSaid (damaged_line message.now) (E.put_faults err.old) (E.put_faults err.new) (E.written err.old) (E.written err.new) }
     ensures beside { E.beside_writing err.new ≡ E.beside_writing err.old }
 {
-    put_each(err, &[b"dap2: damaged: ", message, b"\n"])
+    say(err, &[b"dap2: damaged: ", message, b"\n"])
 }

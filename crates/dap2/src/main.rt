@@ -38,23 +38,31 @@ fn words_of<R: Env + AllocGlobal>(rt: &R) -> Result<List<Name>, Memory> {
     Ok(words)
 }
 
-fn main(rt: HostRuntime) -> ExitCode {
-    let status = match words_of(&rt) {
-        Ok(words) => {
-            let mut shelf = FolderShelf::new(&rt);
-            let mut input = StdSource::new(rt.stdin());
-            let mut out = StdSink::new(rt.stdout());
-            let mut err = StdSink::new(rt.stderr());
-            run(
-                rt.alloc(),
-                words.items(),
-                &mut shelf,
-                &mut input,
-                &mut out,
-                &mut err,
-            )
-        }
-        Err(Memory) => Status::Memory,
+/// Does what the words after the program's name say, in the folder in which it was started and over
+/// the standard streams.
+fn status_of(rt: &HostRuntime) -> Status {
+    let Ok(words) = words_of(rt) else {
+        return Status::Memory;
     };
-    ExitCode::from(status.number())
+    let mut shelf = FolderShelf::new(rt);
+    let mut input = StdSource::new(rt.stdin());
+    let mut out = StdSink::new(rt.stdout());
+    let mut err = StdSink::new(rt.stderr());
+    run(
+        rt.alloc(),
+        words.items(),
+        &mut shelf,
+        &mut input,
+        &mut out,
+        &mut err,
+    )
+}
+
+/// What the program ends with.
+fn ended(rt: &HostRuntime) -> ExitCode {
+    status_of(rt).exit_code()
+}
+
+fn main(rt: HostRuntime) -> ExitCode {
+    ended(&rt)
 }

@@ -6,16 +6,17 @@ ghost use Rattle.dap_outside.specs.Streams.{AppendsFront};
 ghost use Rattle.dap_errors.specs.declared.cause.Cause.TheVariants as cause;
 ghost use Rattle.dap_errors.specs.declared.file_cause.FileCause.{FileCause};
 ghost use Rattle.dap2.specs.Answer.{Answers, AnswersBody, Asks, IsDamaged, IsMissing, TellsDamage, error_object};
-ghost use Rattle.dap2.specs.Lines.{line_of};
-ghost use Rattle.dap2.specs.Show.{IsFor, IsRefusedBy, status_for};
+ghost use Rattle.dap2.specs.Lines.{IsSaid, line_of};
+ghost use Rattle.dap2.specs.Show.{IsFor, IsRefusedBy, SaysBadReply, status_for};
 ghost use Rattle.dap2.specs.Words.{IsBuilt, IsCommand, IsShow};
 ghost use Rattle.xdr_decode.specs.Verdict.{Verdict, IsVerdict, unbuilt};
 
 use crate::answer::answer;
 use crate::command::{Command, command_of};
+use crate::lines::say;
 use crate::show::show_input;
 use crate::status::Status;
-use dap_outside::{Shelf, Sink, Source, put_all};
+use dap_outside::{Shelf, Sink, Source};
 use dap_types::Name;
 use std::alloc::Global;
 
@@ -38,8 +39,11 @@ fn obey<S: Shelf, I: Source, O: Sink, E: Sink>(
         Asks words.now (λ target. ¬ (IsBuilt target))
         ⊎ IsShow words.now × IfSome (I.left input.old) (λ body. IsVerdict body unbuilt) }
     ensures unbuilds { Asks words.now (λ target. ¬ (IsBuilt target)) → result ≡ Status.Unbuilt }
+    ensures unasked { Asks words.now (λ target. ¬ (IsBuilt target)) → shelf.new ≡ shelf.old }
+    ensures no_command { ¬ (IsCommand words.now) → shelf.new ≡ shelf.old }
     ensures bad_reply { result ≡ Status.BadReply → IsShow words.now
         × IfSome (I.left input.old) (λ body. IsRefusedBy body (E.put_faults err.old) (E.put_faults err.new) (E.written err.old) (E.written err.new)) }
+    ensures bad_line { result ≡ Status.BadReply → SaysBadReply (E.put_faults err.old) (E.put_faults err.new) (E.written err.old) (E.written err.new) }
     ensures verdict { IsShow words.now → (body : List ℕ) (v : Verdict) → I.left input.old ≡ Some body → IsVerdict body v → IsFor v result }
     ensures words { (result ≡ Status.Words) ↔ (¬ (IsCommand words.now)) }
     ensures read_fault { result ≡ Status.ReadFault →
@@ -66,8 +70,9 @@ fn obey<S: Shelf, I: Source, O: Sink, E: Sink>(
 }
 
 /// Does all that the program does with the words after its name. `answer TARGET` finds a file on the
-/// shelf and puts its data response to `out`, or the Error object that says why there is none; `show` reads a data response from `input` and shows it
-/// on `out`. For each status but `Complete` a line goes to `err`.
+/// shelf and puts its data response to `out`, or the Error object that says why there is none; `show`
+/// reads a data response from `input` and shows it on `out`. For each status but `Complete` a line
+/// goes to `err`.
 pub fn run<S: Shelf, I: Source, O: Sink, E: Sink>(
     alloc: Global,
     words: &[Name],
@@ -86,8 +91,11 @@ pub fn run<S: Shelf, I: Source, O: Sink, E: Sink>(
         Asks words.now (λ target. ¬ (IsBuilt target))
         ⊎ IsShow words.now × IfSome (I.left input.old) (λ body. IsVerdict body unbuilt) }
     ensures unbuilds { Asks words.now (λ target. ¬ (IsBuilt target)) → result ≡ Status.Unbuilt }
+    ensures unasked { Asks words.now (λ target. ¬ (IsBuilt target)) → shelf.new ≡ shelf.old }
+    ensures no_command { ¬ (IsCommand words.now) → shelf.new ≡ shelf.old }
     ensures bad_reply { result ≡ Status.BadReply → IsShow words.now
         × IfSome (I.left input.old) (λ body. IsRefusedBy body (E.put_faults err.old) (E.put_faults err.new) (E.written err.old) (E.written err.new)) }
+    ensures bad_line { result ≡ Status.BadReply → SaysBadReply (E.put_faults err.old) (E.put_faults err.new) (E.written err.old) (E.written err.new) }
     ensures words { (result ≡ Status.Words) ↔ (¬ (IsCommand words.now)) }
     ensures read_fault { result ≡ Status.ReadFault →
         Asks words.now (λ target. Rose (S.faults shelf.old) (S.faults shelf.new))
@@ -120,11 +128,13 @@ pub fn run<S: Shelf, I: Source, O: Sink, E: Sink>(
     ensures whole { I.whole input.new ≡ I.whole input.old }
     ensures beside_input { I.beside_reading input.new ≡ I.beside_reading input.old }
     ensures beside_out { O.beside_writing out.new ≡ O.beside_writing out.old }
-    ensures err_line { result ≢ Status.BadReply → result ≢ Status.Damaged → ¬ (Rose (E.put_faults err.old) (E.put_faults err.new)) → Appends (E.written err.old) (E.written err.new) (line_of result) }
-    ensures err_front { result ≢ Status.BadReply → result ≢ Status.Damaged → AppendsFront (E.written err.old) (E.written err.new) (line_of result) }
+    ensures said { IfSome (line_of result) (λ line. IsSaid line (E.put_faults err.old) (E.put_faults err.new) (E.written err.old) (E.written err.new)) }
+    ensures silent { result ≡ Status.Complete → err.new ≡ err.old }
     ensures beside_err { E.beside_writing err.new ≡ E.beside_writing err.old }
 {
     let status = obey(alloc, words, shelf, input, out, err);
-    let _ = put_all(err, status.line().as_bytes());
+    if let Some(line) = status.line() {
+        say(err, &[line.as_bytes()]);
+    }
     status
 }

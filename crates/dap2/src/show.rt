@@ -3,10 +3,10 @@ ghost use Rattle.std.specs.Io.KnownBytes.{Appends, IsAtEnd};
 ghost use Rattle.dap_client.specs.Shows.{IsShownBy};
 ghost use Rattle.dap_outside.specs.Causes.{Rose};
 ghost use Rattle.dap_outside.specs.Streams.{AppendsFront};
-ghost use Rattle.dap2.specs.Show.{IsFor, IsRefusedBy};
+ghost use Rattle.dap2.specs.Show.{IsFor, IsRefusedBy, SaysBadReply};
 ghost use Rattle.xdr_decode.specs.Verdict.{Verdict, IsVerdict, unbuilt};
 
-use crate::lines::put_bad_reply;
+use crate::lines::say_bad_reply;
 use crate::status::Status;
 use dap_client::{Outcome, show};
 use dap_outside::{Sink, Source};
@@ -21,6 +21,7 @@ pub fn show_input<I: Source, O: Sink, E: Sink>(
 ) -> Status
     ensures complete { result ≡ Status.Complete → IfSome (I.left input.old) (λ body. IsShownBy body (Appends (O.written out.old) (O.written out.new))) × IsAtEnd (I.left input.new) }
     ensures bad_reply { result ≡ Status.BadReply → IfSome (I.left input.old) (λ body. IsRefusedBy body (E.put_faults err.old) (E.put_faults err.new) (E.written err.old) (E.written err.new)) }
+    ensures bad_line { result ≡ Status.BadReply → SaysBadReply (E.put_faults err.old) (E.put_faults err.new) (E.written err.old) (E.written err.new) }
     ensures unbuilt { result ≡ Status.Unbuilt → IfSome (I.left input.old) (λ body. IsVerdict body unbuilt) }
     ensures verdict { (body : List ℕ) (v : Verdict) → I.left input.old ≡ Some body → IsVerdict body v → IsFor v result }
     ensures read_fault { result ≡ Status.ReadFault → Rose (I.take_faults input.old) (I.take_faults input.new) }
@@ -39,7 +40,7 @@ pub fn show_input<I: Source, O: Sink, E: Sink>(
     match show(alloc, input, out) {
         Outcome::Complete { .. } => Status::Complete,
         Outcome::BadReply(bad) => {
-            let _ = put_bad_reply(err, bad);
+            say_bad_reply(err, bad);
             Status::BadReply
         }
         Outcome::Unbuilt => Status::Unbuilt,

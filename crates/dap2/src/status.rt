@@ -1,5 +1,8 @@
-ghost use Rattle.std.specs.Prelude.{◌≡◌, codes};
+ghost use Rattle.std.specs.Prelude.{◌≡◌, codes, option_map};
+ghost use Rattle.std.specs.Process.{exit_status};
 ghost use Rattle.dap2.specs.Lines.{number_of, line_of};
+
+use std::process::ExitCode;
 
 /// How a command ended.
 #[derive(Clone, Copy, Debug, PartialEq, Eq)]
@@ -42,19 +45,26 @@ impl Status {
         }
     }
 
-    /// The line for standard error. It is empty where the command is complete, and for a damaged file
-    /// and a bad reply, whose lines say what is wrong.
-    pub fn line(self) -> &'static str
-        ensures { result.now ≡ line_of self }
+    /// The same as what `main` gives back.
+    pub fn exit_code(self) -> ExitCode
+        ensures { exit_status result ≡ number_of self }
+    {
+        ExitCode::from(self.number())
+    }
+
+    /// The line for standard error. There is none where the command is complete, and for a damaged
+    /// file and a bad reply, whose lines say what is wrong.
+    pub fn line(self) -> Option<&'static str>
+        ensures { option_map (λ line. line.now) result ≡ line_of self }
     {
         match self {
-            Status::Complete | Status::Damaged | Status::BadReply => "",
-            Status::Words => "usage: dap2 answer TARGET | show\n",
-            Status::Refused => "dap2: refused: no such file\n",
-            Status::ReadFault => "dap2: read fault\n",
-            Status::WriteFault => "dap2: write fault\n",
-            Status::Memory => "dap2: out of memory\n",
-            Status::Unbuilt => "dap2: not built\n",
+            Status::Complete | Status::Damaged | Status::BadReply => None,
+            Status::Words => Some("usage: dap2 answer TARGET | show\n"),
+            Status::Refused => Some("dap2: refused: no such file\n"),
+            Status::ReadFault => Some("dap2: read fault\n"),
+            Status::WriteFault => Some("dap2: write fault\n"),
+            Status::Memory => Some("dap2: out of memory\n"),
+            Status::Unbuilt => Some("dap2: not built\n"),
         }
     }
 }

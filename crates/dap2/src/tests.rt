@@ -3,11 +3,14 @@ ghost use Rattle.std.specs.Prelude.{◌≤◌};
 use crate::folder_shelf::FolderShelf;
 use crate::run::run;
 use crate::status::Status;
-use dap_outside::{MemFile, MemShelf, MemSink, MemSource, Shelf};
+use crate::std_streams::{StdSink, StdSource};
+use dap_outside::{MemFile, MemShelf, MemSink, MemSource, Shelf, Sink, Source};
 use dap_types::{Bytes, List, Memory, Name};
 use std::alloc::Global;
 use std::fs;
+use std::io::{self, ErrorKind, Read, Write};
 use std::os::unix::fs as unix;
+use std::process::ExitCode;
 use std::test::Fail;
 
 const BUOYS: &[u8] = b"station,depth:Int32\nA1,5\nB22,-7\n";
@@ -355,34 +358,30 @@ fn each_take_and_each_put_of_a_showing_may_fail(rt: HostRuntime) -> Result<(), F
         input: BUOYS_BODY,
         ..SURE
     };
-    for n in 1..4 {
-        let found = ran(
-            rt.alloc(),
-            &["show"],
-            Outside {
-                take_fails: &[n],
-                ..sure
-            },
-        )?;
+    let mut all_read = false;
+    for n in 1..100 {
+        let take_fails: &[u64] = &[n];
+        let found = ran(rt.alloc(), &["show"], Outside { take_fails, ..sure })?;
+        if found.status == Status::Complete {
+            all_read = true;
+            break;
+        }
         assert_eq!(rt; found.status, Status::ReadFault);
         assert_eq!(rt; found.out.bytes(), b"".as_slice());
-        let found = ran(
-            rt.alloc(),
-            &["show"],
-            Outside {
-                out_fails: &[n],
-                ..sure
-            },
-        )?;
+    }
+    assert!(rt; all_read);
+    let mut all_put = false;
+    for n in 1..100 {
+        let out_fails: &[u64] = &[n];
+        let found = ran(rt.alloc(), &["show"], Outside { out_fails, ..sure })?;
+        if found.status == Status::Complete {
+            all_put = true;
+            break;
+        }
         assert_eq!(rt; found.status, Status::WriteFault);
         assert!(rt; BUOYS_SHOWN.starts_with(found.out.bytes()));
     }
-    let late = Outside {
-        take_fails: &[9],
-        out_fails: &[9],
-        ..sure
-    };
-    assert_eq!(rt; ran(rt.alloc(), &["show"], late)?.status, Status::Complete);
+    assert!(rt; all_put);
     Ok(())
 }
 
@@ -418,5 +417,82 @@ fn a_folder_lends_its_regular_files(rt: HostRuntime) -> Result<(), Fail> {
     assert_eq!(rt; bytes.as_slice(), b"A1,5\n".as_slice());
     fs::write(&rt, "buoys.csv", b"short")?;
     assert!(rt; shelf.read_at(&mut found, 20, &mut bytes).is_err());
+    Ok(())
+}
+
+/// A reader and a writer of which every call fails.
+#[derive(Drop)]
+struct Broken;
+
+impl Read for Broken {
+    fn read(&mut self, _into: &mut [u8]) -> io::Result<usize> {
+        Err(io::Error::from(ErrorKind::Other))
+    }
+}
+
+impl Write for Broken {
+    fn write(&mut self, _bytes: &[u8]) -> io::Result<usize> {
+        Err(io::Error::from(ErrorKind::Other))
+    }
+
+    fn flush(&mut self) -> io::Result<()> {
+        Err(io::Error::from(ErrorKind::Other))
+    }
+}
+
+#[test]
+fn the_standard_streams_tell_what_fails(rt: HostRuntime) -> Result<(), Fail> {
+    let mut into = [0u8; 4];
+    let mut broken = StdSource::new(Broken);
+    assert!(rt; broken.take(&mut into).is_err());
+    assert!(rt; broken.take(&mut into).is_err());
+    let mut short = StdSource::new(b"ab".as_slice());
+    assert!(rt; matches!(short.take(&mut into), Ok(2)));
+    assert!(rt; matches!(short.take(&mut into), Ok(0)));
+    assert!(rt; matches!(short.take(&mut into), Ok(0)));
+    let mut broken = StdSink::new(Broken);
+    assert!(rt; broken.put(b"ab").is_err());
+    let mut room = [0u8; 2];
+    let mut full = StdSink::new(room.as_mut_slice());
+    assert!(rt; matches!(full.put(b"abc"), Ok(2)));
+    assert!(rt; full.put(b"c").is_err());
+    Ok(())
+}
+
+#[test]
+fn a_run_over_broken_streams_is_a_fault(rt: HostRuntime) -> Result<(), Fail> {
+    let mut shelf = MemShelf::new(files(rt.alloc())?, numbers(rt.alloc(), &[])?);
+    let mut input = StdSource::new(Broken);
+    let mut out = StdSink::new(Broken);
+    let mut err = StdSink::new(Broken);
+    for (words, status) in [
+        (["show", ""], Status::ReadFault),
+        (["answer", "buoys.csv.dods"], Status::WriteFault),
+        (["answer", "none.csv.dods"], Status::WriteFault),
+        (["answer", "buoys.csv.dds"], Status::Unbuilt),
+    ] {
+        let mut named = List::new(rt.alloc());
+        for word in words {
+            if !word.is_empty() {
+                named.push(Name::new(rt.alloc(), word)?)?;
+            }
+        }
+        let ended = run(
+            rt.alloc(),
+            named.items(),
+            &mut shelf,
+            &mut input,
+            &mut out,
+            &mut err,
+        );
+        assert_eq!(rt; ended, status);
+    }
+    Ok(())
+}
+
+// The tests are started with no words, which are no command.
+#[test]
+fn the_program_ends_with_the_number_of_its_status(rt: HostRuntime) -> Result<(), Fail> {
+    assert_eq!(rt; crate::ended(&rt), ExitCode::from(2));
     Ok(())
 }
