@@ -33,3 +33,10 @@ pub mod Values
 pub mod Whole
 pub mod EachSuits
 pub mod Picks
+pub mod Numbering
+pub mod OneBody
+pub mod Limits
+pub mod Spaced
+pub mod Clauses
+pub mod FilteredWords
+pub mod Partly

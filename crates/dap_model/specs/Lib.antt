@@ -12,3 +12,7 @@ pub mod Shown
 pub mod Tokens
 pub mod Xdr
 pub mod Laws
+pub mod Numbering
+pub mod Partly
+pub mod Picking
+pub mod Reading

@@ -1,0 +1,22 @@
+//! Numbering by place, by path and by counting are one.
+ghost use Rattle.dap_model.specs.Numbering.{MembersAreCounted, NumbersAreOfMembers, PathsHaveNumbers, PathsNameMembers};
+
+/// The n-th path ends with the name of the n-th member.
+pub fn paths_name_members()
+    ensures law { PathsNameMembers }
+{}
+
+/// There are as many members as counting gives.
+pub fn members_are_counted()
+    ensures law { MembersAreCounted }
+{}
+
+/// The number of a path is that of a member with the path's last name.
+pub fn numbers_are_of_members()
+    ensures law { NumbersAreOfMembers }
+{}
+
+/// In a well-formed dataset the path of each member has its number.
+pub fn paths_have_numbers()
+    ensures law { PathsHaveNumbers }
+{}
