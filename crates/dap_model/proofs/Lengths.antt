@@ -10,8 +10,8 @@ use Rattle.dap_types.specs.declared.values.Value.{Value}
 use Rattle.dap_types.specs.declared.values.Value.TheVariants as values
 use Rattle.dap_model.proofs.Values.{all_first, all_rest, values_of_fit, length-values_in, packed-bytes, bytes_of-append}
 use Rattle.dap_model.specs.Fits.{IsOf, FitsArray, values_in}
-use Rattle.dap_model.specs.Laws.{IsNumber, element_width, padded}
-use Rattle.dap_model.specs.Xdr.{Field, count, packed, filler, zeros, byte_of, field_bytes, bytes_of, value_fields, array_fields}
+use Rattle.dap_model.specs.Laws.{IsNumber, element_width}
+use Rattle.dap_model.specs.Xdr.{Field, count, packed, filler, zeros, byte_of, field_bytes, bytes_of, value_fields, array_fields, padded}
 
 -- types whose numbers stand in words of their own
 abbrev IsWide : BaseType → Type 0

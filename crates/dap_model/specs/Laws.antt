@@ -18,7 +18,7 @@ use Rattle.dap_model.specs.Body.{body, IsBody}
 use Rattle.dap_model.specs.Dds.{dds}
 use Rattle.dap_model.specs.Tokens.{Token}
 use Rattle.dap_model.specs.Received.{MayFollow, Fault, fault_of, width, EndsAt, IsOpen, IsBadField}
-use Rattle.dap_model.specs.Xdr.{Field, array_fields, bytes_of, xdr, Spells}
+use Rattle.dap_model.specs.Xdr.{Field, array_fields, bytes_of, xdr, Spells, padded}
 
 -- a dataset is well formed exactly where it has no fault
 abbrev pub WellFormedWithoutFault : Type 0
@@ -69,10 +69,6 @@ abbrev pub element_width : BaseType → ℕ
 element_width Byte = 1
 element_width Float64 = 8
 element_width base = 4
-
--- up to a multiple of four
-abbrev pub padded : ℕ → ℕ
-padded n = n + (3 - (n + 3) % 4)
 
 -- an array of numbers has the bytes of its two counts and of its elements, up to a multiple of four
 abbrev pub NumbersHaveLength : Type 0

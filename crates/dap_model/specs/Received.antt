@@ -9,7 +9,7 @@ use Rattle.dap_model.specs.Body.{IsHead}
 use Rattle.dap_model.specs.Dds.{dds}
 use Rattle.dap_model.specs.Fits.{FitsAll}
 use Rattle.dap_model.specs.Shown.{Element, element_line, elements_all, shown_byte}
-use Rattle.dap_model.specs.Xdr.{Field, count, number, packed, filler, size, text, padding, mark, fields_all, Spells, SpellsField, SpellsFields}
+use Rattle.dap_model.specs.Xdr.{Field, count, number, packed, filler, size, text, padding, mark, fields_all, Spells, SpellsField, SpellsFields, fill}
 
 -- some values of the dataset have these fields, and then that one
 abbrev pub MayFollow : Dataset → List Field → Field → Type 0
@@ -19,9 +19,9 @@ MayFollow d fs f = (ts : List Tree) × (rest : List Field) × FitsAll d.members 
 abbrev pub width : Field → ℕ
 width (number Float64 v) = 8
 width (packed v) = 1
-width (filler n) = 3 - (n + 3) % 4
+width (filler n) = fill n
 width (text bytes) = length bytes
-width (padding n) = 3 - (n + 3) % 4
+width (padding n) = fill n
 width field = 4
 
 pub data Fault : Type 0 where

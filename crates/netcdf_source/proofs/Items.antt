@@ -2,13 +2,14 @@
 use Rattle.std.proofs.Common.{◌≡◌, ℕ, zero, suc, ◌<◌, inl, inr, List, [], ◌∷◌, ◌++◌, length, map, replicate, Option, None, Result, Ok, Err, refl, sym, ap, subst, ◌∙◌, append_assoc}
 use Rattle.std.proofs.lemmas.Bool.{cases_lt}
 use Rattle.std.proofs.lemmas.List.{append-nil, length-replicate}
-use Rattle.netcdf_source.specs.Fields.{Judged, judged, fine, run, padded, Fault, Spells, Ends}
+use Rattle.netcdf_source.specs.Fields.{Judged, judged, fine, run, Fault, Spells, Ends}
 use Rattle.netcdf_source.specs.Grammar.{Listed, in_turn, list_fields, tag_fault, count_fault, name_fault, repeat_fault, name_fields, new_name_fields}
 use Rattle.netcdf_source.specs.Reading.{◌>>=◌, passed, judged_at, run_at, times, head_at, list_at, name_at, new_name_at}
 use Rattle.netcdf_source.specs.declared.stop.Failure.{Failure}
 use Rattle.netcdf_source.specs.declared.stop.Failure.TheVariants.{Cut}
 use Rattle.netcdf_source.proofs.Ends.{IsBytes, no_bytes, with_value, Again, Sound, join_ends, fail_ends, bytes_left, again_done, again_then, again_like, sound_then, sound_like, sound_as}
 use Rattle.netcdf_source.proofs.Singles.{again_single, sound_single, number_reader, values_reader, run_reader, passed_found, run_cut, run_splits, run_again}
+use Rattle.dap_model.specs.Xdr.{padded}
 
 pub bind_assoc : {A B C : Type 0} (r : Result A Failure) (f : A → Result B Failure) (g : B → Result C Failure) → ((r >>= f) >>= g) ≡ (r >>= λ x. f x >>= g)
 bind_assoc (Ok x) f g = refl

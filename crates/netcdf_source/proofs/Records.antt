@@ -5,13 +5,13 @@ use Rattle.std.specs.List.{AllByRecursion}
 use Rattle.std.proofs.lemmas.List.{append-nil, drop_all}
 use Rattle.std.proofs.lemmas.List.Sums.{sum_by-cons}
 use Rattle.std.proofs.lemmas.List.Elements.{All-from_recursion}
-use Rattle.netcdf_source.specs.Fields.{padded}
 use Rattle.netcdf_source.specs.Parts.{is_record, part, share, shares, bare, mark, record_size}
 use Rattle.netcdf_source.specs.Sound.{InTurn, IsVariable, IsSound, HasSize, HaveSizes}
 use Rattle.netcdf_source.specs.declared.header.Contents.{Contents}
 use Rattle.netcdf_source.specs.declared.header.Dimension.{Dimension}
 use Rattle.netcdf_source.specs.declared.header.Variable.{Variable}
 use Rattle.netcdf_source.proofs.Lists.{shares-push}
+use Rattle.dap_model.specs.Xdr.{padded}
 
 pub size_at : (dims : List Dimension) (vs : List Variable) → HaveSizes dims vs → All (HasSize dims) vs
 unfolding HaveSizes

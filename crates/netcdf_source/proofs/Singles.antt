@@ -6,7 +6,7 @@ use Rattle.std.specs.Int.{w32, w64, from_be_bytes}
 use Rattle.std.proofs.lemmas.Bool.{cases_lt, lt-ltb, le-ltb}
 use Rattle.std.proofs.lemmas.List.{take_at, drop_at, take-append-drop, length-append, length-take, get_or-take, get_or_past}
 use Rattle.std.proofs.lemmas.Nat.{be_bytes_4, be_bytes_8, from_be_bytes-to_be_bytes_4, from_be_bytes-to_be_bytes_8}
-use Rattle.netcdf_source.specs.Fields.{word, long, run, unread, padded, field_len, Spells, Fault, failure, bad_if, Judged, judged, fine, Ends}
+use Rattle.netcdf_source.specs.Fields.{word, long, run, unread, field_len, Spells, Fault, failure, bad_if, Judged, judged, fine, Ends}
 use Rattle.netcdf_source.specs.Grammar.{type_fault, external_type, begin_fault, begin_field}
 use Rattle.netcdf_source.specs.Reading.{◌>>=◌, passed, word_at, long_at, run_at, judged_at, unread_at, begin_at, type_at}
 use Rattle.netcdf_source.specs.Types.{type_of}
@@ -15,6 +15,7 @@ use Rattle.netcdf_source.specs.declared.external_type.ExternalType.TheVariants.{
 use Rattle.netcdf_source.specs.declared.stop.Failure.{Failure}
 use Rattle.netcdf_source.specs.declared.stop.Failure.TheVariants.{Cut, Bad}
 use Rattle.netcdf_source.proofs.Ends.{IsBytes, with_value, Again, Sound}
+use Rattle.dap_model.specs.Xdr.{padded}
 
 -- A reader of one field of a fixed length.
 pub record IsReader {T X : Type 0} (field : T → Judged) (says : T → X) (len : ℕ) (read : List ℕ → Result (X × List ℕ) Failure) : Type 0 where

@@ -1,7 +1,7 @@
 -- Dimensions, attributes, variables and headers: what is read is a tree, and each tree is read.
 use Rattle.std.proofs.Common.{◌≡◌, ℕ, ◌*◌, List, [], ◌∷◌, ◌++◌, length, map, eqb, Ok, refl, ap, subst}
 use Rattle.std.specs.List.{list_any}
-use Rattle.netcdf_source.specs.Fields.{Judged, judged, fine, run, word, padded}
+use Rattle.netcdf_source.specs.Fields.{Judged, judged, fine, run, word}
 use Rattle.netcdf_source.specs.Grammar.{Listed, AttributeTree, attribute, external_type, in_turn, list_fields, name_fields, new_name_fields, dimension_fields, attribute_fields, id_fields, length_fault, type_fault, rank_fault, dimension_fault, is_record_dimension}
 use Rattle.netcdf_source.specs.Reading.{◌>>=◌, word_at, run_at, judged_at, type_at, list_at, name_at, new_name_at, dimension_at, next_dimension, attribute_at, next_attribute, next_id, ids_at, times}
 use Rattle.netcdf_source.specs.Types.{size_of}
@@ -10,6 +10,7 @@ use Rattle.netcdf_source.specs.declared.header.Dimension.{Dimension}
 use Rattle.netcdf_source.proofs.Ends.{Again, Sound, again_done, again_then, sound_done, sound_then, sound_as}
 use Rattle.netcdf_source.proofs.Singles.{again_single, sound_single, number_reader, plain_reader, type_reader, values_reader}
 use Rattle.netcdf_source.proofs.Items.{list_again, list_sound, sized_again, sized_sound, times_again, times_found, name_again, name_sound, new_name_again, new_name_sound}
+use Rattle.dap_model.specs.Xdr.{padded}
 
 pub map-same : {X : Type 0} (xs : List X) → map (λ x. x) xs ≡ xs
 map-same [] = refl

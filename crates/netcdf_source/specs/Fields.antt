@@ -5,6 +5,7 @@ use Rattle.std.specs.Prelude.{◌≡◌, ℕ, ◌+◌, ◌-◌, ◌%◌, ◌^◌
 use Rattle.std.specs.Int.{w32, w64, to_be_bytes}
 use Rattle.netcdf_source.specs.declared.stop.Failure.{Failure}
 use Rattle.netcdf_source.specs.declared.stop.Failure.TheVariants.{Cut, Streaming, Bad}
+use Rattle.dap_model.specs.Xdr.{padded}
 
 pub data Field : Type 0 where
   -- a number of four bytes
@@ -15,10 +16,6 @@ pub data Field : Type 0 where
   run : ℕ → List ℕ → Field
   -- four bytes of any kind
   unread : Field
-
--- n bytes up to a multiple of four
-abbrev pub padded : ℕ → ℕ
-padded n = n + (3 - (n + 3) % 4)
 
 abbrev pub field_len : Field → ℕ
 field_len (word n) = 4

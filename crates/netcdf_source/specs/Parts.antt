@@ -3,12 +3,12 @@ use Rattle.std.specs.Prelude.{ℕ, ◌+◌, ◌-◌, ◌*◌, Bool, false, ◌&&
 use Rattle.std.specs.List.{position_from}
 use Rattle.std.specs.Option.{option_map_or}
 use Rattle.dap_types.specs.Model.{product}
-use Rattle.netcdf_source.specs.Fields.{padded}
 use Rattle.netcdf_source.specs.Types.{size_of}
 use Rattle.netcdf_source.specs.declared.external_type.ExternalType.{ExternalType}
 use Rattle.netcdf_source.specs.declared.header.Dimension.{Dimension}
 use Rattle.netcdf_source.specs.declared.header.Variable.{Variable}
 use Rattle.netcdf_source.specs.declared.header.Contents.{Contents}
+use Rattle.dap_model.specs.Xdr.{padded}
 
 -- the length of dimension number i, which is 0 for the record dimension
 unfoldable pub length_at : List Dimension → ℕ → ℕ

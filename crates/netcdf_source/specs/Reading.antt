@@ -3,7 +3,7 @@ use Rattle.std.specs.Prelude.{◌≡◌, ℕ, zero, suc, ◌*◌, Bool, List, []
 use Rattle.std.specs.Int.{w32, w64, from_be_bytes}
 use Rattle.std.specs.List.{list_any}
 use Rattle.std.specs.Option.{option_map_or}
-use Rattle.netcdf_source.specs.Fields.{padded, Fault, failure}
+use Rattle.netcdf_source.specs.Fields.{Fault, failure}
 use Rattle.netcdf_source.specs.Grammar.{records_fault, tag_fault, count_fault, name_fault, repeat_fault, length_fault, rank_fault, dimension_fault, part_fault, begin_fault, is_record_dimension}
 use Rattle.netcdf_source.specs.Parts.{shares}
 use Rattle.netcdf_source.specs.Types.{size_of, type_of}
@@ -16,6 +16,7 @@ use Rattle.netcdf_source.specs.declared.stop.Failure.{Failure}
 use Rattle.netcdf_source.specs.declared.stop.Failure.TheVariants.{Cut, Bad}
 use Rattle.netcdf_source.specs.declared.stop.Stop.{Stop}
 use Rattle.netcdf_source.specs.declared.stop.Stop.TheVariants as stops
+use Rattle.dap_model.specs.Xdr.{padded}
 
 infixl 10 ◌>>=◌
 abbrev pub ◌>>=◌ : {A B : Type 0} → Result A Failure → (A → Result B Failure) → Result B Failure

@@ -1,5 +1,5 @@
 ghost use Rattle.std.specs.Prelude.{◌≡◌, ℕ, ◌+◌, ◌-◌, ◌*◌, ◌^◌, ◌<◌, ◌≤◌, Bool, ◌&&◌, not, ◌==◌, List, true, nat_lt, length, if◌then◌else◌};
-ghost use Rattle.netcdf_source.specs.Fields.{padded};
+ghost use Rattle.dap_model.specs.Xdr.{padded};
 ghost use Rattle.netcdf_source.specs.Parts.{is_record, part, share, shares, record_size, bare, mark, is_past, past_end};
 ghost use Rattle.netcdf_source.specs.Sound.{IsSound, HasSize, HaveSizes};
 

@@ -1,5 +1,5 @@
 ghost use Rattle.std.specs.Prelude.{◌≡◌, ℕ, ◌+◌, ◌<◌, ◌≤◌, ◌^◌, List, length, Ok, Bool};
-ghost use Rattle.netcdf_source.specs.Fields.{padded};
+ghost use Rattle.dap_model.specs.Xdr.{padded};
 ghost use Rattle.netcdf_source.specs.Grammar.{records_fault, tag_fault, count_fault, name_fault, length_fault, rank_fault, begin_fault};
 ghost use Rattle.netcdf_source.specs.Reading.{Gives, word_at, long_at, run_at, judged_at, begin_at, type_at, head_at, name_at};
 

@@ -8,7 +8,7 @@ use Rattle.dap_types.specs.declared.values.Value.TheVariants as values
 use Rattle.dap_model.specs.Fits.{IsOf}
 use Rattle.dap_model.specs.Plain.{IsPlainType}
 use Rattle.dap_model.specs.Received.{Fault, bad_count, bad_word, bad_padding, wrong_mark}
-use Rattle.dap_model.specs.Xdr.{Field, number, size, text, padding, mark, SpellsField, SpellsFields}
+use Rattle.dap_model.specs.Xdr.{Field, number, size, text, padding, mark, SpellsField, SpellsFields, fill}
 use Rattle.xdr_decode.specs.Verdict.{kind_of}
 use Rattle.xdr_decode.specs.declared.bad.Bad.{Bad}
 use Rattle.xdr_decode.specs.declared.bad.Bad.TheVariants.{Cut}
@@ -56,7 +56,7 @@ abbrev pub next_width : State → ℕ
 next_width between = 4
 next_width (at_cell c cs) = 4
 next_width (in_text n cs) = n
-next_width (in_padding n cs) = 3 - (n + 3) % 4
+next_width (in_padding n cs) = fill n
 next_width ended = 0
 
 abbrev pub cell_fault : BaseType → Option Fault

@@ -18,7 +18,7 @@ use Rattle.dap_types.specs.declared.declarations.BaseType.TheVariants.{Byte, Int
 use Rattle.dap_model.specs.Received.{Fault, bad_count, IsBadField, IsFront, IsPrefix}
 use Rattle.dap_model.specs.Shown.{shown_byte}
 use Rattle.dap_model.specs.Xdr as xdr
-use Rattle.dap_model.specs.Xdr.{Field, text, field_bytes, SpellsField, SpellsFields}
+use Rattle.dap_model.specs.Xdr.{Field, text, field_bytes, SpellsField, SpellsFields, fill}
 use Rattle.xdr_decode.specs.Verdict.{kind_of}
 use Rattle.xdr_decode.specs.declared.bad.Bad.{Bad}
 use Rattle.xdr_fields.proofs.Fronts.{shows}
@@ -29,7 +29,7 @@ use Rattle.xdr_stream.proofs.Asking.{value_wide}
 use Rattle.xdr_stream.proofs.Beginning.{next_none}
 use Rattle.xdr_stream.proofs.Roomy.{roomy}
 use Rattle.xdr_stream.specs.After.{IsStopped, Reads, dataset_of, place_of, start_of}
-use Rattle.xdr_stream.specs.Asked.{Asks, Is, IsFaulty, fill, width_of}
+use Rattle.xdr_stream.specs.Asked.{Asks, Is, IsFaulty, width_of}
 use Rattle.xdr_stream.specs.Moving.{mark_bytes}
 use Rattle.xdr_stream.specs.Places.{AsksFirst, HaveMarks, HaveRoom, IsCutText, IsEarly, IsOwn, IsPlaced, IsStageAt, spot, spot_at, stage_wants, text_behind, text_wants, wants_left}
 use Rattle.xdr_stream.specs.Shown.{ShowsFront, HasGood}
