@@ -2,7 +2,7 @@
 use Rattle.std.proofs.Common.{◌≡◌, List, [], ◌∷◌, ℕ, ◌+◌, ◌<◌, ◌≤◌, length, drop, get_or, refl, ap, subst, ◌∙◌, Some, false, arith, inl, inr}
 use Rattle.std.proofs.lemmas.Bool.{cases_lt, not-true, eqb-true, eq-eqb}
 use Rattle.std.specs.Option.{option_and_then}
-use Rattle.viable.specs.Standing.{SameHead}
+use Rattle.viable.specs.inner.Standing.{SameHead}
 use Rattle.viable.proofs.Standing.{moves}
 use Rattle.constraint_parse.specs.Language.{is_blank, is_name_byte, Token, name, argument, comma, ampersand, dot, open_bracket, ConstraintTree, ItemTree, path, call, StepTree, SlabTree, no_items, some_items}
 use Rattle.constraint_parse.specs.Machine.{State, Start, Naming, Stepped, Called, Clausal, step, finish, read, step_of, with_last}

@@ -2,7 +2,7 @@
 use Rattle.std.proofs.Common.{◌≡◌, List, [], ◌∷◌, ◌++◌, ℕ, ◌+◌, ◌<◌, length, drop, get_or, refl, ap, subst, ◌∙◌, Some, Bool, true, false, ◌||◌, ◌==◌, IsTrue, arith, inl, inr, drop-cons, add-one}
 use Rattle.std.proofs.lemmas.Bool.{eqb-true, eqb-false, ne_eqb, cases_lt}
 use Rattle.std.proofs.lemmas.List.{drop_all}
-use Rattle.viable.specs.Standing.{SameHead}
+use Rattle.viable.specs.inner.Standing.{SameHead}
 use Rattle.viable.proofs.Standing.{faults_inside}
 use Rattle.constraint_parse.specs.Language.{is_blank, is_word_byte, Operator, equal, not_equal, less, less_equal, greater, greater_equal, matches, operator_bytes, Token, name, number, word, argument, quoted, operator, dot, open_brace, token_bytes, ItemsTree, ClauseTree, ConstraintTree}
 use Rattle.constraint_parse.specs.Machine.{State, ClauseNamed, Compared, step}

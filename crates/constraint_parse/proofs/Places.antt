@@ -5,7 +5,7 @@ use Rattle.std.proofs.Math.Seq.{drop-append_seam}
 use Rattle.std.specs.List.{list_all}
 use Rattle.std.specs.Option.{option_and_then}
 use Rattle.std.proofs.lemmas.Option.{option_and_then_some}
-use Rattle.viable.specs.Standing.{SameHead}
+use Rattle.viable.specs.inner.Standing.{SameHead}
 use Rattle.viable.specs.Prefix.{is_byte}
 use Rattle.viable.proofs.Standing.{moves, faults_inside}
 use Rattle.constraint_parse.specs.Language.{is_blank, equal, Token, name, number, word, operator, close_bracket, close_brace, token_bytes, is_token, ConstraintTree, constraint_tokens, IsSpaced, IsTextOf}

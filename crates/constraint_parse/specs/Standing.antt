@@ -1,6 +1,6 @@
 -- Where the parser stands in a text, for the contracts of its parts.
 use Rattle.std.specs.Prelude.{◌≡◌, ◌≢◌, ℕ, not, List, [], ◌<◌, ◌≤◌, length, IsTrue, Some, slice_index, ⊤}
-use Rattle.viable.specs.Standing.{Stands}
+use Rattle.viable.specs.inner.Standing.{Stands}
 use Rattle.viable.specs.Prefix.{is_byte, IsFault}
 use Rattle.constraint_parse.specs.Language.{is_blank, Token, ConstraintTree, IsSpaced, IsTextOf, SlabTree, StepTree, ItemTree, path, call}
 use Rattle.constraint_parse.specs.Machine.{State, Naming, Stepped, Opened, SecondOpened, ThirdOpened, Called, ClauseNaming, ClauseNamed, Compared, Bracing, step, read}

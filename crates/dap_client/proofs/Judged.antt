@@ -15,7 +15,7 @@ use Rattle.xdr_decode.specs.declared.filled.AllRefusal.{AllRefusal}
 use Rattle.xdr_decode.specs.declared.filled.AllRefusal.TheVariants as refusals
 use Rattle.xdr_decode.specs.declared.filled.Filled.{Filled}
 use Rattle.dap_client.specs.Gathered.{IsGathered}
-use Rattle.dap_client.specs.Showing.{IsNoReadFault, IsOutcomeOf, IsShowing}
+use Rattle.dap_client.specs.inner.Showing.{IsNoReadFault, IsOutcomeOf, IsShowing}
 use Rattle.dap_client.specs.Shows.{Answers, IfNothingPut, IsFor, Shows}
 use Rattle.dap_client.specs.declared.outcome.Outcome.{Outcome}
 use Rattle.dap_client.specs.declared.outcome.Outcome.TheVariants.{Complete, BadReply, Unbuilt, ReadFault, WriteFault, Memory}

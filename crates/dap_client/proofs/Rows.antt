@@ -15,7 +15,7 @@ use Rattle.dap_types.specs.declared.values.Value.{Value}
 use Rattle.dap_model.proofs.Values.{all_first, all_rest}
 use Rattle.dap_model.specs.Fits.{FitsRow, FitsScalar, IsMany}
 use Rattle.dap_model.specs.Shown.{element_line, elements_all, elements_of_each, index_text, shown_value}
-use Rattle.dap_client.specs.Lines.{AreRows, CellsFit, IsOne, RowFits, RowsFit, cell_line, cells_lines, rows_lines, value_text}
+use Rattle.dap_client.specs.inner.Lines.{AreRows, CellsFit, IsOne, RowFits, RowsFit, cell_line, cells_lines, rows_lines, value_text}
 
 scalar-one : (base : BaseType) (t : model.Tree) → FitsScalar base t → IsOne t
 scalar-one base (one value) fit = tt

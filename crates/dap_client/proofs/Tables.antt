@@ -10,7 +10,7 @@ use Rattle.dap_types.specs.declared.values.Tree.{Tree, Many, One}
 use Rattle.dap_types.specs.declared.values.Value.{Value}
 use Rattle.dap_model.specs.Fits.{FitsAll, IsMany}
 use Rattle.dap_client.proofs.Rows.{all-rows}
-use Rattle.dap_client.specs.Lines.{AreRows, IsSequence, IsTable, RowsFit}
+use Rattle.dap_client.specs.inner.Lines.{AreRows, IsSequence, IsTable, RowsFit}
 
 one-member : (decls : List Decl) (m : Member) → members_view decls ≡ member m no_members → length decls ≡ 1
 one-member [] m is = cc is

@@ -1,4 +1,3 @@
 pub mod Gathered
-pub mod Lines
-pub mod Showing
 pub mod Shows
+pub mod inner

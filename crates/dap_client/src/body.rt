@@ -1,7 +1,7 @@
 ghost use Rattle.std.specs.Prelude.{◌≡◌, ℕ, List, Some, IfSome};
 ghost use Rattle.std.specs.Io.KnownBytes.{IsAtEnd};
 ghost use Rattle.dap_outside.specs.Causes.{Rose};
-ghost use Rattle.dap_client.specs.Showing.{IsNoReadFault, IsOutcomeOf};
+ghost use Rattle.dap_client.specs.inner.Showing.{IsNoReadFault, IsOutcomeOf};
 ghost use Rattle.dap_client.specs.Shows.{Answers, IfNothingPut, OnComplete, OnReadFault, OnWriteFault, Shows};
 ghost use Rattle.xdr_decode.specs.Verdict.{Verdict, IsVerdict};
 

@@ -1,7 +1,7 @@
 ghost use Rattle.std.specs.Prelude.{◌≡◌, [], ◌∷◌, map};
 ghost use Rattle.std.specs.List.{flat_map};
 ghost use Rattle.dap_outside.specs.Buffered.{Puts};
-ghost use Rattle.dap_client.specs.Lines.{CellsFit, IsOne, IsSequence, IsTable, RowFits, RowsFit, cell_line, cell_path, cells_lines, rows_lines, value_text};
+ghost use Rattle.dap_client.specs.inner.Lines.{CellsFit, IsOne, IsSequence, IsTable, RowFits, RowsFit, cell_line, cell_path, cells_lines, rows_lines, value_text};
 ghost use Rattle.dap_model.specs.Shown.{element_line, elements_all, index_text};
 ghost use Rattle.dap_outside.specs.Causes.{HasCause};
 ghost use Rattle.dap_types.specs.Model.{kids, member, no_members};

@@ -1,8 +1,8 @@
 ghost use Rattle.std.specs.Prelude.{◌≡◌, [], map, OnErr, OnOk};
 ghost use Rattle.std.specs.Io.KnownBytes.{Appends};
 ghost use Rattle.dap_outside.specs.Buffered.{Puts};
-ghost use Rattle.dap_client.specs.Lines.{IsTable};
-ghost use Rattle.dap_client.specs.Showing.{IsShowing};
+ghost use Rattle.dap_client.specs.inner.Lines.{IsTable};
+ghost use Rattle.dap_client.specs.inner.Showing.{IsShowing};
 ghost use Rattle.dap_client.specs.Shows.{OnWriteFault};
 ghost use Rattle.dap_model.specs.Dds.{dds};
 ghost use Rattle.dap_model.specs.Shown.{shown};

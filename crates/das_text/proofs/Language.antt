@@ -8,7 +8,7 @@ use Rattle.std.proofs.lemmas.Bool.Decides.{nat_tests}
 use Rattle.std.proofs.Common.{append_assoc, append-nil}
 use Rattle.dap_types.specs.declared.declarations.BaseType.{BaseType}
 use Rattle.text_tokens.specs.Tokens.{Token, sign, word, is_token}
-use Rattle.text_tokens.specs.Machines.{run, IsMachine}
+use Rattle.text_tokens.specs.inner.Machines.{run, IsMachine}
 use Rattle.das_text.specs.Grammar.{signs, base_of_word, most_depth, IsDas}
 use Rattle.das_text.specs.Machine.{Around, State, start, begun, headed, inside, worded, named, valued, parted, ended, may_begin, attribute_of, with_value, leave, enter, add, step, IsOpenState}
 use Rattle.das_text.specs.Model.{Attributes, Entry, attribute, container, entries_of}

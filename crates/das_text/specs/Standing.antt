@@ -1,6 +1,6 @@
 -- Where a reader of a DAS stands, for the contracts of its parts.
 use Rattle.std.specs.Prelude.{ℕ, List}
-use Rattle.text_tokens.specs.Machines.{StandsAt, StopsBad, StopsOpen}
+use Rattle.text_tokens.specs.inner.Machines.{StandsAt, StopsBad, StopsOpen}
 use Rattle.das_text.specs.Grammar.{signs}
 use Rattle.das_text.specs.Machine.{State, start, step, IsOpenState}
 use Rattle.das_text.specs.declared.state.Stop.{Stop}

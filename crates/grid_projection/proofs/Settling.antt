@@ -21,7 +21,7 @@ use Rattle.constraint_parse.specs.declared.constraint.RawSlab.{RawSlab}
 use Rattle.dap_types.proofs.Preorder.{member_at-get}
 use Rattle.grid_projection.proofs.Within.{at_number}
 use Rattle.grid_projection.specs.Marks.{Row, placed, differ, clash, row_of}
-use Rattle.grid_projection.specs.Settled.{IsSettled, AreSettled}
+use Rattle.grid_projection.specs.inner.Settled.{IsSettled, AreSettled}
 use Rattle.grid_projection.proofs.Fits.{neither}
 
 numbers_itself : (xs : List ℕ) → same_numbers xs xs ≡ true

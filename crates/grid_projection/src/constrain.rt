@@ -3,7 +3,7 @@ ghost use Rattle.dap_model.specs.Filter.{constrained, filtered_all, SuitsAll};
 ghost use Rattle.dap_types.specs.Model.{count, count_all};
 ghost use Rattle.dap_types.specs.View.{dataset_view, member_view, members_view};
 ghost use Rattle.dap_types.specs.WellFormed.{IsWellFormed};
-ghost use Rattle.grid_projection.specs.Left.{left_of, listed};
+ghost use Rattle.grid_projection.specs.inner.Left.{left_of, listed};
 ghost use Rattle.grid_projection.specs.Resolved.{marks_in};
 
 use crate::grids::leave_grid;

@@ -3,7 +3,7 @@ ghost use Rattle.dap_model.specs.Cutting.{counted, indexes};
 ghost use Rattle.dap_model.specs.Filter.{all_pick, marked, picks, stays_grid};
 ghost use Rattle.dap_types.specs.Model.{Member};
 ghost use Rattle.dap_types.specs.View.{member_view};
-ghost use Rattle.grid_projection.specs.Left.{left_of, structure_of};
+ghost use Rattle.grid_projection.specs.inner.Left.{left_of, structure_of};
 ghost use Rattle.grid_projection.specs.Resolved.{marks_in};
 
 use crate::copies::counted;

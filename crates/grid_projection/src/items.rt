@@ -6,7 +6,7 @@ ghost use Rattle.grid_projection.specs.First.{first_there};
 ghost use Rattle.grid_projection.specs.Items.{are_some, item_cause, slab_tests, sliced_inside, sliced_sizes};
 ghost use Rattle.grid_projection.specs.Marks.{item_marks, last_slabs, path_of, row_of};
 ghost use Rattle.dap_types.specs.Preorder.{preorder_all};
-ghost use Rattle.grid_projection.specs.Settled.{AreSettled};
+ghost use Rattle.grid_projection.specs.inner.Settled.{AreSettled};
 ghost use Rattle.grid_projection.specs.Resolved.{AreMembers, Refuses, marks_in, part_view};
 
 use crate::marks::Marks;

@@ -2,7 +2,7 @@ ghost use Rattle.std.specs.Prelude.{◌≡◌, ◌+◌, ◌<◌, ◌^◌, ◌++�
 ghost use Rattle.dap_model.specs.Filter.{marked, unchanged};
 ghost use Rattle.dap_types.specs.Model.{Member};
 ghost use Rattle.dap_types.specs.View.{member_view};
-ghost use Rattle.grid_projection.specs.Left.{left_of};
+ghost use Rattle.grid_projection.specs.inner.Left.{left_of};
 ghost use Rattle.grid_projection.specs.Resolved.{marks_in};
 
 use crate::copies::copied;

@@ -7,7 +7,7 @@ use Rattle.std.proofs.lemmas.List.{drop_at}
 use Rattle.viable.specs.Quoted.{Piece, plain, escaped, is_piece, spelling, IsOpen}
 use Rattle.viable.specs.Runs.{ends_with}
 use Rattle.text_tokens.specs.Languages.{SpellsTo, BadToken, Breaks}
-use Rattle.text_tokens.specs.Machines.{IsMachine, StandsAt}
+use Rattle.text_tokens.specs.inner.Machines.{IsMachine, StandsAt}
 use Rattle.text_tokens.specs.Tokens.{Token, sign, word, quoted, is_white, is_sign, is_word_byte, token_bytes, is_token, is_whole, Next, NoToken, IsPart, Placed, Reads}
 use Rattle.text_tokens.proofs.Machines.{moves, starts, spells_of, bad_of, breaks_of}
 use Rattle.text_tokens.proofs.Spelling.{first_is}

@@ -5,7 +5,7 @@ use Rattle.std.proofs.lemmas.List.{map-append}
 use Rattle.viable.proofs.Tests.{and_parts}
 use Rattle.text_tokens.specs.Tokens.{Token, Placed, Next, Reads}
 use Rattle.text_tokens.specs.Languages.{tokens_of, BeginsOne, Unended, SpellsTo, BadToken, Breaks}
-use Rattle.text_tokens.specs.Machines.{run, IsMachine, StandsAt, StopsBad, StopsOpen}
+use Rattle.text_tokens.specs.inner.Machines.{run, IsMachine, StandsAt, StopsBad, StopsOpen}
 
 pub run_append : {S : Type 0} (step : S → Token → Option S) (s : S) (ts us : List Token) → run step s (ts ++ us) ≡ option_and_then (λ m. run step m us) (run step s ts)
 run_append {S} step s [] us = refl

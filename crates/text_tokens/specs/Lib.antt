@@ -1,4 +1,4 @@
 pub mod Kinds
 pub mod Languages
-pub mod Machines
 pub mod Tokens
+pub mod inner

@@ -6,7 +6,7 @@ use Rattle.std.proofs.Math.Seq.{take-append_seam}
 use Rattle.std.specs.List.{list_all}
 use Rattle.std.proofs.lemmas.List.Folds.{list_all-append}
 use Rattle.viable.specs.Runs.{is_run, ends_with, IsRunOf, IsRunTo}
-use Rattle.viable.specs.Standing.{SameHead}
+use Rattle.viable.specs.inner.Standing.{SameHead}
 use Rattle.viable.proofs.Tests.{and_parts}
 
 pub drop_next : (text : List ℕ) (i : ℕ) → i < length text → drop i text ≡ get_or text i 0 ∷ drop (i + 1) text

@@ -3,7 +3,7 @@ use Rattle.std.proofs.Common.{◌≡◌, ℕ, ◌+◌, ◌<◌, List, [], ◌∷
 use Rattle.std.proofs.Math.Seq.{take-append_seam, take-append-add}
 use Rattle.std.specs.List.{list_all}
 use Rattle.viable.specs.Prefix.{Begins, IsFault}
-use Rattle.viable.specs.Standing.{SameHead, Stands}
+use Rattle.viable.specs.inner.Standing.{SameHead, Stands}
 
 pub same_head_itself : {A : Type 0} (xs : List A) → SameHead xs xs
 same_head_itself [] = tt

@@ -2,4 +2,4 @@ pub mod Numerals
 pub mod Prefix
 pub mod Quoted
 pub mod Runs
-pub mod Standing
+pub mod inner

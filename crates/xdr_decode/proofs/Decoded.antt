@@ -15,7 +15,7 @@ use Rattle.dap_model.specs.Plain.{IsPlainName, ArePlain, plain_dataset, plain_he
 use Rattle.dap_model.specs.Xdr.{mark, row_fields, Spells, SpellsFields}
 use Rattle.xdr_decode.proofs.Only.{all-plain, rows-table}
 use Rattle.xdr_decode.proofs.Wrong.{stops-wrong}
-use Rattle.xdr_decode.specs.Progress.{between, ended, AreAllPlain, Reads, Refuses}
+use Rattle.xdr_decode.specs.inner.Progress.{between, ended, AreAllPlain, Reads, Refuses}
 use Rattle.xdr_decode.specs.Verdict.{HasMore, HasNoPlainHead, HasPlainHead, IsGood, IsRefusal, IsRefusalIn, IsVerdict, IsWrongIn, RanOut, budget, good_of}
 use Rattle.xdr_decode.specs.declared.bad.Bad.TheVariants.{Cut, Trailing, TooLong}
 use Rattle.xdr_decode.specs.declared.filled.AllRefusal.{AllRefusal}

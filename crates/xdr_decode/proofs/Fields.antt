@@ -12,7 +12,7 @@ use Rattle.dap_types.specs.declared.values.Value.TheVariants as values
 use Rattle.dap_model.specs.Fits.{IsOf}
 use Rattle.dap_model.specs.Received.{width}
 use Rattle.dap_model.specs.Xdr.{Field, number, size, text, padding, mark, word, field_bytes, SpellsField}
-use Rattle.xdr_decode.specs.Progress.{State, between, at_cell, in_text, in_padding, ended, before, GoesIn, Goes, Steps, next_width}
+use Rattle.xdr_decode.specs.inner.Progress.{State, between, at_cell, in_text, in_padding, ended, before, GoesIn, Goes, Steps, next_width}
 
 pub length-word : (n : ℕ) → length (word n) ≡ 4
 length-word n = refl

@@ -16,7 +16,7 @@ use Rattle.dap_model.specs.Fits.{IsOf, FitsScalar, FitsRow}
 use Rattle.dap_model.specs.Plain.{IsPlainType}
 use Rattle.dap_model.specs.Xdr.{Field, number, size, text, padding, mark, scalar_fields, cell_fields, row_fields}
 use Rattle.xdr_decode.proofs.Fields.{next-Int32, next-Text, next-mark, next-text, next-padding}
-use Rattle.xdr_decode.specs.Progress.{State, between, at_cell, in_text, in_padding, ended, before, GoesIn, Goes, Steps, AreAllPlain, IsPlainState}
+use Rattle.xdr_decode.specs.inner.Progress.{State, between, at_cell, in_text, in_padding, ended, before, GoesIn, Goes, Steps, AreAllPlain, IsPlainState}
 
 abbrev pub AreCells : List Column → List Tree → Type 0
 AreCells cs cells = AllZip (λ c t. FitsScalar c.base t) cs cells

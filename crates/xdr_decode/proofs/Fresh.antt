@@ -9,7 +9,7 @@ use Rattle.std.specs.List.{AllPass}
 use Rattle.std.specs.Str.{bytes_eq}
 use Rattle.dap_types.specs.declared.declarations.Column.{Column}
 use Rattle.dap_model.specs.Plain.{is_word_byte, IsWordUpTo}
-use Rattle.xdr_decode.specs.Heads.{IsFresh, repeats}
+use Rattle.xdr_decode.specs.inner.Heads.{IsFresh, repeats}
 
 -- n is not in the list
 abbrev IsOut : ℕ → List ℕ → Type 0

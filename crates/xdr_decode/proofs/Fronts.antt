@@ -4,7 +4,7 @@ use Rattle.std.proofs.lemmas.Bool.{false≢true}
 use Rattle.std.proofs.lemmas.List.{take_all, take-append-le}
 use Rattle.std.proofs.lemmas.Slice.Eq.{bytes_eq-Decides}
 use Rattle.std.specs.Str.{bytes_eq}
-use Rattle.xdr_decode.specs.Heads.{StopsIn, IsText}
+use Rattle.xdr_decode.specs.inner.Heads.{StopsIn, IsText}
 use Rattle.xdr_decode.specs.declared.head.HeadStop.TheVariants.{Cut, Differs}
 
 -- of two fronts of one list, one is a front of the other

@@ -14,7 +14,7 @@ use Rattle.dap_model.specs.Plain.{IsPlainName, IsPlainColumn, ArePlain}
 use Rattle.xdr_decode.proofs.Fresh.{or-false}
 use Rattle.xdr_decode.proofs.HeadParts.{first-part, later-part, some-name, a-name, same-type, differ}
 use Rattle.xdr_decode.proofs.Names.{one-name}
-use Rattle.xdr_decode.specs.Heads.{StopsIn, RefusesIn, IsText, IsFresh, repeats, type_text, column_rest, ColumnTexts, last_rest, LastTexts, column_line, last_lines, AreBegun, RestTexts, InnerTexts}
+use Rattle.xdr_decode.specs.inner.Heads.{StopsIn, RefusesIn, IsText, IsFresh, repeats, type_text, column_rest, ColumnTexts, last_rest, LastTexts, column_line, last_lines, AreBegun, RestTexts, InnerTexts}
 use Rattle.xdr_decode.specs.declared.head.HeadStop.{HeadStop}
 use Rattle.xdr_decode.specs.declared.head.HeadStop.TheVariants.{Cut, Differs, Memory}
 

@@ -8,7 +8,7 @@ use Rattle.dap_types.specs.declared.declarations.Column.{Column}
 use Rattle.dap_model.specs.Plain.{is_word_byte, IsWordUpTo, IsPlainName, IsPlainType}
 use Rattle.xdr_decode.proofs.Fresh.{fresh-name}
 use Rattle.xdr_decode.proofs.Names.{one-name}
-use Rattle.xdr_decode.specs.Heads.{StopsIn, IsText, NameTexts, IsFresh, type_text, TypeTexts, ColumnTexts, last_rest, LastTexts}
+use Rattle.xdr_decode.specs.inner.Heads.{StopsIn, IsText, NameTexts, IsFresh, type_text, TypeTexts, ColumnTexts, last_rest, LastTexts}
 use Rattle.xdr_decode.specs.declared.head.HeadStop.{HeadStop}
 use Rattle.xdr_decode.specs.declared.head.HeadStop.TheVariants.{Cut, Differs, Memory}
 

@@ -17,8 +17,8 @@ use Rattle.xdr_decode.proofs.Only.{one-end, steps-spelled, the_members}
 use Rattle.xdr_decode.proofs.SameTrees.{same-trees}
 use Rattle.xdr_decode.proofs.WholeHead.{head-text}
 use Rattle.xdr_decode.proofs.Wrong.{Ends, WhyWrong, wrong-ends, same-why, none-wrong}
-use Rattle.xdr_decode.specs.Heads.{column_line, column_rest, first_lines, last_lines, last_rest, type_text}
-use Rattle.xdr_decode.specs.Progress.{State, between, ended}
+use Rattle.xdr_decode.specs.inner.Heads.{column_line, column_rest, first_lines, last_lines, last_rest, type_text}
+use Rattle.xdr_decode.specs.inner.Progress.{State, between, ended}
 use Rattle.xdr_decode.specs.Verdict.{EndsInPlainHead, Gives, HasNoPlainHead, HasPlainHead, IsGood, IsRefusal, IsRefused, IsTooLong, IsVerdict, IsWrong, IsWrongIn, Verdict, good, wrong, unbuilt, budget, good_of}
 use Rattle.xdr_decode.specs.declared.bad.Bad.{Bad}
 use Rattle.xdr_decode.specs.declared.bad.Bad.TheVariants.{Cut}

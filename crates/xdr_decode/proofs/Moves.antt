@@ -3,7 +3,7 @@ use Rattle.std.proofs.Common.{◌≡◌, ℕ, ◌+◌, ◌-◌, ◌<◌, ◌≤�
 use Rattle.dap_types.specs.declared.declarations.Column.{Column}
 use Rattle.dap_model.specs.Received.{Fault}
 use Rattle.dap_model.specs.Xdr.{Field, SpellsField, SpellsFields}
-use Rattle.xdr_decode.specs.Progress.{State, Goes, Steps, Reads, Stops, StopsAt, Refuses, IsStuck, next_width, next_fault}
+use Rattle.xdr_decode.specs.inner.Progress.{State, Goes, Steps, Reads, Stops, StopsAt, Refuses, IsStuck, next_width, next_fault}
 use Rattle.xdr_decode.specs.Verdict.{kind_of}
 use Rattle.xdr_decode.specs.declared.bad.Bad.{Bad}
 use Rattle.xdr_decode.specs.declared.bad.Bad.TheVariants.{Cut}

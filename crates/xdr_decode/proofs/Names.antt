@@ -7,7 +7,7 @@ use Rattle.dap_types.specs.declared.declarations.Column.{Column}
 use Rattle.dap_model.proofs.Values.{all_first, all_rest}
 use Rattle.dap_model.specs.Plain.{is_word_byte, IsWordUpTo}
 use Rattle.xdr_decode.proofs.Fresh.{fresh-name}
-use Rattle.xdr_decode.specs.Heads.{StopsIn, NameTexts, EndsWord, IsFresh, repeats}
+use Rattle.xdr_decode.specs.inner.Heads.{StopsIn, NameTexts, EndsWord, IsFresh, repeats}
 use Rattle.xdr_decode.specs.declared.head.HeadStop.TheVariants.{Cut, Differs}
 
 abbrev passes : ℕ → Type 0

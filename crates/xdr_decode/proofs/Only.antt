@@ -12,7 +12,7 @@ use Rattle.dap_model.specs.Received.{MayFollow}
 use Rattle.dap_model.specs.Xdr.{Field, mark, cell_fields, row_fields, fields_all, SpellsField, SpellsFields}
 use Rattle.xdr_decode.proofs.Fields.{long, same-field}
 use Rattle.xdr_decode.proofs.Following.{IsRows, IsCells, Follow, follow-more, follow-less, more-all, less-all, plain-next, plain-steps, live}
-use Rattle.xdr_decode.specs.Progress.{State, between, at_cell, in_text, in_padding, ended, Goes, Steps, AreAllPlain, next_width, IsStuck}
+use Rattle.xdr_decode.specs.inner.Progress.{State, between, at_cell, in_text, in_padding, ended, Goes, Steps, AreAllPlain, next_width, IsStuck}
 use Rattle.xdr_decode.specs.declared.bad.Bad.{Bad}
 
 pub same-front : (a b x y : List ℕ) → length a ≡ length b → a ++ x ≡ b ++ y → (a ≡ b) × (x ≡ y)

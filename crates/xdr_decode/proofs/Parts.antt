@@ -12,7 +12,7 @@ use Rattle.dap_model.specs.Received.{wrong_mark, bad_count, bad_padding}
 use Rattle.dap_model.specs.Xdr.{Field, mark, number, size, text, padding, word, zeros, string_fields, field_bytes, SpellsField}
 use Rattle.xdr_decode.proofs.Fields.{next-mark, next-Text, next-padding, word-same}
 use Rattle.xdr_decode.proofs.Moves.{stops-cut, stops-bad, reads-one, reads-then}
-use Rattle.xdr_decode.specs.Progress.{State, between, at_cell, in_text, in_padding, ended, before, GoesIn, Reads, StopsAt, next_fault}
+use Rattle.xdr_decode.specs.inner.Progress.{State, between, at_cell, in_text, in_padding, ended, before, GoesIn, Reads, StopsAt, next_fault}
 use Rattle.xdr_decode.specs.declared.bad.Bad.TheVariants.{Cut, WrongMark, BadCount, BadPadding}
 use Rattle.xdr_decode.specs.declared.filled.AllRefusal.TheVariants.{Refused}
 

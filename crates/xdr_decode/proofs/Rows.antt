@@ -16,7 +16,7 @@ use Rattle.dap_model.specs.Plain.{IsPlainType}
 use Rattle.dap_model.specs.Xdr.{Field, scalar_fields, cell_fields, row_fields, value_fields, mark}
 use Rattle.xdr_decode.proofs.Following.{AreCells}
 use Rattle.xdr_decode.proofs.Moves.{reads-then, refuses-behind}
-use Rattle.xdr_decode.specs.Progress.{State, before, between, ended, at_cell, AreAllPlain, Reads, Refuses}
+use Rattle.xdr_decode.specs.inner.Progress.{State, before, between, ended, at_cell, AreAllPlain, Reads, Refuses}
 use Rattle.xdr_decode.specs.declared.filled.AllRefusal.{AllRefusal}
 
 cells-push : (cs : List Column) (ts : List Tree) (c : Column) (t : Tree) → AreCells cs ts → FitsScalar c.base t → AreCells (cs ++ c ∷ []) (ts ++ t ∷ [])

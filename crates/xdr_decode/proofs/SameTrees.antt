@@ -12,7 +12,7 @@ use Rattle.dap_model.specs.Plain.{IsPlainType}
 use Rattle.dap_model.specs.Xdr.{Field, mark, scalar_fields, cell_fields, row_fields, fields_all}
 use Rattle.xdr_decode.proofs.Following.{AreCells}
 use Rattle.xdr_decode.proofs.Only.{the_members}
-use Rattle.xdr_decode.specs.Progress.{AreAllPlain}
+use Rattle.xdr_decode.specs.inner.Progress.{AreAllPlain}
 
 same-cell : (base : BaseType) (t u : Tree) (fs gs : List Field) → IsPlainType base → FitsScalar base t → FitsScalar base u
     → scalar_fields base t ++ fs ≡ scalar_fields base u ++ gs → (t ≡ u) × (fs ≡ gs)

@@ -6,7 +6,7 @@ use Rattle.dap_model.specs.Dds.{line, column_text, closing, dds}
 use Rattle.dap_model.specs.Plain.{IsPlainHead, plain_head}
 use Rattle.xdr_decode.proofs.HeadLines.{some-rest, begun-none, refuses-of}
 use Rattle.xdr_decode.proofs.HeadParts.{first-part, later-part}
-use Rattle.xdr_decode.specs.Heads.{StopsIn, RefusesIn, IsText, column_line, first_lines, last_lines, last_rest, RestTexts, type_text}
+use Rattle.xdr_decode.specs.inner.Heads.{StopsIn, RefusesIn, IsText, column_line, first_lines, last_lines, last_rest, RestTexts, type_text}
 use Rattle.xdr_decode.specs.declared.head.HeadStop.{HeadStop}
 use Rattle.xdr_decode.specs.declared.head.HeadStop.TheVariants.{Cut, Differs, Memory}
 

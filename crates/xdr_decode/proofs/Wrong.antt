@@ -14,7 +14,7 @@ use Rattle.dap_model.specs.Xdr.{Field, number, size, text, padding, mark, fields
 use Rattle.xdr_decode.proofs.Fields.{width-next, long, steps-same}
 use Rattle.xdr_decode.proofs.Following.{plain-steps}
 use Rattle.xdr_decode.proofs.Only.{Halts, same-front, the_members, steps-spelled, steps-may_follow, may_follow-steps}
-use Rattle.xdr_decode.specs.Progress.{State, between, at_cell, in_text, in_padding, ended, before, GoesIn, Goes, Steps, AreAllPlain, IsPlainState, next_width, next_fault, cell_fault, IsStuck, Stops}
+use Rattle.xdr_decode.specs.inner.Progress.{State, between, at_cell, in_text, in_padding, ended, before, GoesIn, Goes, Steps, AreAllPlain, IsPlainState, next_width, next_fault, cell_fault, IsStuck, Stops}
 use Rattle.xdr_decode.specs.Verdict.{IsWrong, kind_of}
 use Rattle.xdr_decode.specs.declared.bad.Bad.{Bad}
 use Rattle.xdr_decode.specs.declared.bad.Bad.TheVariants.{Cut, Trailing}

@@ -1,4 +1,3 @@
 pub mod Bads
-pub mod Heads
-pub mod Progress
 pub mod Verdict
+pub mod inner

@@ -2,7 +2,7 @@ ghost use Rattle.std.specs.Prelude.{◌≡◌, ◌<◌, ◌≤◌, List as Items
 ghost use Rattle.std.specs.List.{AllPass, flat_map};
 ghost use Rattle.dap_types.specs.declared.declarations.Column.{Column as ColumnValue};
 ghost use Rattle.dap_model.specs.Plain.{ArePlain, IsPlainHead, IsPlainName, IsPlainType, IsWordUpTo, is_word_byte, plain_head};
-ghost use Rattle.xdr_decode.specs.Heads.{AreBegun, ColumnTexts, EndsWord, InnerTexts, IsFresh, IsText, LastTexts, NameTexts, RefusesIn, RestTexts, StopsIn, TypeTexts, column_line, column_rest, last_rest, repeats, type_text};
+ghost use Rattle.xdr_decode.specs.inner.Heads.{AreBegun, ColumnTexts, EndsWord, InnerTexts, IsFresh, IsText, LastTexts, NameTexts, RefusesIn, RestTexts, StopsIn, TypeTexts, column_line, column_rest, last_rest, repeats, type_text};
 ghost use Rattle.xdr_decode.specs.declared.head.HeadStop.{HeadStop as HeadStopValue};
 ghost use Rattle.xdr_decode.specs.declared.head.HeadStop.TheVariants.{Memory};
 

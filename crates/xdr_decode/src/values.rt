@@ -10,7 +10,7 @@ ghost use Rattle.dap_model.specs.Plain.{IsPlainType};
 ghost use Rattle.dap_model.specs.Xdr.{cell_fields, mark, number, padding, row_fields, size, string_fields, text, value_fields, word, zeros};
 ghost use Rattle.xdr_decode.specs.declared.bad.Bad.TheVariants.{Cut};
 ghost use Rattle.xdr_decode.specs.declared.filled.AllRefusal.TheVariants.{Refused};
-ghost use Rattle.xdr_decode.specs.Progress.{AreAllPlain, Reads, Refuses, StopsAt, at_cell, before, between, ended, in_padding, in_text};
+ghost use Rattle.xdr_decode.specs.inner.Progress.{AreAllPlain, Reads, Refuses, StopsAt, at_cell, before, between, ended, in_padding, in_text};
 
 use crate::{AllRefusal, Bad, BadField};
 use dap_types::{BaseType, Bytes, Column, List, Tree, Value};

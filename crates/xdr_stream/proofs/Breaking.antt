@@ -12,13 +12,13 @@ use Rattle.dap_model.specs.Xdr as xdr
 use Rattle.dap_model.specs.Xdr.{Field, text, field_bytes, SpellsField, SpellsFields}
 use Rattle.xdr_fields.proofs.Fronts.{IsPart, shows}
 use Rattle.xdr_fields.proofs.Judged.{ended_at, is_bad, judge, no_steps, one_step, steps_join}
-use Rattle.xdr_fields.specs.Reached.{Leads, IsEnded, IsCut, IsSpoilt}
+use Rattle.xdr_fields.specs.inner.Reached.{Leads, IsEnded, IsCut, IsSpoilt}
 use Rattle.xdr_fields.specs.Wants.{Want, a_count, a_value, a_byte, a_filler, a_text, a_padding, rows, Goes, Steps, becomes, fault_in, room, said, says, says_next, says_part, wants_of}
 use Rattle.xdr_stream.proofs.Moving.{same_first, same_rest}
 use Rattle.xdr_stream.proofs.Turning.{faulty_wide}
 use Rattle.xdr_decode.specs.Verdict.{kind_of}
 use Rattle.xdr_stream.specs.Shown.{HasGood, ShowsSome}
-use Rattle.xdr_stream.specs.Turning.{IsBroken, IsLoose, Spelled}
+use Rattle.xdr_stream.specs.inner.Turning.{IsBroken, IsLoose, Spelled}
 
 -- fields one after the other
 said_join : (ws : List Want) (fs gs : List Field) (us : List Want) → Steps ws fs us → said ws (fs ++ gs) ≡ said ws fs ++ said us gs

@@ -17,9 +17,9 @@ use Rattle.xdr_stream.proofs.Asking.{next_none, next_some}
 use Rattle.xdr_stream.proofs.Moving.{Some_left, element_want, elements_more, same_first, some_left}
 use Rattle.xdr_stream.proofs.Spots.{scalar_alone, array_alone, sequence_alone}
 use Rattle.xdr_stream.proofs.Turning.{later, no_string, padding_first}
-use Rattle.xdr_stream.specs.Asked.{Asks, Is, IsElement}
-use Rattle.xdr_stream.specs.Lines.{array_text, cell_text, column_text, path_text, stage_text, text_first, text_in, token_text}
-use Rattle.xdr_stream.specs.Places.{IsPlaced, IsStage, Spot, alone, elements_wants, followed, members_from, of_grid, spot, spot_at, spot_first, spot_of, stage_wants, wants_left}
+use Rattle.xdr_stream.specs.inner.Asked.{Asks, Is, IsElement}
+use Rattle.xdr_stream.specs.inner.Lines.{array_text, cell_text, column_text, path_text, stage_text, text_first, text_in, token_text}
+use Rattle.xdr_stream.specs.inner.Places.{IsPlaced, IsStage, Spot, alone, elements_wants, followed, members_from, of_grid, spot, spot_at, spot_first, spot_of, stage_wants, wants_left}
 use Rattle.xdr_stream.specs.declared.field.Ask.{Ask}
 use Rattle.xdr_stream.specs.declared.field.Ask.TheVariants as ask
 use Rattle.xdr_stream.specs.declared.field.Token.{Token}

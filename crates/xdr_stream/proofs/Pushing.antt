@@ -14,7 +14,7 @@ use Rattle.xdr_decode.specs.Verdict.{kind_of}
 use Rattle.xdr_decode.specs.declared.bad.BadField.{BadField}
 use Rattle.xdr_stream.proofs.Standing.{ends, opens, puts, stopped, stopped_bad}
 use Rattle.xdr_stream.specs.After.{EndsBehind, HasFailed, IsFirstBad, IsStopped, Reads, Stands, StandsAfter, UnlessFault, WhereDone, WhereFault, WhereMore, WhereRefused, dataset_of, start_of, used_of}
-use Rattle.xdr_stream.specs.Places.{wants_left}
+use Rattle.xdr_stream.specs.inner.Places.{wants_left}
 use Rattle.std.proofs.Common.{Result, Ok, Err}
 use Rattle.std.proofs.Math.Seq.{take-length}
 use Rattle.dap_outside.specs.Streams.{AppendsFront}
@@ -22,11 +22,11 @@ use Rattle.dap_outside.specs.declared.failed.Failed.{Failed}
 use Rattle.xdr_stream.proofs.Breaking.{prefix_trans, some_shown}
 use Rattle.xdr_stream.proofs.Passing.{passed_and_sent, passed_and_stopped, stopped_before}
 use Rattle.xdr_stream.proofs.Turning.{own_loose, reads_stays, stays_ended}
-use Rattle.xdr_stream.specs.Buffered.{Passes, PassesFront}
+use Rattle.xdr_stream.specs.inner.Buffered.{Passes, PassesFront}
 use Rattle.dap_model.specs.Received.{IsPrefix}
 use Rattle.xdr_stream.specs.After.{place_of}
-use Rattle.xdr_stream.specs.Pushing.{IsAnswer, IsPushed, IsSaid, state_behind}
-use Rattle.xdr_stream.specs.Turning.{IsBroken, IsGoneThrough, IsLoose, IsRead, Spelled, Stays}
+use Rattle.xdr_stream.specs.inner.Pushing.{IsAnswer, IsPushed, IsSaid, state_behind}
+use Rattle.xdr_stream.specs.inner.Turning.{IsBroken, IsGoneThrough, IsLoose, IsRead, Spelled, Stays}
 use Rattle.xdr_stream.specs.Shown.{ShowsFront, ShowsSome}
 use Rattle.xdr_stream.specs.declared.decoder.Decoder.{Decoder}
 use Rattle.xdr_stream.specs.declared.decoder.Pushed.{Pushed}

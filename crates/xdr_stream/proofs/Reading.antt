@@ -6,9 +6,9 @@ use Rattle.dap_types.specs.Model.{Dataset}
 use Rattle.dap_outside.specs.declared.failed.Failed.{Failed}
 use Rattle.xdr_stream.proofs.Passing.{passes_kept, passes_two, front_second}
 use Rattle.xdr_stream.specs.After.{IsStopped, Reads, dataset_of, place_of, start_of}
-use Rattle.xdr_stream.specs.Buffered.{Passes, PassesFront, Puts}
-use Rattle.xdr_stream.specs.Places.{wants_left}
-use Rattle.xdr_stream.specs.Turning.{Falls, IsBroken, IsGoneThrough, IsLeft, IsRead, IsSome, Spelled, Stays, Turns, weight}
+use Rattle.xdr_stream.specs.inner.Buffered.{Passes, PassesFront, Puts}
+use Rattle.xdr_stream.specs.inner.Places.{wants_left}
+use Rattle.xdr_stream.specs.inner.Turning.{Falls, IsBroken, IsGoneThrough, IsLeft, IsRead, IsSome, Spelled, Stays, Turns, weight}
 use Rattle.xdr_stream.specs.declared.decoder.Decoder.{Decoder}
 use Rattle.xdr_stream.specs.declared.decoder.Pushed.{Pushed}
 use Rattle.xdr_stream.specs.declared.decoder.Pushed.TheVariants as pushed

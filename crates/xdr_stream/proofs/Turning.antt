@@ -6,7 +6,7 @@ use Rattle.std.specs.Bool.{⊤}
 use Rattle.std.specs.Prelude.{IsErr}
 use Rattle.dap_outside.specs.declared.failed.Failed.{Failed}
 use Rattle.xdr_decode.specs.declared.bad.BadField.{BadField}
-use Rattle.xdr_stream.specs.Buffered.{PassesFront}
+use Rattle.xdr_stream.specs.inner.Buffered.{PassesFront}
 use Rattle.xdr_stream.specs.declared.turn.Turn.{Turn}
 use Rattle.std.specs.Option.{option_map_or}
 use Rattle.std.proofs.lemmas.Grind.{flat_map-append}
@@ -23,17 +23,17 @@ use Rattle.xdr_decode.specs.Verdict.{kind_of}
 use Rattle.xdr_decode.specs.declared.bad.Bad.{Bad}
 use Rattle.xdr_fields.proofs.Fronts.{shows}
 use Rattle.xdr_fields.proofs.Judged.{is_bad, no_steps, one_step, steps_join}
-use Rattle.xdr_fields.specs.Reached.{Leads, IsSpoilt}
+use Rattle.xdr_fields.specs.inner.Reached.{Leads, IsSpoilt}
 use Rattle.xdr_fields.specs.Wants.{Want, a_count, a_value, a_byte, a_filler, a_text, a_padding, rows, Goes, Steps, becomes, fault_in, room, said, says, says_next, says_part, wants_of}
 use Rattle.xdr_stream.proofs.Asking.{value_wide}
 use Rattle.xdr_stream.proofs.Beginning.{next_none}
 use Rattle.xdr_stream.proofs.Roomy.{roomy}
 use Rattle.xdr_stream.specs.After.{IsStopped, Reads, dataset_of, place_of, start_of}
-use Rattle.xdr_stream.specs.Asked.{Asks, Is, IsFaulty, width_of}
-use Rattle.xdr_stream.specs.Moving.{mark_bytes}
-use Rattle.xdr_stream.specs.Places.{AsksFirst, HaveMarks, HaveRoom, IsCutText, IsEarly, IsOwn, IsPlaced, IsStageAt, spot, spot_at, stage_wants, text_behind, text_wants, wants_left}
+use Rattle.xdr_stream.specs.inner.Asked.{Asks, Is, IsFaulty, width_of}
+use Rattle.xdr_stream.specs.inner.Moving.{mark_bytes}
+use Rattle.xdr_stream.specs.inner.Places.{AsksFirst, HaveMarks, HaveRoom, IsCutText, IsEarly, IsOwn, IsPlaced, IsStageAt, spot, spot_at, stage_wants, text_behind, text_wants, wants_left}
 use Rattle.xdr_stream.specs.Shown.{ShowsFront, HasGood}
-use Rattle.xdr_stream.specs.Turning.{IsBroken, IsFresh, IsHeld, IsLoose, IsSome, Spelled, Stays, Turns, first_room}
+use Rattle.xdr_stream.specs.inner.Turning.{IsBroken, IsFresh, IsHeld, IsLoose, IsSome, Spelled, Stays, Turns, first_room}
 use Rattle.xdr_stream.specs.declared.decoder.Decoder.{Decoder}
 use Rattle.xdr_stream.specs.declared.field.Ask.{Ask}
 use Rattle.xdr_stream.specs.declared.field.Ask.TheVariants as ask

@@ -7,10 +7,10 @@ ghost use Rattle.dap_outside.specs.Causes.{HasCause};
 ghost use Rattle.dap_types.specs.View.{members_view};
 ghost use Rattle.xdr_fields.specs.Wants.{Goes, Want, says};
 ghost use Rattle.xdr_stream.specs.After.{dataset_of, place_of, start_of};
-ghost use Rattle.xdr_stream.specs.Asked.{Asks, Is, IsElement, width_of};
-ghost use Rattle.xdr_stream.specs.Buffered.{Puts};
-ghost use Rattle.xdr_stream.specs.Places.{IsPlaced, text_behind, wants_left};
-ghost use Rattle.xdr_stream.specs.Turning.{Falls, MayBeEmpty, Stays, Turns, rank, weight};
+ghost use Rattle.xdr_stream.specs.inner.Asked.{Asks, Is, IsElement, width_of};
+ghost use Rattle.xdr_stream.specs.inner.Buffered.{Puts};
+ghost use Rattle.xdr_stream.specs.inner.Places.{IsPlaced, text_behind, wants_left};
+ghost use Rattle.xdr_stream.specs.inner.Turning.{Falls, MayBeEmpty, Stays, Turns, rank, weight};
 
 use crate::buffer::Buffer;
 use crate::decoder::Decoder;

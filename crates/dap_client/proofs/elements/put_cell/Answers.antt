@@ -1,7 +1,7 @@
 use Rattle.dap_outside.proofs.Passing.{front_first, front_second, passes_two, puts_failed, puts_two}
 use Rattle.std.proofs.Common.{◌++◌, codes}
 use Rattle.dap_types.specs.View.{tree_view}
-use Rattle.dap_client.specs.Lines.{cell_path, value_text}
+use Rattle.dap_client.specs.inner.Lines.{cell_path, value_text}
 use Rattle.dap_client.proofs.elements.put_cell.Goals as goal
 
 pub returns-in_err-put_path-clause-puts : goal.returns-in_err-put_path-clause-puts

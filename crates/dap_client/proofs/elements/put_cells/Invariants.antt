@@ -1,6 +1,6 @@
 use Rattle.std.proofs.Common.{◌≡◌, ◌≤◌, drop, map}
 use Rattle.dap_types.specs.View.{tree_view}
-use Rattle.dap_client.specs.Lines.{cells_lines}
+use Rattle.dap_client.specs.inner.Lines.{cells_lines}
 use Rattle.dap_outside.proofs.Passing.{IsOnItsWay}
 use Rattle.dap_client.proofs.elements.put_cells.Given as goal
 

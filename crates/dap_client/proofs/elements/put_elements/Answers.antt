@@ -2,7 +2,7 @@ use Rattle.std.proofs.Common.{arith, [], ◌∷◌, ◌∙◌, ap, map, subst, s
 use Rattle.std.specs.List.{flat_map}
 use Rattle.dap_types.specs.View.{members_view, tree_view}
 use Rattle.dap_model.specs.Shown.{element_line, elements_all}
-use Rattle.dap_client.specs.Lines.{IsTable}
+use Rattle.dap_client.specs.inner.Lines.{IsTable}
 use Rattle.dap_outside.proofs.Passing.{puts_as}
 use Rattle.dap_client.proofs.Tables.{decls-are, one-decl, one-tree, trees-are}
 use Rattle.dap_client.proofs.elements.put_elements.Goals as goal

@@ -1,6 +1,6 @@
 use Rattle.std.proofs.Common.{ap, map, sym, ◌∙◌}
 use Rattle.dap_types.specs.View.{tree_view}
-use Rattle.dap_client.specs.Lines.{cells_lines}
+use Rattle.dap_client.specs.inner.Lines.{cells_lines}
 use Rattle.dap_outside.proofs.Passing.{puts_as}
 use Rattle.dap_client.proofs.Rows.{row-cells, row-kids, row-not-one}
 use Rattle.dap_client.proofs.elements.put_row.Goals as goal

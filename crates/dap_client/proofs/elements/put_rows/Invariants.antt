@@ -1,6 +1,6 @@
 use Rattle.std.proofs.Common.{◌≡◌, ◌≤◌, drop, map}
 use Rattle.dap_types.specs.View.{tree_view}
-use Rattle.dap_client.specs.Lines.{rows_lines}
+use Rattle.dap_client.specs.inner.Lines.{rows_lines}
 use Rattle.dap_outside.proofs.Passing.{IsOnItsWay}
 use Rattle.dap_client.proofs.elements.put_rows.Given as goal
 

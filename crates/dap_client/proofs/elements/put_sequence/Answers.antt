@@ -1,6 +1,6 @@
 use Rattle.std.proofs.Common.{ap, map, sym, ◌∙◌}
 use Rattle.dap_types.specs.View.{tree_view}
-use Rattle.dap_client.specs.Lines.{rows_lines}
+use Rattle.dap_client.specs.inner.Lines.{rows_lines}
 use Rattle.dap_outside.proofs.Passing.{puts_as}
 use Rattle.dap_client.proofs.Rows.{row-kids}
 use Rattle.dap_client.proofs.Tables.{sequence-not-one, sequence-rows}

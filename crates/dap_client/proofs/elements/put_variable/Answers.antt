@@ -4,7 +4,7 @@ use Rattle.dap_types.proofs.Views.{view-Array, view-Base, view-Grid, view-Sequen
 use Rattle.dap_types.specs.Model.{kids, member, no_members}
 use Rattle.dap_types.specs.View.{member_view, tree_view}
 use Rattle.dap_model.specs.Shown.{element_line, elements_all}
-use Rattle.dap_client.specs.Lines.{rows_lines}
+use Rattle.dap_client.specs.inner.Lines.{rows_lines}
 use Rattle.dap_outside.proofs.Passing.{puts_as}
 use Rattle.dap_client.proofs.Rows.{table-lines}
 use Rattle.dap_client.proofs.Tables.{sequence-of, the-sequence}

@@ -1,7 +1,7 @@
 use Rattle.std.proofs.Common.{◌≡◌, [], ◌∷◌, true, false, cond, sym, ◌∙◌, ap, append-nil}
 use Rattle.dap_types.proofs.Views.{view-Sequence}
 use Rattle.dap_types.specs.Model.{sequence}
-use Rattle.grid_projection.specs.Left.{are_left}
+use Rattle.grid_projection.specs.inner.Left.{are_left}
 use Rattle.grid_projection.specs.Resolved.{marks_in}
 use Rattle.grid_projection.proofs.Leaving.{pushed, left_sequence, are_left_some, are_left_none}
 use Rattle.grid_projection.proofs.sequences.leave_sequence.Goals as goal

@@ -1,5 +1,5 @@
 use Rattle.std.proofs.Common.{subst, sym}
-use Rattle.xdr_decode.specs.Progress.{AreAllPlain}
+use Rattle.xdr_decode.specs.inner.Progress.{AreAllPlain}
 use Rattle.xdr_decode.proofs.Decoded.{front-good, front-refused, front-trailing, plain-all}
 use Rattle.xdr_decode.proofs.decode.decode_front.Goals as goal
 

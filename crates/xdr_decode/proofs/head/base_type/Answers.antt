@@ -1,6 +1,6 @@
 use Rattle.std.proofs.Common.{rules, subst, codes}
 use Rattle.xdr_decode.proofs.HeadParts.{type-cut, type-stop}
-use Rattle.xdr_decode.specs.Heads.{StopsIn, IsText, TypeTexts}
+use Rattle.xdr_decode.specs.inner.Heads.{StopsIn, IsText, TypeTexts}
 use Rattle.xdr_decode.proofs.head.base_type.Goals as goal
 
 pub returns-in_err-rest-in-Differs-clause-stop : goal.returns-in_err-rest-in-Differs-clause-stop

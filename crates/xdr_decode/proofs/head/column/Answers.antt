@@ -1,6 +1,6 @@
 use Rattle.std.proofs.Common.{rules}
 use Rattle.xdr_decode.proofs.HeadParts.{column-indent, column-type, column-name, column-end}
-use Rattle.xdr_decode.specs.Heads.{StopsIn, ColumnTexts}
+use Rattle.xdr_decode.specs.inner.Heads.{StopsIn, ColumnTexts}
 use Rattle.xdr_decode.proofs.head.column.Goals as goal
 
 pub returns-in_err-rest-clause-stop : goal.returns-in_err-rest-clause-stop

@@ -1,6 +1,6 @@
 use Rattle.std.proofs.Common.{◌++◌, codes, rules}
 use Rattle.xdr_decode.proofs.HeadParts.{first-text, later-text, last-brace, last-name, last-behind, last-whole}
-use Rattle.xdr_decode.specs.Heads.{StopsIn, LastTexts}
+use Rattle.xdr_decode.specs.inner.Heads.{StopsIn, LastTexts}
 use Rattle.xdr_decode.proofs.head.last_lines.Goals as goal
 
 pub returns-in_err-rest-clause-stop : goal.returns-in_err-rest-clause-stop

@@ -2,7 +2,7 @@ use Rattle.std.proofs.Common.{ℕ, List, ◌≡◌, ◌<◌, ◌≤◌, ◌++◌
 use Rattle.dap_types.specs.declared.declarations.Column.{Column}
 use Rattle.xdr_decode.proofs.HeadLines.{LinesRead, begun-none, column-stop, indent-stop, last-stop, lines-behind, lines-inside, lines-none, lines-step, refuses-of}
 use Rattle.xdr_decode.proofs.Names.{begins-with}
-use Rattle.xdr_decode.specs.Heads.{ColumnTexts, IsFresh, RefusesIn, RestTexts, StopsIn}
+use Rattle.xdr_decode.specs.inner.Heads.{ColumnTexts, IsFresh, RefusesIn, RestTexts, StopsIn}
 use Rattle.xdr_decode.proofs.head.read_columns.Goals as goal
 
 pub returns-in_err-inner-clause-stop : goal.returns-in_err-inner-clause-stop

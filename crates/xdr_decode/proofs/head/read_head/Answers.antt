@@ -1,7 +1,7 @@
 use Rattle.std.proofs.Common.{rules}
 use Rattle.dap_model.specs.Plain.{IsPlainHead}
 use Rattle.xdr_decode.proofs.WholeHead.{head-first, head-last, head-later, head-placed}
-use Rattle.xdr_decode.specs.Heads.{RefusesIn}
+use Rattle.xdr_decode.specs.inner.Heads.{RefusesIn}
 use Rattle.xdr_decode.proofs.head.read_head.Goals as goal
 
 pub returns-in_err-rest-clause-stop : goal.returns-in_err-rest-clause-stop

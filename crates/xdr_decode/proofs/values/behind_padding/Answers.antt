@@ -1,7 +1,7 @@
 use Rattle.std.proofs.Common.{◌≡◌, ◌≤◌, ◌+◌, ◌-◌, ◌%◌, ◌++◌, List, ℕ, length, drop, take, replicate, ap, ◌∙◌, subst, sym, arith, length-drop}
 use Rattle.xdr_decode.proofs.Moves.{stops-cut, slice-split, length-slice}
 use Rattle.xdr_decode.proofs.Parts.{padding-read, padding-bad}
-use Rattle.xdr_decode.specs.Progress.{StopsAt, in_padding}
+use Rattle.xdr_decode.specs.inner.Progress.{StopsAt, in_padding}
 use Rattle.xdr_decode.proofs.values.behind_padding.Goals as goal
 
 pub returns-then-values-at-clause-refused : goal.returns-then-values-at-clause-refused

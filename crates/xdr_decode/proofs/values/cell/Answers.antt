@@ -1,6 +1,6 @@
 use Rattle.std.proofs.Common.{rules, ◌∙◌}
 use Rattle.xdr_decode.proofs.Moves.{refuses-stop}
-use Rattle.xdr_decode.specs.Progress.{Refuses, at_cell}
+use Rattle.xdr_decode.specs.inner.Progress.{Refuses, at_cell}
 use Rattle.xdr_decode.proofs.Parts.{plain-whole}
 use Rattle.xdr_decode.proofs.values.cell.Goals as goal
 

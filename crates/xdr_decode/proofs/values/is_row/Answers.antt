@@ -1,7 +1,7 @@
 use Rattle.std.proofs.Common.{subst, sym, arith}
 use Rattle.xdr_decode.proofs.Moves.{stops-cut}
 use Rattle.xdr_decode.proofs.Parts.{row-mark, last-mark, other-mark}
-use Rattle.xdr_decode.specs.Progress.{StopsAt, between}
+use Rattle.xdr_decode.specs.inner.Progress.{StopsAt, between}
 use Rattle.xdr_decode.proofs.values.is_row.Goals as goal
 
 pub returns-in-None-clause-refused : goal.returns-in-None-clause-refused

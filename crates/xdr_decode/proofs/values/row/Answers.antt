@@ -1,6 +1,6 @@
 use Rattle.std.proofs.Common.{◌+◌, drop, refl, rules, subst, sym}
 use Rattle.xdr_decode.proofs.Rows.{CellsRead, cells-step, cells-stop, plain-here, row-fit, row-read}
-use Rattle.xdr_decode.specs.Progress.{Refuses, before}
+use Rattle.xdr_decode.specs.inner.Progress.{Refuses, before}
 use Rattle.xdr_decode.proofs.values.row.Goals as goal
 
 pub cell-requires-clause-plain : goal.cell-requires-clause-plain

@@ -1,7 +1,7 @@
 use Rattle.std.proofs.Common.{◌+◌, arith, rules, subst, sym}
 use Rattle.xdr_decode.proofs.Moves.{refuses-stop, refuses-behind}
 use Rattle.xdr_decode.proofs.Rows.{RowsRead, reads-onward, rows-end, rows-step, rows-stop}
-use Rattle.xdr_decode.specs.Progress.{Refuses, before, between}
+use Rattle.xdr_decode.specs.inner.Progress.{Refuses, before, between}
 use Rattle.xdr_decode.proofs.values.rows.Goals as goal
 
 pub returns-in_err-is_row-clause-refused : goal.returns-in_err-is_row-clause-refused

@@ -1,6 +1,6 @@
 use Rattle.std.proofs.Common.{subst, sym, arith}
 use Rattle.xdr_decode.proofs.Parts.{size-read, size-bad, size-cut}
-use Rattle.xdr_decode.specs.Progress.{StopsAt, at_cell}
+use Rattle.xdr_decode.specs.inner.Progress.{StopsAt, at_cell}
 use Rattle.xdr_decode.proofs.values.size_at.Goals as goal
 
 pub returns-in-None-clause-refused : goal.returns-in-None-clause-refused

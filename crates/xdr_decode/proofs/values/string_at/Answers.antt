@@ -1,7 +1,7 @@
 use Rattle.std.proofs.Common.{◌+◌, rules}
 use Rattle.xdr_decode.proofs.Moves.{stops-behind, reads-then}
 use Rattle.xdr_decode.proofs.Parts.{string-read}
-use Rattle.xdr_decode.specs.Progress.{StopsAt, at_cell, in_text, in_padding}
+use Rattle.xdr_decode.specs.inner.Progress.{StopsAt, at_cell, in_text, in_padding}
 use Rattle.xdr_decode.proofs.values.string_at.Goals as goal
 
 pub returns-in_err-size-clause-refused : goal.returns-in_err-size-clause-refused

@@ -2,7 +2,7 @@ use Rattle.std.proofs.Common.{◌≡◌, ◌≤◌, ◌+◌, ◌-◌, List, ℕ,
 use Rattle.dap_model.specs.Xdr.{text}
 use Rattle.xdr_decode.proofs.Moves.{stops-cut, slice-split, length-slice}
 use Rattle.xdr_decode.proofs.Parts.{text-read}
-use Rattle.xdr_decode.specs.Progress.{StopsAt, Reads, in_text, in_padding}
+use Rattle.xdr_decode.specs.inner.Progress.{StopsAt, Reads, in_text, in_padding}
 use Rattle.xdr_decode.proofs.values.text_at.Goals as goal
 
 pub returns-then-values-at-clause-refused : goal.returns-then-values-at-clause-refused

@@ -5,7 +5,7 @@ use Rattle.dap_model.specs.Xdr.{number}
 use Rattle.dap_types.specs.declared.declarations.BaseType.TheVariants.{Int32}
 use Rattle.xdr_decode.proofs.Moves.{stops-cut}
 use Rattle.xdr_decode.proofs.Parts.{whole-read}
-use Rattle.xdr_decode.specs.Progress.{StopsAt, Reads, at_cell, before}
+use Rattle.xdr_decode.specs.inner.Progress.{StopsAt, Reads, at_cell, before}
 use Rattle.xdr_decode.proofs.values.whole_at.Goals as goal
 
 pub returns-in-None-clause-refused : goal.returns-in-None-clause-refused

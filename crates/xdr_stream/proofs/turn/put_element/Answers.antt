@@ -2,7 +2,7 @@ use Rattle.std.proofs.Common.{◌++◌, refl, sym, subst}
 use Rattle.dap_types.specs.View.{members_view}
 use Rattle.xdr_stream.proofs.Passing.{front_as, front_first, puts_as, puts_failed, puts_two}
 use Rattle.xdr_stream.proofs.Paths.{says_all}
-use Rattle.xdr_stream.specs.Lines.{path_text, token_text}
+use Rattle.xdr_stream.specs.inner.Lines.{path_text, token_text}
 use Rattle.xdr_fields.specs.Wants.{says}
 use Rattle.xdr_stream.proofs.turn.put_element.Goals as goal
 

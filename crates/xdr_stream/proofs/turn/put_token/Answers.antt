@@ -2,7 +2,7 @@ use Rattle.std.proofs.Common.{◌++◌, refl, sym, subst}
 use Rattle.xdr_stream.proofs.Paths.{says_none, says_padding}
 use Rattle.xdr_stream.proofs.Passing.{passes_kept, puts_as}
 use Rattle.xdr_fields.specs.Wants.{says}
-use Rattle.xdr_stream.specs.Asked.{Asks, IsElement}
+use Rattle.xdr_stream.specs.inner.Asked.{Asks, IsElement}
 use Rattle.xdr_stream.proofs.turn.put_token.Goals as goal
 
 pub returns-in-Value-clause-puts : goal.returns-in-Value-clause-puts

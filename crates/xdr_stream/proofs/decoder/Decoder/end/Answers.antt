@@ -1,7 +1,7 @@
 use Rattle.std.proofs.Common.{◌≡◌, refl, sym, subst}
 use Rattle.xdr_stream.proofs.Pushing.{has_failed, in_state, pushed_all, pushed_some}
 use Rattle.xdr_stream.proofs.decoder.Decoder.end.Goals as goal
-use Rattle.xdr_stream.specs.Pushing.{IsPushed}
+use Rattle.xdr_stream.specs.inner.Pushing.{IsPushed}
 use Rattle.xdr_stream.specs.declared.decoder.State.TheVariants as state
 
 pub returns-in-Ok-clause-pushes : goal.returns-in-Ok-clause-pushes

@@ -5,7 +5,7 @@ use Rattle.xdr_stream.proofs.Passing.{passes_kept}
 use Rattle.xdr_stream.proofs.Turning.{breaks, turn_bad, turn_held, turn_short, turns_failed, weight_falls}
 use Rattle.xdr_stream.proofs.decoder.Decoder.field.Goals as goal
 use Rattle.xdr_stream.specs.After.{dataset_of}
-use Rattle.xdr_stream.specs.Turning.{rank, weight}
+use Rattle.xdr_stream.specs.inner.Turning.{rank, weight}
 use Rattle.xdr_stream.specs.declared.decoder.Decoder.{Decoder}
 
 pub returns-in-None-clause-turns : goal.returns-in-None-clause-turns
@@ -52,7 +52,7 @@ returns-in_ok-put_token-in-Ok-clause-falls g c = λ empty.
     let n = c.in-Some.count in
     let some = rw c.width.ensures at c.in-Some.ensures in
     let long : length c.collect.new.held.items ≡ length r.held.items + n = ap length some.whole ∙ length-append r.held.items (take n c.args.rest.now) ∙ omega (arith, length-take n c.args.rest.now, some.most) in
-    let whole : length c.collect.new.held.items ≡ Rattle.xdr_stream.specs.Asked.width_of c.args.ask = long ∙ some.width in
+    let whole : length c.collect.new.held.items ≡ Rattle.xdr_stream.specs.inner.Asked.width_of c.args.ask = long ∙ some.width in
     let falls = c.step.ensures.falls (λ none. (empty none, c.in-Ok.ensures.empty none)) whole in
     let place = c.step.ensures.place whole in
     (some.most, weight_falls (weight c.step.new.self) (rank r.place) (length r.held.items) (length c.collect.new.held.items) n falls long, omega (arith, place, long))

@@ -1,7 +1,7 @@
 use Rattle.std.proofs.Common.{length, ◌+◌, ◌-◌, ◌*◌, ◌≡◌, ◌≤◌}
 use Rattle.xdr_stream.proofs.Reading.{Comes}
 use Rattle.xdr_stream.specs.After.{dataset_of, place_of, start_of}
-use Rattle.xdr_stream.specs.Turning.{weight}
+use Rattle.xdr_stream.specs.inner.Turning.{weight}
 use Rattle.xdr_stream.proofs.decoder.Decoder.read.Given as goal
 
 abbrev pub invariant-turns : goal.invariant-turns

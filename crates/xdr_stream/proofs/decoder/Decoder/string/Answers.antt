@@ -6,7 +6,7 @@ use Rattle.dap_model.specs.Shown.{shown_byte}
 use Rattle.xdr_stream.proofs.Turning.{string_breaks, string_reads, string_some, text_cut, turns_failed}
 use Rattle.xdr_stream.proofs.decoder.Decoder.string.Goals as goal
 use Rattle.xdr_stream.specs.After.{Reads, dataset_of}
-use Rattle.xdr_stream.specs.Places.{text_behind}
+use Rattle.xdr_stream.specs.inner.Places.{text_behind}
 
 pub returns-in_err-put_escaped-clause-turns : goal.returns-in_err-put_escaped-clause-turns
 returns-in_err-put_escaped-clause-turns g c = λ bytes put size s is small.

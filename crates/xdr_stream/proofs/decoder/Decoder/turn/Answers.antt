@@ -2,7 +2,7 @@ use Rattle.std.proofs.Common.{◌≡◌, refl, sym, subst}
 use Rattle.xdr_stream.proofs.Turning.{asked_want}
 use Rattle.xdr_stream.proofs.decoder.Decoder.turn.Goals as goal
 use Rattle.xdr_stream.specs.After.{dataset_of}
-use Rattle.xdr_stream.specs.Places.{wants_left}
+use Rattle.xdr_stream.specs.inner.Places.{wants_left}
 
 pub returns-in-Bytes-clause-turns : goal.returns-in-Bytes-clause-turns
 returns-in-Bytes-clause-turns g c = λ bytes put s small.

@@ -2,9 +2,9 @@
 use Rattle.std.specs.Prelude.{◌≡◌, ℕ, ◌≤◌, ⊤, List, [], ◌++◌, length, take, Option}
 use Rattle.std.specs.Io.KnownBytes.{Appends}
 use Rattle.xdr_stream.specs.After.{IsStopped, Reads, dataset_of}
-use Rattle.xdr_stream.specs.Places.{wants_left}
+use Rattle.xdr_stream.specs.inner.Places.{wants_left}
 use Rattle.xdr_stream.specs.Shown.{ShowsSome}
-use Rattle.xdr_stream.specs.Turning.{IsSome}
+use Rattle.xdr_stream.specs.inner.Turning.{IsSome}
 use Rattle.xdr_stream.specs.declared.decoder.Decoder.{Decoder}
 use Rattle.xdr_stream.specs.declared.decoder.Pushed.{Pushed}
 use Rattle.xdr_stream.specs.declared.decoder.Pushed.TheVariants as pushed

@@ -7,9 +7,9 @@ use Rattle.dap_outside.specs.declared.failed.Failed.{Failed}
 use Rattle.xdr_decode.specs.declared.bad.BadField.{BadField}
 use Rattle.xdr_fields.specs.Wants.{Want, a_text, Steps, room, said, says_next, wants_of}
 use Rattle.xdr_stream.specs.After.{IsStopped, Reads, dataset_of, place_of, start_of}
-use Rattle.xdr_stream.specs.Asked.{width_of}
-use Rattle.xdr_stream.specs.Buffered.{Puts}
-use Rattle.xdr_stream.specs.Places.{HaveMarks, IsPlaced, Spot, spot_at, wants_left}
+use Rattle.xdr_stream.specs.inner.Asked.{width_of}
+use Rattle.xdr_stream.specs.inner.Buffered.{Puts}
+use Rattle.xdr_stream.specs.inner.Places.{HaveMarks, IsPlaced, Spot, spot_at, wants_left}
 use Rattle.xdr_stream.specs.declared.decoder.Decoder.{Decoder}
 use Rattle.xdr_stream.specs.declared.decoder.Pushed.{Pushed}
 use Rattle.xdr_stream.specs.declared.decoder.Pushed.TheVariants as pushed
