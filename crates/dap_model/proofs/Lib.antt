@@ -34,6 +34,7 @@ pub mod Whole
 pub mod EachSuits
 pub mod Picks
 pub mod Numbering
+pub mod Named
 pub mod OneBody
 pub mod Limits
 pub mod Spaced

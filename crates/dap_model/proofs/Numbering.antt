@@ -1,17 +1,15 @@
 -- The three ways to number members agree: by place, by path, and by counting.
-use Rattle.std.proofs.Common.{◌≡◌, ◌≢◌, ℕ, zero, suc, ◌+◌, ◌-◌, ◌<◌, List, [], ◌∷◌, ◌++◌, length, map, AllPairs, get_or, slice_get, option_map, Option, Some, None, Bool, true, false, cond, refl, sym, ap, ◌∙◌, arith}
+use Rattle.std.proofs.Common.{◌≡◌, ◌≢◌, ℕ, zero, suc, ◌+◌, ◌<◌, List, [], ◌∷◌, ◌++◌, length, map, AllPairs, get_or, slice_get, Option, Some, None, Bool, true, false, cond, refl, sym, ap, ◌∙◌, arith}
 use Rattle.std.specs.Cmp.Lexicographic.{pointwise}
 use Rattle.std.specs.List.{last_or, position_from}
 use Rattle.std.specs.Str.{bytes_eq}
 use Rattle.std.proofs.lemmas.List.{map-append}
-use Rattle.std.proofs.lemmas.Option.{slice_get-map, none-some, same_Some}
+use Rattle.std.proofs.lemmas.Option.{none-some, same_Some}
 use Rattle.std.proofs.lemmas.Slice.Eq.{bytes_eq-Decides}
 use Rattle.dap_types.proofs.Faults.{length-places}
 use Rattle.dap_types.proofs.Found.{same_path}
-use Rattle.dap_types.proofs.Preorder.{member_at-get, preorder-places}
 use Rattle.dap_types.specs.Model.{Member, scalar, array, structure, grid, sequence, Members, no_members, member, Dataset, name_of, count_all}
-use Rattle.dap_types.specs.Preorder.{preorder_all}
-use Rattle.dap_types.specs.WellFormed.{Place, leaf_places, part_places, places, places_of, part_paths, paths, member_at, number_of, IsWellFormed}
+use Rattle.dap_types.specs.WellFormed.{Place, leaf_places, part_places, places, places_of, part_paths, paths, number_of, IsWellFormed}
 use Rattle.dap_types.specs.declared.declarations.ArrayDecl.{ArrayDecl}
 use Rattle.dap_types.specs.declared.declarations.Column.{Column}
 use Rattle.dap_model.proofs.Paths.{paths_differ}
@@ -62,7 +60,7 @@ pub members_are_counted : (d : Dataset) → length (places_of d) ≡ count_all d
 members_are_counted d = length-places d.members 1 []
 
 -- a number that is found is that of an element that passes
-found_at : {X : Type 0} (test : X → Bool) (xs : List X) (i n : ℕ) → position_from test i xs ≡ Some n → (k : ℕ) × (x : X) × (n ≡ i + k) × (slice_get xs k ≡ Some x) × (test x ≡ true)
+pub found_at : {X : Type 0} (test : X → Bool) (xs : List X) (i n : ℕ) → position_from test i xs ≡ Some n → (k : ℕ) × (x : X) × (n ≡ i + k) × (slice_get xs k ≡ Some x) × (test x ≡ true)
 found_at test [] i n is = absurd (none-some n is)
 found_at {X} test (x ∷ xs) i n is = by (test x) refl is (λ e. found_at test xs (i + 1) n e)
   where
@@ -71,26 +69,6 @@ found_at {X} test (x ∷ xs) i n is = by (test x) refl is (λ e. found_at test x
         → (k : ℕ) × (y : X) × (n ≡ i + k) × (slice_get (x ∷ xs) k ≡ Some y) × (test y ≡ true)
     by true passes e rest = (zero, x, (let same : i ≡ n = same_Some i n e in omega arith), refl, passes)
     by false fails e rest = let (k, y, at, get, passes) = rest e in (suc k, y, omega (arith, at), get, passes)
-
--- of two lists in step, what stands at a place
-at_both : {X Y Z : Type 0} (f : X → Z) (g : Y → Z) (xs : List X) (ys : List Y) (k : ℕ) (x : X) → map f xs ≡ map g ys → slice_get xs k ≡ Some x → (y : Y) × (slice_get ys k ≡ Some y) × (f x ≡ g y)
-at_both {X} {Y} {Z} f g xs ys k x same get =
-    by (slice_get ys k) refl (sym (slice_get-map g ys k) ∙ ap (λ zs. slice_get zs k) (sym same) ∙ slice_get-map f xs k ∙ ap (option_map f) get)
-  where
-    by : (o : Option Y) → slice_get ys k ≡ o → option_map g o ≡ Some (f x) → (y : Y) × (slice_get ys k ≡ Some y) × (f x ≡ g y)
-    by None is e = absurd (none-some (f x) e)
-    by (Some y) is e = (y, is, sym (same_Some (g y) (f x) e))
-
-pub numbers_are_of_members : (d : Dataset) (path : List (List ℕ)) (n : ℕ) → number_of d path ≡ Some n → (m : Member) × (member_at d n ≡ Some m) × (last_or None path ≡ Some (name_of m))
-numbers_are_of_members d path n is =
-    let (k, p, at, get, passes) = found_at (pointwise bytes_eq path) (paths d.members) 1 n is in
-    let (q, there, same) = at_both (last_or None) (λ (q : Place). Some (name_of q.variable)) (paths d.members) (places_of d) k p (paths_name_members d) get in
-    let number : n - 1 ≡ k = omega (arith, at) in (
-      q.variable,
-      member_at-get d n (omega (arith, at)) ∙ ap (slice_get (preorder_all d.members)) number ∙ ap (λ ms. slice_get ms k) (sym (preorder-places d.members 1 []))
-          ∙ slice_get-map (λ (q : Place). q.variable) (places_of d) k ∙ ap (option_map (λ (q : Place). q.variable)) there,
-      ap (last_or None) (same_path path p passes) ∙ same,
-    )
 
 -- a path passes its own test
 own_path : (p : Path) → pointwise bytes_eq p p ≡ true
