@@ -1,6 +1,6 @@
 -- What the definitions promise of one another, each as a statement over all datasets and values. They
 -- show that the definitions are not empty, and that they are not the code again.
-use Rattle.std.specs.Prelude.{◌≡◌, ℕ, ◌+◌, ◌-◌, ◌*◌, ◌%◌, ◌^◌, ◌<◌, ◌≤◌, ⊤, ◌≢◌, true, false, List, [], ◌∷◌, ◌++◌, All, AllPairs, length, None, codes, slice_get}
+use Rattle.std.specs.Prelude.{◌≡◌, ℕ, ◌+◌, ◌*◌, ◌^◌, ◌<◌, ◌≤◌, ⊤, ◌≢◌, true, false, List, [], ◌∷◌, ◌++◌, All, AllPairs, length, None, codes, slice_get}
 use Rattle.std.specs.List.{AllZip, flat_map, list_any}
 use Rattle.std.specs.Option.{option_map_or}
 use Rattle.dap_types.specs.Model.{Dataset, Tree, kids, sizes, product}

@@ -1,6 +1,6 @@
 -- A front of the values of a dataset, as the client reads it: good fields, the first bad field, and
 -- the elements that can be shown by then (this project's).
-use Rattle.std.specs.Prelude.{◌≡◌, ℕ, ◌+◌, ◌-◌, ◌%◌, ◌<◌, ◌≤◌, ⊤, List, [], ◌∷◌, ◌++◌, length, take, codes, Bool, true, false, Option, Some, None, count_by, slice_get}
+use Rattle.std.specs.Prelude.{◌≡◌, ℕ, ◌<◌, ◌≤◌, ⊤, List, [], ◌∷◌, ◌++◌, length, take, codes, Bool, true, false, Option, Some, None, count_by, slice_get}
 use Rattle.std.specs.Option.{option_map_or}
 use Rattle.std.specs.List.{flat_map}
 use Rattle.dap_types.specs.Model.{Dataset, Tree}
