@@ -16,3 +16,4 @@ pub mod FullLemmas
 pub mod LargestLemmas
 pub mod ReadLemmas
 pub mod NewLemmas
+pub mod LawLemmas

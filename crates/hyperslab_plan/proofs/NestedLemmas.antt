@@ -13,7 +13,7 @@ module _ {X Z : Type 0} (P : Z → Type 0) (e : X → List Z) where
   All-parts [] all = All-nil (λ x. All P (e x))
   All-parts (x ∷ xs) all = All-cons (λ x. All P (e x)) x xs (all_front P (e x) (flat_map e xs) all) (All-parts xs (all_back P (e x) (flat_map e xs) all))
 
-  All-whole : (xs : List X) → All (λ x. All P (e x)) xs → All P (flat_map e xs)
+  pub All-whole : (xs : List X) → All (λ x. All P (e x)) xs → All P (flat_map e xs)
   All-whole [] all = All-nil P
   All-whole (x ∷ xs) all = All-append P (e x) (flat_map e xs) (all_first (λ x. All P (e x)) x xs all) (All-whole xs (all_rest (λ x. All P (e x)) x xs all))
 

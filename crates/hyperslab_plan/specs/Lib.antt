@@ -6,3 +6,4 @@ pub mod Along
 pub mod Shapes
 pub mod Plans
 pub mod Batches
+pub mod Laws

@@ -4,6 +4,7 @@
 #![tactic(auto)]
 
 mod batch;
+mod laws;
 mod limits;
 mod plan;
 mod shape;
@@ -13,5 +14,6 @@ mod spacing;
 mod tests;
 
 pub use batch::{Batch, Run};
+pub use laws::{batches_hold, picked_are_within, plans_cut, turns_are_whole};
 pub use plan::Plan;
 pub use spacing::Spacing;
