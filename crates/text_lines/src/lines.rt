@@ -1,4 +1,4 @@
-ghost use Rattle.std.specs.Prelude.{◌≡◌, ◌++◌, OnOk, replicate};
+ghost use Rattle.std.specs.Prelude.{◌≡◌, ◌*◌, ◌/◌, ◌%◌, ◌^◌, ◌<◌, ◌++◌, OnOk, replicate};
 ghost use Rattle.std.specs.Fmt.{decimal};
 ghost use Rattle.dap_model.specs.Dds.{line};
 ghost use Rattle.dap_model.specs.Shown.{hex};
@@ -30,15 +30,25 @@ pub fn put_number(out: &mut Vec<u8>, number: u32) -> Result<(), Memory>
     put(out, buffer.format(number).as_bytes())
 }
 
+/// The value of the digit behind which so many others stand, in hexadecimal.
+fn digit_before(behind: u32, bits: u64) -> u8
+    ensures few { result < 16 }
+    ensures digit { result ≡ bits / 2 ^ (4 * behind) % 16 }
+{
+    if behind < 16 {
+        (bits >> (4 * behind) & 15) as u8
+    } else {
+        0
+    }
+}
+
 /// Appends so many digits of the bits in hexadecimal, in lower case.
 pub fn put_hex(out: &mut Vec<u8>, digits: u32, bits: u64) -> Result<(), Memory>
     ensures { OnOk result (out.new.items ≡ out.old.items ++ hex digits bits) }
 {
-    if digits == 0 {
-        return Ok(());
+    for i in 0..digits {
+        out.push(hex_digit(digit_before(digits - 1 - i, bits)))?;
     }
-    put_hex(out, digits - 1, bits / 16)?;
-    out.push(hex_digit((bits % 16) as u8))?;
     Ok(())
 }
 

@@ -20,6 +20,22 @@ fn pieces_stand_one_behind_the_other(rt: HostRuntime) -> Result<(), Fail> {
     Ok(())
 }
 
+/// As many digits as are asked for, also more than a word has.
+#[test]
+fn digits_are_as_many_as_asked(rt: HostRuntime) -> Result<(), Fail> {
+    let mut out = Vec::new(rt.alloc());
+    put_hex(&mut out, 0, 0xff)?;
+    put(&mut out, b">")?;
+    put_hex(&mut out, 16, 0xfedc_ba98_7654_3210)?;
+    put(&mut out, b">")?;
+    put_hex(&mut out, 19, 0x8000_0000_0000_000f)?;
+    assert_eq!(rt;
+        out.as_slice(),
+        b">fedcba9876543210>000800000000000000f".as_slice()
+    );
+    Ok(())
+}
+
 #[test]
 fn types_have_their_words(rt: HostRuntime) {
     let rows: [(BaseType, &[u8]); 9] = [
