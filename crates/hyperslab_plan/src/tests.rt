@@ -216,6 +216,34 @@ fn long_rows(rt: HostRuntime) -> Result<(), Fail> {
     Ok(())
 }
 
+/// The most elements: 2,147,483,647 in a row, and as nearly as many in 30 dimensions of two indexes.
+#[test]
+fn most_elements(rt: HostRuntime) -> Result<(), Fail> {
+    let alloc = rt.alloc();
+    let row = plan(
+        alloc,
+        BaseType::Float64,
+        8,
+        0,
+        &[8],
+        &[slab(0, 1, 2_147_483_647)],
+    )?;
+    assert_eq!(rt; row.total(), 2_147_483_647);
+    assert!(rt; row.total() > 2_147_483_646);
+    assert_eq!(rt; row.offset(2_147_483_646), 17_179_869_168);
+    assert_eq!(rt; row.batch(2_147_483_646).count, 1);
+    let two = Slab {
+        start: 0,
+        stride: 1,
+        count: 2,
+    };
+    let many = plan(alloc, BaseType::Byte, 1, 9, &[7; 30], &[two; 30])?;
+    assert_eq!(rt; many.total(), 1_073_741_824);
+    assert!(rt; many.total() > 1_073_741_823);
+    assert_eq!(rt; many.offset(1_073_741_823), 219);
+    Ok(())
+}
+
 fn crosses<T: Send + Sync>(_value: &T) {}
 
 /// Workers may share a plan and a batch.
