@@ -278,37 +278,111 @@ fn two_workers_meet(rt: HostRuntime) -> Result<(), Fail> {
     Ok(())
 }
 
-/// Which workers came.
+/// Which of the workers of a job came, each to its own part, to which nothing was written.
 #[derive(Drop)]
 struct Seen {
-    came: [AtomicBool; 4],
+    /// The bytes of a part.
+    len: usize,
+    came: Vec<AtomicBool>,
+}
+
+impl Seen {
+    /// Nobody came yet.
+    fn new(alloc: Global, workers: usize, len: usize) -> Result<Seen, Fail> {
+        let mut came = Vec::new(alloc);
+        for _ in 0..workers {
+            came.push(AtomicBool::new(false))?;
+        }
+        Ok(Seen { len, came })
+    }
+
+    /// How many came.
+    fn count(&self) -> usize {
+        let mut count: usize = 0;
+        for came in &self.came {
+            if came.load(Ordering::SeqCst) {
+                count = count.saturating_add(1);
+            }
+        }
+        count
+    }
 }
 
 impl Gate for Seen {
-    fn enter(&self, worker: u32) {
-        if worker < 4 {
-            self.came[worker as usize].store(true, Ordering::SeqCst);
+    fn enter(&self, _worker: u32) {}
+
+    fn enter_with(&self, worker: u32, part: &[u8]) {
+        if is_untouched(worker as usize, self.len, part)
+            && let Some(came) = self.came.get(worker as usize)
+        {
+            came.store(true, Ordering::SeqCst);
         }
     }
 }
 
-/// Four workers for six elements: three get two each, and are numbered from 0.
+/// Whether the bytes of a worker's part are still those of `numbered`.
+fn is_untouched(worker: usize, len: usize, part: &[u8]) -> bool {
+    if part.len() != len {
+        return false;
+    }
+    let mut place = worker.saturating_mul(len);
+    for &byte in part {
+        if usize::from(byte) != place {
+            return false;
+        }
+        place = place.saturating_add(1);
+    }
+    true
+}
+
+/// Bytes that are each their place.
+fn numbered(alloc: Global, len: u8) -> Result<Vec<u8>, Fail> {
+    let mut bytes = Vec::new(alloc);
+    for place in 0..len {
+        bytes.push(place)?;
+    }
+    Ok(bytes)
+}
+
+/// Two rows of 64 elements.
+const BOTH: [Slab; 2] = [
+    Slab {
+        start: 0,
+        stride: 1,
+        count: 2,
+    },
+    Slab {
+        start: 0,
+        stride: 1,
+        count: 64,
+    },
+];
+
+/// Up to 64 workers for 128 elements: each gets its part, as long as the others', before it is
+/// written.
 #[test]
 fn numbers_of_workers(rt: HostRuntime) -> Result<(), Fail> {
-    let bytes = [1u8, 9, 2, 9, 3, 4, 9, 5, 9, 6];
-    let plan = plan(rt.alloc(), BaseType::Byte, 1, (100, 1), &APART)?;
-    let seen = Seen {
-        came: [
-            AtomicBool::new(false),
-            AtomicBool::new(false),
-            AtomicBool::new(false),
-            AtomicBool::new(false),
-        ],
-    };
-    let mut out = [0u8; 6];
-    fill_first(&rt, &plan, &bytes, &mut out, 4, &seen);
-    for (worker, came) in [(0, true), (1, true), (2, true), (3, false)] {
-        assert_eq!(rt; seen.came[worker].load(Ordering::SeqCst), came);
+    let alloc = rt.alloc();
+    let raw = vec![in alloc; 200u8; 128]?;
+    let plan = plan(alloc, BaseType::Byte, 1, (64, 1), &BOTH)?;
+    for (workers, len) in [(1, 128), (2, 64), (4, 32), (16, 8), (32, 4), (64, 2)] {
+        let seen = Seen::new(alloc, workers as usize, len)?;
+        let mut out = numbered(alloc, 128)?;
+        fill_first(&rt, &plan, &raw, &mut out, workers, &seen);
+        assert_eq!(rt; seen.count(), workers as usize);
+        assert_eq!(rt; out.as_slice(), raw.as_slice());
     }
+    Ok(())
+}
+
+/// Four workers for six elements: three get two each.
+#[test]
+fn more_workers_than_parts(rt: HostRuntime) -> Result<(), Fail> {
+    let bytes = [10u8, 9, 20, 9, 30, 40, 9, 50, 9, 60];
+    let plan = plan(rt.alloc(), BaseType::Byte, 1, (100, 1), &APART)?;
+    let seen = Seen::new(rt.alloc(), 4, 2)?;
+    let mut out = [0u8, 1, 2, 3, 4, 5];
+    fill_first(&rt, &plan, &bytes, &mut out, 4, &seen);
+    assert_eq!(rt; seen.count(), 3);
     Ok(())
 }

@@ -46,7 +46,7 @@ fn fill_parts<R: Threads + Sync, G: Gate>(
             requires inside { start + length part.old ≤ batch.now.count * width_in plan.now }
             ensures { (k : ℕ) → k < length part.old → slice_index part.new k ≡ batch_byte plan.entry.now raw.entry.now (start + k) }
         {
-            gate.enter((start / size) as u32);
+            gate.enter_with((start / size) as u32, part);
             write_chunk(plan, batch, raw, start / plan.width() as usize, part);
         },
     );
