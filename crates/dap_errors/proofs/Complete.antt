@@ -3,11 +3,12 @@ use Rattle.std.proofs.Common.{◌≡◌, List, [], ◌∷◌, ◌++◌, ℕ, ref
 use Rattle.std.specs.Prelude.{codes}
 use Rattle.std.specs.List.{flat_map, list_all}
 use Rattle.viable.specs.Quoted.{Piece}
+use Rattle.text_tokens.specs.Machines.{run}
 use Rattle.text_tokens.specs.Tokens.{Token, sign, is_token}
 use Rattle.dap_errors.specs.Object.{signs, Value, bare, text, Field, value_token, field_tokens, is_error_word, is_code, is_message, is_code_word, values, IsObject}
-use Rattle.dap_errors.specs.Machine.{State, Start, Fields, Assigned, Ended, is_none_of, may_label, holds_code, holds_message, may_hold, has_both, field_of, step, run}
+use Rattle.dap_errors.specs.Machine.{State, Start, Fields, Assigned, Ended, is_none_of, may_label, holds_code, holds_message, may_hold, has_both, said_by, field_of, step}
 use Rattle.dap_errors.specs.declared.object.ErrorObject.{ErrorObject}
-use Rattle.dap_errors.proofs.Labels.{values_append}
+use Rattle.dap_errors.proofs.Labels.{values_append, says_is}
 
 empty_not : (vs ws : List Value) (v : Value) → vs ++ v ∷ ws ≡ [] → ⊥
 empty_not [] ws v e = cc
@@ -41,10 +42,10 @@ and_both p q h g = rw (h, g) refl
 
 -- the machine reads one more field
 field_run : (done : List Field) (f : Field) (rest : List Token) → may_label done f.label ≡ true → may_hold f.label f.value ≡ true
-    → run (Fields done) (field_tokens f ++ rest) ≡ run (Fields (done ++ f ∷ [])) rest
+    → run step (Fields done) (field_tokens f ++ rest) ≡ run step (Fields (done ++ f ∷ [])) rest
 field_run done f rest l h = rw l (on f.value h)
   where
-    on : (v : Value) → may_hold f.label v ≡ true → run (Assigned done f.label) (value_token v ∷ sign 59 ∷ rest) ≡ run (Fields (done ++ field_of f.label v ∷ [])) rest
+    on : (v : Value) → may_hold f.label v ≡ true → run step (Assigned done f.label) (value_token v ∷ sign 59 ∷ rest) ≡ run step (Fields (done ++ field_of f.label v ∷ [])) rest
     on (bare w) e = rw e refl
     on (text p) e = rw e refl
 
@@ -56,10 +57,10 @@ record Said (all : List Field) : Type 0 where
   code_fits : IsTrue (is_code_word code)
   one_message : values is_message all ≡ text message ∷ []
 
-fields_run : (done fields : List Field) (rest : List Token) → Said (done ++ fields) → run (Fields done) (flat_map field_tokens fields ++ rest) ≡ run (Fields (done ++ fields)) rest
+fields_run : (done fields : List Field) (rest : List Token) → Said (done ++ fields) → run step (Fields done) (flat_map field_tokens fields ++ rest) ≡ run step (Fields (done ++ fields)) rest
 fields_run done [] rest said = rw append-nil refl
 fields_run done (f ∷ fields) rest said =
-    ap (run (Fields done)) (append_assoc (field_tokens f) (flat_map field_tokens fields) rest)
+    ap (run step (Fields done)) (append_assoc (field_tokens f) (flat_map field_tokens fields) rest)
     ∙ field_run done f (flat_map field_tokens fields ++ rest)
     (and_both _ _
     (when_named (is_code f.label) (is_none_of (values is_code done)) (λ t. rw ((only_one is_code done f fields (bare said.code) said.one_code t).0) refl))
@@ -68,15 +69,16 @@ fields_run done (f ∷ fields) rest said =
     (when_named (is_code f.label) (holds_code f.value) (λ t. rw ((only_one is_code done f fields (bare said.code) said.one_code t).1) said.code_fits))
     (when_named (is_message f.label) (holds_message f.value) (λ t. rw ((only_one is_message done f fields (text said.message) said.one_message t).1) refl)))
     ∙ fields_run (done ++ f ∷ []) fields rest (subst Said (sym (append_assoc done (f ∷ []) fields)) said)
-    ∙ ap (λ (z : List Field). run (Fields z) rest) (append_assoc done (f ∷ []) fields)
+    ∙ ap (λ (z : List Field). run step (Fields z) rest) (append_assoc done (f ∷ []) fields)
 
 -- the machine reads an object to its end
-pub complete : (tokens : List Token) (error : ErrorObject) (o : IsObject tokens error) → run Start tokens ≡ Some (Ended o.fields)
+pub complete : (tokens : List Token) (error : ErrorObject) → IsObject tokens error → run step Start tokens ≡ Some (Ended error)
 complete tokens error o =
-    ap (run Start) o.spelled
+    ap (run step Start) o.spelled
     ∙ (let n : is_error_word o.name ≡ true = o.named in rw n refl)
     ∙ fields_run [] o.fields (sign 125 ∷ []) (record { code = o.code; message = o.message; one_code = o.one_code; code_fits = o.code_fits; one_message = o.one_message })
     ∙ (let b : has_both o.fields ≡ true = rw (o.one_code, o.one_message) refl in rw b refl)
+    ∙ ap (λ (e : ErrorObject). Some (Ended e)) (sym (says_is error o.fields ((o.code, o.one_code, o.code_fits, o.code_is), (o.message, o.one_message, o.message_is))))
 
 -- Completions.
 
@@ -85,11 +87,11 @@ IsValid t = IsTrue (is_token signs t)
 
 -- at least one more token leads from the state to the end of an object
 abbrev pub Live : State → Type 0
-Live s = (t : Token) × (more : List Token) × IsTrue (list_all (is_token signs) (t ∷ more)) × (done : List Field) × (run s (t ∷ more) ≡ Some (Ended done))
+Live s = (t : Token) × (more : List Token) × IsTrue (list_all (is_token signs) (t ∷ more)) × (error : ErrorObject) × (run step s (t ∷ more) ≡ Some (Ended error))
 
 pub live_step : (s next : State) (t : Token) → step s t ≡ Some next → IsValid t → Live next → Live s
-live_step s next t st valid (t', more, ok, done, r) =
-    (t, t' ∷ more, and_both _ _ valid ok, done, rw st r)
+live_step s next t st valid (t', more, ok, error, r) =
+    (t, t' ∷ more, and_both _ _ valid ok, error, rw st r)
 
 unfoldable pub code_field : Field
 code_field = field_of (codes "code") (bare (codes "0"))
@@ -97,11 +99,11 @@ code_field = field_of (codes "code") (bare (codes "0"))
 unfoldable pub message_field : Field
 message_field = field_of (codes "message") (text [])
 
-pub code_run : (done : List Field) (rest : List Token) → values is_code done ≡ [] → run (Fields done) (field_tokens code_field ++ rest) ≡ run (Fields (done ++ code_field ∷ [])) rest
+pub code_run : (done : List Field) (rest : List Token) → values is_code done ≡ [] → run step (Fields done) (field_tokens code_field ++ rest) ≡ run step (Fields (done ++ code_field ∷ [])) rest
 unfolding code_field is_code is_message
 code_run done rest e = field_run done code_field rest (rw e refl) refl
 
-pub message_run : (done : List Field) (rest : List Token) → values is_message done ≡ [] → run (Fields done) (field_tokens message_field ++ rest) ≡ run (Fields (done ++ message_field ∷ [])) rest
+pub message_run : (done : List Field) (rest : List Token) → values is_message done ≡ [] → run step (Fields done) (field_tokens message_field ++ rest) ≡ run step (Fields (done ++ message_field ∷ [])) rest
 unfolding message_field is_code is_message
 message_run done rest e = field_run done message_field rest (rw e refl) refl
 
@@ -113,7 +115,7 @@ pub message_counts : (done : List Field) → (values is_message (done ++ message
 unfolding message_field is_code is_message
 message_counts done = (values_append is_message done (message_field ∷ []), values_append is_code done (message_field ∷ []) ∙ append-nil (values is_code done))
 
-pub close_run : (done : List Field) → has_both done ≡ true → run (Fields done) (sign 125 ∷ []) ≡ Some (Ended done)
+pub close_run : (done : List Field) → has_both done ≡ true → run step (Fields done) (sign 125 ∷ []) ≡ Some (Ended (said_by done))
 close_run done h = rw h refl
 
 pub valid_code : IsTrue (list_all (is_token signs) (field_tokens code_field))

@@ -5,7 +5,7 @@ use Rattle.viable.specs.Quoted.{Piece, quoted_value}
 use Rattle.viable.proofs.Tests.{and_parts}
 use Rattle.text_tokens.specs.Tokens.{sign, word, quoted}
 use Rattle.dap_errors.specs.Object.{Value, bare, text, Field, is_code, is_message, is_code_word, code_value, values}
-use Rattle.dap_errors.specs.Machine.{Fields, Labelled, Assigned, Ended, is_none_of, may_label, may_hold, has_both, field_of, step}
+use Rattle.dap_errors.specs.Machine.{Fields, Labelled, Assigned, Ended, is_none_of, may_label, may_hold, has_both, said_by, field_of, step}
 use Rattle.dap_errors.specs.Standing.{HoldsCode, HoldsMessage, Holds, label_kind}
 use Rattle.dap_errors.specs.declared.found.Found.{Found}
 use Rattle.dap_errors.specs.declared.found.Label.TheVariants as labels
@@ -130,7 +130,7 @@ labelled_step done w h = rw h refl
 pub no_label : (done : List Field) (w : List ℕ) → may_label done w ≡ false → step (Fields done) (word w) ≡ None
 no_label done w h = rw h refl
 
-pub ended_step : (done : List Field) (b : ℕ) → (b == 125 && has_both done) ≡ true → step (Fields done) (sign b) ≡ Some (Ended done)
+pub ended_step : (done : List Field) (b : ℕ) → (b == 125 && has_both done) ≡ true → step (Fields done) (sign b) ≡ Some (Ended (said_by done))
 ended_step done b h = rw h refl
 
 pub not_ended : (done : List Field) (b : ℕ) → (b == 125 && has_both done) ≡ false → step (Fields done) (sign b) ≡ None

@@ -219,9 +219,11 @@ read_back code message lt short error c m =
     let (placed, to, is, r, d) = reads_of signs [] (error_text code message) (printed_tokens code message) (codes ";\n") (printed_spelled code message fits) in
     let whole : front (error_text code message) ≡ error_text code message = take_all limit (error_text code message) short in
     record {
-      tokens = placed;
       behind = to;
-      read = subst (λ (z : List ℕ). Reads signs z 0 placed to) (sym whole) r;
-      object = subst (λ (z : List Token). IsObject z error) (sym is) (printed_object code message error fits c m);
+      ends = record {
+        tokens = placed;
+        read = subst (λ (z : List ℕ). Reads signs z 0 placed to) (sym whole) r;
+        says = subst (λ (z : List Token). IsObject z error) (sym is) (printed_object code message error fits c m);
+      };
       end = inr ([], codes "\n", refl, refl, d);
     }

@@ -1,11 +1,11 @@
 -- Where a reader of an Error object stands, for the contracts of its parts.
-use Rattle.std.specs.Prelude.{◌≡◌, ℕ, ℤ, Bool, false, List, [], ◌∷◌, drop, IsTrue, Option, Some, None, if◌then◌else◌}
+use Rattle.std.specs.Prelude.{◌≡◌, ℕ, ℤ, Bool, false, List, [], ◌∷◌, IsTrue, Option, Some, None, if◌then◌else◌}
 use Rattle.std.specs.Str.{str_eq_ignore_ascii_case}
 use Rattle.viable.specs.Quoted.{Piece, quoted_value}
-use Rattle.text_tokens.specs.Tokens.{Token, sign, word, quoted, Placed, Next, NoToken, Reads}
+use Rattle.text_tokens.specs.Machines as machines
+use Rattle.text_tokens.specs.Tokens.{Token, sign, word, quoted}
 use Rattle.dap_errors.specs.Object.{signs, Value, bare, text, Field, is_code, is_message, is_code_word, code_value, values}
-use Rattle.dap_errors.specs.Machine.{State, Start, step, run, IsOpenState}
-use Rattle.dap_errors.specs.Reading.{tokens_of}
+use Rattle.dap_errors.specs.Machine.{State, Start, step, IsOpenState}
 use Rattle.dap_errors.specs.declared.object.ErrorObject.{ErrorObject}
 use Rattle.dap_errors.specs.declared.object.Stop.{Stop}
 use Rattle.dap_errors.specs.declared.object.Stop.TheVariants as stops
@@ -15,16 +15,12 @@ use Rattle.dap_errors.specs.declared.found.Label.TheVariants as labels
 
 -- the whole tokens before the place lead to the state
 abbrev pub StandsAt : List ℕ → ℕ → State → Type 0
-StandsAt bytes at s = (tokens : List Placed) × Reads signs bytes 0 tokens at × (run Start (tokens_of tokens) ≡ Some s)
+StandsAt bytes at s = machines.StandsAt signs step Start bytes at s
 
 -- the next token is not one that the state reads, or there is none
 abbrev pub StopsAt : List ℕ → Stop → Type 0
-StopsAt bytes (stops.Bad place) =
-    (tokens : List Placed) × (at behind : ℕ) × (bad : Token) × (s : State)
-    × Reads signs bytes 0 tokens at × (run Start (tokens_of tokens) ≡ Some s) × IsOpenState s × Next signs bytes at place behind bad × (step s bad ≡ None)
-StopsAt bytes stops.End =
-    (tokens : List Placed) × (at : ℕ) × (s : State)
-    × Reads signs bytes 0 tokens at × (run Start (tokens_of tokens) ≡ Some s) × IsOpenState s × NoToken signs (drop at bytes)
+StopsAt bytes (stops.Bad place) = machines.StopsBad signs step Start IsOpenState bytes place
+StopsAt bytes stops.End = machines.StopsOpen signs step Start IsOpenState bytes
 StopsAt bytes stops.Memory = Unit {0}
 
 -- only this sign leads on

@@ -216,7 +216,7 @@ fn ended(found: Found, token: &Token, sign: u8) -> Result<(ErrorObject, usize), 
 fn fields(alloc: Global, text: &[u8], from: usize) -> Result<(ErrorObject, usize), Stop>
     requires { from ≤ length text.now }
     ensures within { IfOk result (λ r. r.1 ≤ length text.now) }
-    ensures stands { StandsAt text.now from (Fields []) → MatchResult result (λ r. (done : List Field) × StandsAt text.now r.1 (Ended done) × Says r.0 done) (StopsAt text.now) }
+    ensures stands { StandsAt text.now from (Fields []) → MatchResult result (λ r. StandsAt text.now r.1 (Ended r.0)) (StopsAt text.now) }
 {
     let mut at = from;
     let mut found = Found {
@@ -240,7 +240,7 @@ fn fields(alloc: Global, text: &[u8], from: usize) -> Result<(ErrorObject, usize
 /// The object at the front of a text, and the place behind it.
 pub fn object(alloc: Global, text: &[u8]) -> Result<(ErrorObject, usize), Stop>
     ensures within { IfOk result (λ r. r.1 ≤ length text.now) }
-    ensures stands { MatchResult result (λ r. (done : List Field) × StandsAt text.now r.1 (Ended done) × Says r.0 done) (StopsAt text.now) }
+    ensures stands { MatchResult result (λ r. StandsAt text.now r.1 (Ended r.0)) (StopsAt text.now) }
 {
     let at = error_word(text)?;
     let at = expect_sign(text, at, b'{')?;

@@ -5,9 +5,16 @@ use Rattle.text_tokens.specs.Kinds.{IsKind}
 use Rattle.text_tokens.specs.declared.tokens.Kind.{Kind}
 use Rattle.dap_errors.specs.Object.{signs}
 use Rattle.dap_errors.specs.Machine.{Fields, field_of, step}
-use Rattle.dap_errors.proofs.Moves.{stops_bad}
+use Rattle.dap_errors.proofs.Moves.{stops_bad, stops_end}
 use Rattle.dap_errors.proofs.Ending.{ended_at}
 use Rattle.dap_errors.proofs.fields.fields.Goals as goal
+
+pub returns-in_err-token-clause-stands : goal.returns-in_err-token-clause-stands
+returns-in_err-token-clause-stands c = λ first.
+    let (done, st, h) = c.names.invariant.stands first in
+    let p = err_from_is_err_and c.from_residual.result c.from_residual.ensures.1 in
+    let (end, none) = c.in_err-token.ensures.token in
+    rw (p.1, p.2, end) (stops_end c.args.text.now c.names.at (Fields done) st none tt)
 
 pub returns-in_err-next-in-Word-clause-stands : goal.returns-in_err-next-in-Word-clause-stands
 returns-in_err-next-in-Word-clause-stands c = λ first.

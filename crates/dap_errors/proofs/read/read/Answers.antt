@@ -1,5 +1,4 @@
-use Rattle.dap_errors.proofs.Moves.{breaks}
-use Rattle.dap_errors.proofs.Reading.{object_of, stray_of, bad_of, long_of, front_within}
+use Rattle.dap_errors.proofs.Reading.{object_of, stray_of, bad_of, unended_of, long_of, front_within}
 use Rattle.dap_errors.proofs.read.read.Goals as goal
 
 pub stray-requires : goal.stray-requires
@@ -23,7 +22,7 @@ pub returns-then-text-lt-LIMIT-clause-cut : goal.returns-then-text-lt-LIMIT-clau
 returns-then-text-lt-LIMIT-clause-cut c =
     let stopped = c.in-Err-End.ensures.stands in
     let here = rw (c.front_of.ensures, c.in-Err-End.field-0-is) at stopped in
-    (breaks c.args.text.now here, c.if-text-lt-LIMIT.true)
+    (unended_of c.args.text.now here, c.if-text-lt-LIMIT.true)
 
 pub returns-else-text-lt-LIMIT-clause-bad : goal.returns-else-text-lt-LIMIT-clause-bad
 returns-else-text-lt-LIMIT-clause-bad c =
