@@ -1,4 +1,4 @@
-ghost use Rattle.std.specs.Prelude.{◌≡◌, ◌*◌, ◌<◌, ◌^◌, ◌++◌, codes, IfOk, OnOk};
+ghost use Rattle.std.specs.Prelude.{◌≡◌, ◌*◌, ◌<◌, ◌≤◌, ◌^◌, ◌++◌, codes, IfOk, MatchResult, OnOk};
 ghost use Rattle.std.specs.List.{flat_map};
 ghost use Rattle.dap_model.specs.Dds.{line};
 ghost use Rattle.das_text.specs.Das.{attribute_text, das, entry_text, entries_text, later_value, values_text, word_text};
@@ -11,8 +11,18 @@ use text_lines::{put, put_line, put_spaces, type_word};
 use viable::push_escaped;
 
 /// Nothing is printed at this depth: the text of an entry there has more than 2^47 bytes, so memory
-/// for it is wanted.
+/// for it is wanted. Attributes that are read or checked nest at most 16 deep.
 const TOO_DEEP: u32 = 1 << 23;
+
+/// Fails at that depth and below it, and nowhere else.
+fn check_depth(depth: u32) -> Result<(), Memory>
+    ensures { MatchResult result (λ _. depth < 2 ^ 23) (λ _. 2 ^ 23 ≤ depth) }
+{
+    if depth >= TOO_DEEP {
+        return Err(Memory);
+    }
+    Ok(())
+}
 
 /// The DAS of the attributes (DAP 2.0, Dataset Attribute Structure, in this project's layout). Fails
 /// where memory is wanted.
@@ -107,9 +117,7 @@ fn put_entry(out: &mut Vec<u8>, depth: u32, entry: &Entry) -> Result<(), Memory>
     ensures { OnOk result (out.new.items
         ≡ out.old.items ++ entry_text depth (entry_view entry.now)) }
 {
-    if depth >= TOO_DEEP {
-        return Err(Memory);
-    }
+    check_depth(depth)?;
     match entry {
         Entry::Attr(attribute) => put_attribute(out, depth, attribute),
         Entry::Container(name, entries) => {

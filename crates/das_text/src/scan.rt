@@ -1,8 +1,9 @@
 //! The tokens of a DAS, one after the other.
 
-ghost use Rattle.std.specs.Prelude.{◌≡◌, ◌+◌, ◌<◌, ◌≤◌, length, drop, IfOk, MatchResult, option_map};
+ghost use Rattle.std.specs.Prelude.{◌≡◌, ◌+◌, ◌<◌, ◌≤◌, ℕ, List, length, drop, IfOk, MatchResult, option_map};
+ghost use Rattle.viable.specs.Quoted.{Piece, quoted_value};
 ghost use Rattle.text_tokens.specs.Kinds.{IsKind};
-ghost use Rattle.text_tokens.specs.Tokens.{Token as AnyToken, TokenAt, Next, NoToken};
+ghost use Rattle.text_tokens.specs.Tokens.{Token as AnyToken, TokenAt, Next, NoToken, quoted};
 ghost use Rattle.das_text.specs.Grammar.{signs};
 ghost use Rattle.das_text.specs.Held.{state_view};
 ghost use Rattle.das_text.specs.Machine.{ended, step};
@@ -14,7 +15,7 @@ use crate::levels::Levels;
 use crate::state::{State, Stop};
 use crate::steps::{step_by_quoted, step_by_sign, step_by_word};
 use dap_types::{Bytes, Memory};
-use std::alloc::Global;
+use std::alloc::{AllocError, Global};
 use text_tokens::{Kind, Token, next_token};
 
 /// The next whole token.
@@ -28,6 +29,14 @@ fn wanted(text: &[u8], at: usize) -> Result<Token, Stop>
         Some(token) => Ok(token),
         None => Err(Stop::End),
     }
+}
+
+/// What stands between the quotes of a quoted text, without its escapes.
+fn unquoted(alloc: Global, text: &[u8], token: &Token) -> Result<Vec<u8>, AllocError>
+    requires { (token.now.place + 2 ≤ token.now.behind) × (token.now.behind ≤ length text.now) }
+    ensures { IfOk result (λ value. (signs : List ℕ) (pieces : List Piece) → TokenAt signs text.now token.now.place token.now.behind (quoted pieces) → value.items ≡ quoted_value pieces) }
+{
+    token.quoted(alloc, text)
 }
 
 /// The state behind a token of the text, unless it is bad.
@@ -46,7 +55,7 @@ fn next_state(
         Kind::Sign(sign) => step_by_sign(levels, state, sign),
         Kind::Word => step_by_word(levels, state, token.word(text)),
         Kind::Quoted => {
-            let value = token.quoted(levels.alloc, text)?;
+            let value = unquoted(levels.alloc, text, token)?;
             step_by_quoted(levels, state, Bytes::from_vec(value))
         }
     }

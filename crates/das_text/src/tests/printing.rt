@@ -2,6 +2,7 @@ use crate::{Attribute, Attributes, Entry, Word, print};
 use dap_types::{BaseType, Bytes, Id, List, Memory};
 use std::alloc::Global;
 use std::test::Fail;
+use text_lines::put_line;
 
 fn plain(alloc: Global, bytes: &[u8]) -> Result<Word, Memory> {
     Ok(Word::Plain(Bytes::new(alloc, bytes)?))
@@ -82,5 +83,42 @@ fn attributes_are_printed(rt: HostRuntime) -> Result<(), Fail> {
     let lines =
         b"Attributes {\n    v {\n        Int16 range -1, 2;\n        more {\n            String notes \"a \\\"b\\\"\", \"c\\\\d\n\";\n            Url none;\n        }\n        String units \"\";\n    }\n}\n";
     assert_eq!(rt; nested.bytes(), lines.as_slice());
+    Ok(())
+}
+
+/// A container in a container, so many of them, around an attribute.
+fn nested(alloc: Global, depth: u8) -> Result<List<Entry>, Memory> {
+    let mut entries = List::new(alloc);
+    if depth == 0 {
+        entries.push(attribute(alloc, BaseType::Byte, b"b", None, None)?)?;
+        return Ok(entries);
+    }
+    entries.push(container(alloc, b"c", nested(alloc, depth - 1)?)?)?;
+    Ok(entries)
+}
+
+fn nested_lines(alloc: Global, depth: u8) -> Result<Vec<u8>, Memory> {
+    let mut lines = Vec::new(alloc);
+    put_line(&mut lines, 0, b"Attributes {")?;
+    for level in 1..=depth {
+        put_line(&mut lines, 4 * u32::from(level), b"c {")?;
+    }
+    put_line(&mut lines, 4 * (u32::from(depth) + 1), b"Byte b;")?;
+    for level in (1..=depth).rev() {
+        put_line(&mut lines, 4 * u32::from(level), b"}")?;
+    }
+    put_line(&mut lines, 0, b"}")?;
+    Ok(lines)
+}
+
+/// Containers nest at most 16 deep in a text that is read; print goes deeper.
+#[test]
+fn nested_containers_are_printed(rt: HostRuntime) -> Result<(), Fail> {
+    let alloc = rt.alloc();
+    for depth in [1, 15, 16, 17, 100] {
+        let containers = nested(alloc, depth)?;
+        let text = print(alloc, &Attributes { containers })?;
+        assert_eq!(rt; text.bytes(), nested_lines(alloc, depth)?.as_slice());
+    }
     Ok(())
 }
