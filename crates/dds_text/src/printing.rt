@@ -1,4 +1,4 @@
-ghost use Rattle.std.specs.Prelude.{◌≡◌, ◌<◌, ◌^◌, ◌++◌, IfOk, OnOk};
+ghost use Rattle.std.specs.Prelude.{◌≡◌, ◌<◌, ◌≤◌, ◌^◌, ◌++◌, IfOk, MatchResult, OnOk};
 ghost use Rattle.dap_types.specs.View.{dataset_view, member_view, members_view};
 ghost use Rattle.dap_model.specs.Dds.{dds, member_text, members_text};
 
@@ -9,8 +9,18 @@ use std::alloc::Global;
 use text_lines::put_line;
 
 /// Nothing is printed at this depth: the text of a member there has more than 2^47 bytes, so memory
-/// for it is wanted.
+/// for it is wanted. The members of a well-formed dataset nest at most 16 deep.
 const TOO_DEEP: u32 = 1 << 23;
+
+/// Fails at that depth and below it, and nowhere else.
+fn check_depth(depth: u32) -> Result<(), Memory>
+    ensures { MatchResult result (λ _. depth < 2 ^ 23) (λ _. 2 ^ 23 ≤ depth) }
+{
+    if depth >= TOO_DEEP {
+        return Err(Memory);
+    }
+    Ok(())
+}
 
 /// The DDS of the dataset (DAP 2.0, Dataset Descriptor Structure, in this project's layout). Fails
 /// where memory is wanted.
@@ -43,9 +53,7 @@ fn put_member(out: &mut Vec<u8>, depth: u32, decl: &Decl) -> Result<(), Memory>
     ensures { OnOk result (out.new.items
         ≡ out.old.items ++ member_text depth (member_view decl.now)) }
 {
-    if depth >= TOO_DEEP {
-        return Err(Memory);
-    }
+    check_depth(depth)?;
     let spaces = 4 * depth;
     match decl {
         Decl::Base(column) => put_column(out, depth, column),

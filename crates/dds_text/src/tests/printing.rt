@@ -2,6 +2,7 @@ use crate::print;
 use dap_types::{ArrayDecl, BaseType, Column, Dataset, Decl, Dim, Id, List, Memory};
 use std::alloc::Global;
 use std::test::Fail;
+use text_lines::put_line;
 
 fn array(
     alloc: Global,
@@ -57,5 +58,50 @@ fn a_dataset_is_printed(rt: HostRuntime) -> Result<(), Fail> {
     let lines =
         b"Dataset {\n    Grid {\n      Array:\n        Int16 g[lat = 1][lon = 2];\n      Maps:\n        Int32 lat[lat = 1];\n        Int32 lon[lon = 2];\n    } g;\n    Url u[0][12];\n    Structure {\n        Sequence {\n            String station;\n        } q;\n    } s;\n} g.nc;\n";
     assert_eq!(rt; text.bytes(), lines.as_slice());
+    Ok(())
+}
+
+/// A Structure in a Structure, so many of them, around a Grid without maps.
+fn nested(alloc: Global, depth: u8) -> Result<List<Decl>, Memory> {
+    let mut members = List::new(alloc);
+    if depth == 0 {
+        let data = array(alloc, BaseType::Byte, b"b", &[])?;
+        members.push(Decl::Grid(Id::raw(alloc, b"g")?, data, List::new(alloc)))?;
+        return Ok(members);
+    }
+    members.push(Decl::Structure(Id::raw(alloc, b"s")?, nested(alloc, depth - 1)?))?;
+    Ok(members)
+}
+
+fn nested_lines(alloc: Global, depth: u8) -> Result<Vec<u8>, Memory> {
+    let mut lines = Vec::new(alloc);
+    put_line(&mut lines, 0, b"Dataset {")?;
+    for level in 1..=depth {
+        put_line(&mut lines, 4 * u32::from(level), b"Structure {")?;
+    }
+    let inside = 4 * (u32::from(depth) + 1);
+    put_line(&mut lines, inside, b"Grid {")?;
+    put_line(&mut lines, inside + 2, b"Array:")?;
+    put_line(&mut lines, inside + 4, b"Byte b;")?;
+    put_line(&mut lines, inside + 2, b"Maps:")?;
+    put_line(&mut lines, inside, b"} g;")?;
+    for level in (1..=depth).rev() {
+        put_line(&mut lines, 4 * u32::from(level), b"} s;")?;
+    }
+    put_line(&mut lines, 0, b"} d;")?;
+    Ok(lines)
+}
+
+/// 14 Structures around a Grid are 16 levels, the most that a well-formed dataset has; print goes
+/// deeper.
+#[test]
+fn nested_members_are_printed(rt: HostRuntime) -> Result<(), Fail> {
+    let alloc = rt.alloc();
+    for depth in [1, 13, 14, 15, 100] {
+        let members = nested(alloc, depth)?;
+        let name = Id::raw(alloc, b"d")?;
+        let text = print(alloc, &Dataset { name, members })?;
+        assert_eq!(rt; text.bytes(), nested_lines(alloc, depth)?.as_slice());
+    }
     Ok(())
 }
