@@ -135,3 +135,23 @@ fn depth_and_length_are_limited(rt: HostRuntime) -> Result<(), Fail> {
     );
     Ok(())
 }
+
+/// An attribute of many values, many attributes and many containers.
+#[test]
+fn long_texts_are_read(rt: HostRuntime) -> Result<(), Fail> {
+    let mut text = Vec::from_slice(rt.alloc(), b"Attributes {\n    v {\n        Byte b 0")?;
+    for _ in 0..400 {
+        text.extend_from_slice(b", \"1\"")?;
+    }
+    text.extend_from_slice(b";\n")?;
+    for _ in 0..400 {
+        text.extend_from_slice(b"        Url u;\n")?;
+    }
+    text.extend_from_slice(b"    }\n")?;
+    for _ in 0..400 {
+        text.extend_from_slice(b"    c {\n    }\n")?;
+    }
+    text.extend_from_slice(b"}\n")?;
+    assert_eq!(rt; shown(rt.alloc(), &text)?.bytes(), text.as_slice());
+    Ok(())
+}
