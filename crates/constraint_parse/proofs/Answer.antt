@@ -1,8 +1,8 @@
 -- From trees to constraints, and what the answers of the parser say.
-use Rattle.std.proofs.Common.{◌≡◌, List, ℕ, ◌+◌, ◌<◌, ◌≤◌, length, take, sym, ap, ◌∙◌, Result, Ok, Err, IsTrue, refl}
+use Rattle.std.proofs.Common.{◌≡◌, List, ℕ, sym, ap, ◌∙◌, Result, Ok, Err, IsTrue, refl}
 use Rattle.std.specs.Prelude.{MatchResult, IfOk, IfErr}
 use Rattle.std.specs.List.{list_all}
-use Rattle.viable.specs.Prefix.{Begins, is_byte}
+use Rattle.viable.specs.Prefix.{is_byte, IsFault}
 use Rattle.constraint_parse.specs.Values.{constraint_value, Spells}
 use Rattle.constraint_parse.specs.Refusals.{AtFault, Refuses}
 use Rattle.constraint_parse.specs.Slabs.{has_slabs}
@@ -33,12 +33,12 @@ pub slabs_of : (text : List ℕ) (r : Result Constraint ParseRefusal) → Answer
 slabs_of text (Ok c) h = rw h.2 (slabs_fit h.0.items)
 slabs_of text (Err e) h = tt
 
-pub viable_of : (text : List ℕ) (r : Result Constraint ParseRefusal) → Answers text r → IfErr r (AtFault (λ place. (place ≤ length text) × Begins is_byte Spells (take place text)))
-viable_of text (Ok c) h = tt
-viable_of text (Err (Syntax place)) h = (h.within, (h.viable.0, h.viable.1, constraint_value h.viable.2, (h.viable.2, h.viable.3, refl)))
-viable_of text (Err Memory) h = tt
-
-pub no_further_of : (text : List ℕ) (r : Result Constraint ParseRefusal) → Answers text r → IfErr r (AtFault (λ place. place < length text → ¬ (Begins is_byte Spells (take (place + 1) text))))
-no_further_of text (Ok c) h = tt
-no_further_of text (Err (Syntax place)) h = λ lt b. h.longest lt (b.0, b.1, b.3.0, b.3.1)
-no_further_of text (Err Memory) h = tt
+pub fault_of : (text : List ℕ) (r : Result Constraint ParseRefusal) → Answers text r → IfErr r (AtFault (IsFault is_byte Spells text))
+fault_of text (Ok c) h = tt
+fault_of text (Err (Syntax place)) h = record {
+  spells_none = λ c s. h.spells_none s.0 s.1;
+  within = h.within;
+  viable = (h.viable.0, h.viable.1, constraint_value h.viable.2, (h.viable.2, h.viable.3, refl));
+  longest = λ lt b. h.longest lt (b.0, b.1, b.3.0, b.3.1);
+}
+fault_of text (Err Memory) h = tt

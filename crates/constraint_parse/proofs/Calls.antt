@@ -5,8 +5,8 @@ use Rattle.std.proofs.lemmas.Bool.{cases_lt}
 use Rattle.std.proofs.lemmas.List.{drop_all}
 use Rattle.viable.proofs.Standing.{faults_inside}
 use Rattle.constraint_parse.specs.Language.{is_argument_byte, equal, not_equal, less, less_equal, greater, greater_equal, matches, Token, argument, operator, token_bytes, is_token, ConstraintTree, call_clause}
-use Rattle.constraint_parse.specs.Machine.{State, Stepped, Called, ClauseNamed, Clausal, step, with_last}
-use Rattle.constraint_parse.specs.Standing.{Rest, StandsAt, IsFaultAt, Lacks, ReadsCall}
+use Rattle.constraint_parse.specs.inner.Machine.{State, Stepped, Called, ClauseNamed, Clausal, step, with_last}
+use Rattle.constraint_parse.specs.inner.Standing.{Rest, StandsAt, IsFaultAt, Lacks, ReadsCall}
 use Rattle.viable.specs.Runs.{ends_with, IsRunTo}
 use Rattle.viable.proofs.Tests.{and_parts}
 use Rattle.constraint_parse.proofs.Bytes.{Opens, opened}

@@ -2,7 +2,7 @@
 use Rattle.std.proofs.Common.{◌≡◌, List, [], ◌∷◌, ◌++◌, ℕ, refl, sym, ap, ◌∙◌, append_assoc, append-nil, Some}
 use Rattle.std.specs.List.{flat_map}
 use Rattle.constraint_parse.specs.Language.{Token, name, word, quoted, operator, comma, ampersand, dot, open_brace, close_brace, Operator, SlabTree, index, range, strided, StepTree, ItemTree, path, call, ValueTree, text, bare, ClauseTree, compare, among, call_clause, ItemsTree, no_items, some_items, followed, slab_tokens, step_tokens, item_tokens, value_token, path_tokens, clause_tokens, items_tokens, constraint_tokens}
-use Rattle.constraint_parse.specs.Machine.{State, Start, Naming, Stepped, Called, ClauseNaming, Compared, Bracing, Braced, Clausal, read, tree_of, with_last}
+use Rattle.constraint_parse.specs.inner.Machine.{State, Start, Naming, Stepped, Called, ClauseNaming, Compared, Bracing, Braced, Clausal, read, tree_of, with_last}
 
 -- If each piece of tokens leads from a list to the list with one more, then all of them lead to the list with all.
 pieces_read : {A : Type 0} (at : List A → State) (tokens : A → List Token)

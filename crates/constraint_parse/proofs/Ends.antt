@@ -5,8 +5,8 @@ use Rattle.std.specs.Option.{option_and_then}
 use Rattle.viable.specs.inner.Standing.{SameHead}
 use Rattle.viable.proofs.Standing.{moves}
 use Rattle.constraint_parse.specs.Language.{is_blank, is_name_byte, Token, name, argument, comma, ampersand, dot, open_bracket, ConstraintTree, ItemTree, path, call, StepTree, SlabTree, no_items, some_items}
-use Rattle.constraint_parse.specs.Machine.{State, Start, Naming, Stepped, Called, Clausal, step, finish, read, step_of, with_last}
-use Rattle.constraint_parse.specs.Standing.{Rest, StandsAt, IsPlace, Lacks, StandsAfter, MayCall}
+use Rattle.constraint_parse.specs.inner.Machine.{State, Start, Naming, Stepped, Called, Clausal, step, finish, read, step_of, with_last}
+use Rattle.constraint_parse.specs.inner.Standing.{Rest, StandsAt, IsPlace, Lacks, StandsAfter, MayCall}
 use Rattle.constraint_parse.proofs.Bytes.{Opens, opened}
 use Rattle.constraint_parse.proofs.Places.{steps_of, next_byte, at_end, nothing_read}
 use Rattle.constraint_parse.proofs.Moves.{shut_by, stepped_comma, called_comma}

@@ -7,6 +7,7 @@ pub mod Ends
 pub mod Lists
 pub mod Marks
 pub mod Moves
+pub mod OneFault
 pub mod Operators
 pub mod Places
 pub mod Quotes

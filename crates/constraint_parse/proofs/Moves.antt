@@ -4,8 +4,8 @@ use Rattle.std.proofs.Common.{◌≡◌, List, [], ◌∷◌, ℕ, ◌+◌, ◌<
 use Rattle.std.proofs.lemmas.Bool.{cases_lt, not-true, eqb-true}
 use Rattle.constraint_parse.specs.Language.{is_digit, is_name_byte, Operator, equal, not_equal, less, less_equal, greater, greater_equal, matches, Token, name, number, argument, operator, comma, ampersand, dot, colon, open_bracket, close_bracket, open_brace, close_brace, ItemTree, path, call, StepTree, SlabTree, index, range, strided, ItemsTree, ClauseTree, ValueTree, among}
 use Rattle.viable.specs.Runs.{ends_with, IsRunTo}
-use Rattle.constraint_parse.specs.Machine.{State, Naming, Stepped, Opened, SecondOpened, ThirdOpened, Numbered, SecondNumbered, ThirdNumbered, Called, ClauseNaming, ClauseNamed, Compared, Bracing, Braced, Clausal, step, finish, step_of, with_last}
-use Rattle.constraint_parse.specs.Standing.{StandsAt, IsFaultAt, IsPlace, Lacks, ReadsName, ReadsNumber, StandsBehind}
+use Rattle.constraint_parse.specs.inner.Machine.{State, Naming, Stepped, Opened, SecondOpened, ThirdOpened, Numbered, SecondNumbered, ThirdNumbered, Called, ClauseNaming, ClauseNamed, Compared, Bracing, Braced, Clausal, step, finish, step_of, with_last}
+use Rattle.constraint_parse.specs.inner.Standing.{StandsAt, IsFaultAt, IsPlace, Lacks, ReadsName, ReadsNumber, StandsBehind}
 use Rattle.constraint_parse.proofs.Bytes.{name_not_blank, digit_not_blank, Opens}
 use Rattle.constraint_parse.proofs.Places.{mark_passes, run_passes, Shuts, byte_faults, end_faults}
 use Rattle.constraint_parse.proofs.Marks.{mark_open_bracket, mark_close_bracket, mark_comma, mark_ampersand, mark_open_brace, mark_close_brace, mark_dot, mark_colon}

@@ -5,8 +5,8 @@ use Rattle.std.proofs.lemmas.List.{drop_all}
 use Rattle.viable.specs.inner.Standing.{SameHead}
 use Rattle.viable.proofs.Standing.{faults_inside}
 use Rattle.constraint_parse.specs.Language.{is_blank, is_word_byte, Operator, equal, not_equal, less, less_equal, greater, greater_equal, matches, operator_bytes, Token, name, number, word, argument, quoted, operator, dot, open_brace, token_bytes, ItemsTree, ClauseTree, ConstraintTree}
-use Rattle.constraint_parse.specs.Machine.{State, ClauseNamed, Compared, step}
-use Rattle.constraint_parse.specs.Standing.{Rest, StandsAt, IsFaultAt, IsPlace, Lacks}
+use Rattle.constraint_parse.specs.inner.Machine.{State, ClauseNamed, Compared, step}
+use Rattle.constraint_parse.specs.inner.Standing.{Rest, StandsAt, IsFaultAt, IsPlace, Lacks}
 use Rattle.viable.specs.Runs.{ends_with}
 use Rattle.viable.proofs.Tests.{or_parts}
 use Rattle.constraint_parse.proofs.Bytes.{Opens, opened}

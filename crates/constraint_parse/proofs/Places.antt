@@ -10,8 +10,8 @@ use Rattle.viable.specs.Prefix.{is_byte}
 use Rattle.viable.proofs.Standing.{moves, faults_inside}
 use Rattle.constraint_parse.specs.Language.{is_blank, equal, Token, name, number, word, operator, close_bracket, close_brace, token_bytes, is_token, ConstraintTree, constraint_tokens, IsSpaced, IsTextOf}
 use Rattle.viable.specs.Runs.{is_run, ends_with, IsRunTo}
-use Rattle.constraint_parse.specs.Machine.{State, Start, Naming, Stepped, Opened, SecondOpened, ThirdOpened, Numbered, SecondNumbered, ThirdNumbered, Called, ClauseNaming, ClauseNamed, Compared, Bracing, Braced, Clausal, step, finish, read}
-use Rattle.constraint_parse.specs.Standing.{Rest, StandsAt, IsFaultAt}
+use Rattle.constraint_parse.specs.inner.Machine.{State, Start, Naming, Stepped, Opened, SecondOpened, ThirdOpened, Numbered, SecondNumbered, ThirdNumbered, Called, ClauseNaming, ClauseNamed, Compared, Bracing, Braced, Clausal, step, finish, read}
+use Rattle.constraint_parse.specs.inner.Standing.{Rest, StandsAt, IsFaultAt}
 use Rattle.constraint_parse.proofs.Bytes.{Opens, opened, token_head, first_token, blank_more, blank_less}
 use Rattle.constraint_parse.proofs.Complete.{complete}
 use Rattle.constraint_parse.proofs.Sound.{sound}

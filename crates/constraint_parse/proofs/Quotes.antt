@@ -11,8 +11,8 @@ use Rattle.viable.proofs.Standing.{faults_inside}
 use Rattle.viable.specs.Quoted.{Piece, escaped, is_piece}
 use Rattle.constraint_parse.specs.Language.{Token, quoted, operator, equal, not_equal, less, less_equal, greater, greater_equal, matches, token_bytes, is_token, ConstraintTree, compare}
 use Rattle.constraint_parse.specs.Language as language
-use Rattle.constraint_parse.specs.Machine.{State, Compared, Bracing, Braced, Clausal, step}
-use Rattle.constraint_parse.specs.Standing.{Rest, StandsAt, IsFaultAt, ReadsValue}
+use Rattle.constraint_parse.specs.inner.Machine.{State, Compared, Bracing, Braced, Clausal, step}
+use Rattle.constraint_parse.specs.inner.Standing.{Rest, StandsAt, IsFaultAt, ReadsValue}
 use Rattle.constraint_parse.proofs.Bytes.{Opens, opened}
 use Rattle.constraint_parse.proofs.Places.{steps_of, token_passes, next_byte, rest_back, live}
 

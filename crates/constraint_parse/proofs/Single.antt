@@ -5,8 +5,8 @@ use Rattle.std.proofs.lemmas.Option.{option_and_then_some}
 use Rattle.constraint_parse.specs.Language.{is_blank, is_digit, is_name_byte, is_word_byte, is_argument_byte, Operator, equal, less, greater, Token, name, number, word, argument, quoted, operator, comma, ampersand, dot, colon, open_bracket, close_bracket, open_brace, close_brace, operator_bytes, token_bytes, is_token, ConstraintTree, constraint_tokens, ItemsTree, ClauseTree, IsSpaced, IsTextOf}
 use Rattle.viable.specs.Quoted.{Piece, is_piece, spelling}
 use Rattle.viable.specs.Runs.{ends_with}
-use Rattle.constraint_parse.specs.Machine.{State, Start, Naming, Stepped, Opened, SecondOpened, ThirdOpened, Numbered, SecondNumbered, ClauseNaming, ClauseNamed, Compared, Bracing, step, read}
-use Rattle.constraint_parse.specs.Standing.{Rest, ReadsName, ReadsNumber, ReadsValue}
+use Rattle.constraint_parse.specs.inner.Machine.{State, Start, Naming, Stepped, Opened, SecondOpened, ThirdOpened, Numbered, SecondNumbered, ClauseNaming, ClauseNamed, Compared, Bracing, step, read}
+use Rattle.constraint_parse.specs.inner.Standing.{Rest, ReadsName, ReadsNumber, ReadsValue}
 use Rattle.viable.proofs.Tests.{and_parts}
 use Rattle.constraint_parse.proofs.Bytes.{name_not_blank, digit_not_blank, word_not_blank, Opens, opened, token_head}
 use Rattle.viable.proofs.Runs.{run_unique, run_valid}

@@ -4,7 +4,7 @@ use Rattle.std.specs.List.{flat_map}
 use Rattle.std.specs.Option.{option_and_then, IfSome}
 use Rattle.std.proofs.lemmas.Grind.{flat_map-append}
 use Rattle.constraint_parse.specs.Language.{Token, name, number, word, argument, quoted, operator, comma, ampersand, dot, colon, open_bracket, close_bracket, open_brace, close_brace, SlabTree, StepTree, ItemTree, ClauseTree, ItemsTree, ConstraintTree, followed, step_tokens, item_tokens, value_token, path_tokens, clause_tokens, items_tokens, constraint_tokens}
-use Rattle.constraint_parse.specs.Machine.{State, Start, Naming, Stepped, Opened, SecondOpened, ThirdOpened, Numbered, SecondNumbered, ThirdNumbered, Called, ClauseNaming, ClauseNamed, Compared, Bracing, Braced, Clausal, step, finish, read, step_of}
+use Rattle.constraint_parse.specs.inner.Machine.{State, Start, Naming, Stepped, Opened, SecondOpened, ThirdOpened, Numbered, SecondNumbered, ThirdNumbered, Called, ClauseNaming, ClauseNamed, Compared, Bracing, Braced, Clausal, step, finish, read, step_of}
 
 abbrev stepped : List ItemTree → List StepTree → List ℕ → List SlabTree → List Token
 stepped items steps n slabs = followed comma item_tokens items ++ (followed dot step_tokens steps ++ step_tokens (step_of n slabs))

@@ -6,8 +6,8 @@ use Rattle.viable.specs.Runs.{IsRunTo}
 use Rattle.dap_types.specs.Names.{constraint_id}
 use Rattle.constraint_parse.specs.declared.constraint.Constant.{Constant}
 use Rattle.constraint_parse.specs.Values.{comparison_value, compared_value, operator_value}
-use Rattle.constraint_parse.specs.Machine.{State, Compared, Bracing, Braced, Clausal, step, finish, with_last}
-use Rattle.constraint_parse.specs.Standing.{StandsAt, IsFaultAt, IsPlace, Lacks, StandsBehind, ReadsValue, ReadsValueOnly}
+use Rattle.constraint_parse.specs.inner.Machine.{State, Compared, Bracing, Braced, Clausal, step, finish, with_last}
+use Rattle.constraint_parse.specs.inner.Standing.{StandsAt, IsFaultAt, IsPlace, Lacks, StandsBehind, ReadsValue, ReadsValueOnly}
 use Rattle.constraint_parse.proofs.Bytes.{word_not_blank, Opens}
 use Rattle.constraint_parse.proofs.Places.{run_passes, Shuts}
 use Rattle.constraint_parse.proofs.Moves.{shut_by, is_some, state_faults}

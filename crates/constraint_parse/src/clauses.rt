@@ -3,8 +3,8 @@
 ghost use Rattle.std.specs.Prelude.{◌≡◌, ◌⊎◌, ℕ, ◌+◌, ◌<◌, ◌≤◌, List as Items, [], map, IfOk, MatchResult};
 ghost use Rattle.dap_types.specs.Names.{constraint_id};
 ghost use Rattle.constraint_parse.specs.Language.{ValueTree, value_token, Operator, quoted, path, ItemsTree, ClauseTree, among, name};
-ghost use Rattle.constraint_parse.specs.Machine.{State, ClauseNaming, ClauseNamed, Compared, Bracing, Clausal, with_last};
-ghost use Rattle.constraint_parse.specs.Standing.{StandsAt, IsPlace, Lacks, StandsBehind, ReadsValue, ReadsValueOnly};
+ghost use Rattle.constraint_parse.specs.inner.Machine.{State, ClauseNaming, ClauseNamed, Compared, Bracing, Clausal, with_last};
+ghost use Rattle.constraint_parse.specs.inner.Standing.{StandsAt, IsPlace, Lacks, StandsBehind, ReadsValue, ReadsValueOnly};
 ghost use Rattle.constraint_parse.specs.Values.{clause_value, value_constant, comparison_value, compared_value, operator_value};
 ghost use Rattle.constraint_parse.specs.Refusals.{Refuses};
 

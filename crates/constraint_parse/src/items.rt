@@ -3,8 +3,8 @@
 ghost use Rattle.std.specs.Prelude.{◌≡◌, ℕ, ◌+◌, ◌<◌, ◌≤◌, List as Items, [], length, map, IfOk, MatchResult, MatchBool, slice_index};
 ghost use Rattle.dap_types.specs.Names.{constraint_id};
 ghost use Rattle.constraint_parse.specs.Language.{SlabTree, StepTree, ItemTree, call, ItemsTree, name, number, argument};
-ghost use Rattle.constraint_parse.specs.Machine.{State, Naming, Stepped, Opened, Clausal, Start, with_last, step};
-ghost use Rattle.constraint_parse.specs.Standing.{StandsAt, IsPlace, Lacks, ReadsName, ReadsNumber, StandsBehind, StandsAfter, MayCall, ReadsCall};
+ghost use Rattle.constraint_parse.specs.inner.Machine.{State, Naming, Stepped, Opened, Clausal, Start, with_last, step};
+ghost use Rattle.constraint_parse.specs.inner.Standing.{StandsAt, IsPlace, Lacks, ReadsName, ReadsNumber, StandsBehind, StandsAfter, MayCall, ReadsCall};
 ghost use Rattle.constraint_parse.specs.Values.{number_value, slab_value, step_value, item_value, items_value};
 ghost use Rattle.constraint_parse.specs.Refusals.{Refuses};
 

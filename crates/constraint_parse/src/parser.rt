@@ -1,8 +1,8 @@
 //! The parser: one way through the text from its front, a function for each part of the grammar.
 
-ghost use Rattle.std.specs.Prelude.{◌≡◌, ◌+◌, ◌<◌, ◌≤◌, length, take, IsTrue, IfOk, IfErr, MatchResult};
+ghost use Rattle.std.specs.Prelude.{◌≡◌, IsTrue, IfOk, IfErr, MatchResult};
 ghost use Rattle.std.specs.List.{list_all};
-ghost use Rattle.viable.specs.Prefix.{Begins, is_byte};
+ghost use Rattle.viable.specs.Prefix.{is_byte, IsFault};
 ghost use Rattle.constraint_parse.specs.Refusals.{Refuses, AtFault};
 ghost use Rattle.constraint_parse.specs.Slabs.{has_slabs};
 ghost use Rattle.constraint_parse.specs.Values.{Spells};
@@ -38,11 +38,9 @@ pub fn parse(alloc: Global, text: &[u8]) -> Result<Constraint, ParseRefusal>
     // A slab has no negative number, and one in the middle only beside a last one.
     ensures slabs { IfOk result (λ constraint. IsTrue (list_all has_slabs constraint.items)) }
 
-    // The bytes before the place of a fault, with some more behind them, spell a constraint.
-    ensures viable { IfErr result (AtFault (λ place. (place ≤ length text.now) × Begins is_byte Spells (take place text.now))) }
-
-    // With the byte at that place they begin none, unless the text ends there.
-    ensures no_further { IfErr result (AtFault (λ place. place < length text.now → ¬ (Begins is_byte Spells (take (place + 1) text.now)))) }
+    // A text that spells none is refused at its fault: the bytes before it, with some more behind them,
+    // spell a constraint, and with the byte at its place they begin none.
+    ensures fault { IfErr result (AtFault (IsFault is_byte Spells text.now)) }
 {
     read(alloc, text)
 }

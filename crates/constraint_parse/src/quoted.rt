@@ -3,8 +3,8 @@
 ghost use Rattle.std.specs.Prelude.{◌≡◌, ◌+◌, ◌<◌, List as Items, length, IfOk, MatchResult, slice_index};
 ghost use Rattle.viable.specs.Quoted.{quoted_value, Piece};
 ghost use Rattle.constraint_parse.specs.Language.{quoted};
-ghost use Rattle.constraint_parse.specs.Machine.{State};
-ghost use Rattle.constraint_parse.specs.Standing.{StandsAt, IsPlace, StandsBehind, ReadsValue};
+ghost use Rattle.constraint_parse.specs.inner.Machine.{State};
+ghost use Rattle.constraint_parse.specs.inner.Standing.{StandsAt, IsPlace, StandsBehind, ReadsValue};
 ghost use Rattle.constraint_parse.specs.Refusals.{Refuses};
 
 use crate::ParseRefusal;

@@ -4,8 +4,8 @@ ghost use Rattle.std.specs.Prelude.{◌≡◌, ℕ, ◌+◌, ◌<◌, ◌≤◌,
 ghost use Rattle.std.specs.List.{list_all};
 ghost use Rattle.constraint_parse.specs.Language.{is_blank, is_digit, is_name_byte};
 ghost use Rattle.viable.specs.Runs.{is_run, IsRunTo};
-ghost use Rattle.constraint_parse.specs.Machine.{State};
-ghost use Rattle.constraint_parse.specs.Standing.{StandsAt, IsPlace, Lacks};
+ghost use Rattle.constraint_parse.specs.inner.Machine.{State};
+ghost use Rattle.constraint_parse.specs.inner.Standing.{StandsAt, IsPlace, Lacks};
 ghost use Rattle.constraint_parse.specs.Classes.{class_test};
 
 /// A class of bytes.

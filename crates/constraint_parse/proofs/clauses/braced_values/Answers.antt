@@ -1,6 +1,6 @@
 use Rattle.std.proofs.Common.{[], ◌∙◌, arith, inl}
 use Rattle.std.proofs.lemmas.Result.{err_from_is_err_and}
-use Rattle.constraint_parse.specs.Machine.{Bracing, with_last}
+use Rattle.constraint_parse.specs.inner.Machine.{Bracing, with_last}
 use Rattle.constraint_parse.specs.Values.{value_constant}
 use Rattle.constraint_parse.proofs.Moves.{braced_comma, braced_close}
 use Rattle.constraint_parse.proofs.Words.{bracing_behind, braced_faults}

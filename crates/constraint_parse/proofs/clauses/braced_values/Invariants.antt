@@ -1,7 +1,7 @@
 use Rattle.std.proofs.Common.{◌≡◌, ◌≤◌, ◌-◌, ℕ, List, [], map, length}
 use Rattle.constraint_parse.specs.Language.{ItemsTree, ClauseTree, Operator, ValueTree}
-use Rattle.constraint_parse.specs.Machine.{Bracing}
-use Rattle.constraint_parse.specs.Standing.{StandsAt, IsPlace}
+use Rattle.constraint_parse.specs.inner.Machine.{Bracing}
+use Rattle.constraint_parse.specs.inner.Standing.{StandsAt, IsPlace}
 use Rattle.constraint_parse.specs.Values.{value_constant}
 use Rattle.constraint_parse.proofs.clauses.braced_values.Given as goal
 

@@ -1,7 +1,7 @@
 use Rattle.std.proofs.Common.{[], sym, ◌∙◌, refl}
 use Rattle.std.proofs.lemmas.Result.{err_from_is_err_and}
 use Rattle.constraint_parse.specs.Language.{call_clause}
-use Rattle.constraint_parse.specs.Machine.{ClauseNaming, ClauseNamed, with_last}
+use Rattle.constraint_parse.specs.inner.Machine.{ClauseNaming, ClauseNamed, with_last}
 use Rattle.constraint_parse.proofs.Words.{comparison_is}
 use Rattle.constraint_parse.proofs.clauses.clause.Goals as goal
 

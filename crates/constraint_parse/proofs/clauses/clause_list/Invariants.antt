@@ -1,7 +1,7 @@
 use Rattle.std.proofs.Common.{◌≡◌, ◌-◌, List, [], map, length}
 use Rattle.constraint_parse.specs.Language.{ClauseTree, ItemsTree}
-use Rattle.constraint_parse.specs.Machine.{Clausal}
-use Rattle.constraint_parse.specs.Standing.{StandsAt, IsPlace}
+use Rattle.constraint_parse.specs.inner.Machine.{Clausal}
+use Rattle.constraint_parse.specs.inner.Standing.{StandsAt, IsPlace}
 use Rattle.constraint_parse.specs.Values.{clause_value}
 use Rattle.constraint_parse.proofs.clauses.clause_list.Given as goal
 

@@ -1,7 +1,7 @@
 use Rattle.std.proofs.Common.{[], ap, sym, ◌∙◌, inr}
 use Rattle.std.proofs.lemmas.Result.{err_from_is_err_and}
 use Rattle.constraint_parse.specs.Language.{among, compare}
-use Rattle.constraint_parse.specs.Machine.{Compared, with_last}
+use Rattle.constraint_parse.specs.inner.Machine.{Compared, with_last}
 use Rattle.constraint_parse.specs.Values.{value_constant, compared_value}
 use Rattle.constraint_parse.proofs.Moves.{compared_open}
 use Rattle.constraint_parse.proofs.Words.{compared_behind}

@@ -1,7 +1,7 @@
 use Rattle.std.proofs.Common.{[], ◌∙◌, arith, refl}
 use Rattle.std.proofs.lemmas.Result.{err_from_is_err_and}
 use Rattle.dap_types.specs.Names.{constraint_id}
-use Rattle.constraint_parse.specs.Machine.{ClauseNaming, with_last}
+use Rattle.constraint_parse.specs.inner.Machine.{ClauseNaming, with_last}
 use Rattle.constraint_parse.proofs.Moves.{clause_named_dot}
 use Rattle.constraint_parse.proofs.Lists.{map_with_last, not_empty}
 use Rattle.constraint_parse.proofs.clauses.more_labels.Goals as goal

@@ -1,8 +1,8 @@
 use Rattle.std.proofs.Common.{◌≡◌, ◌≤◌, ◌-◌, ℕ, List, [], map, length}
 use Rattle.dap_types.specs.Names.{constraint_id}
 use Rattle.constraint_parse.specs.Language.{ItemsTree, ClauseTree}
-use Rattle.constraint_parse.specs.Machine.{ClauseNamed, with_last}
-use Rattle.constraint_parse.specs.Standing.{StandsAt, IsPlace, Lacks}
+use Rattle.constraint_parse.specs.inner.Machine.{ClauseNamed, with_last}
+use Rattle.constraint_parse.specs.inner.Standing.{StandsAt, IsPlace, Lacks}
 use Rattle.constraint_parse.proofs.clauses.more_labels.Given as goal
 
 abbrev pub invariant-dots : goal.invariant-dots

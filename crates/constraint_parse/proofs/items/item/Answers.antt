@@ -1,8 +1,8 @@
 use Rattle.std.proofs.Common.{List, [], ◌≡◌, ap, sym, ◌∙◌, subst, refl, map}
 use Rattle.std.proofs.lemmas.Result.{err_from_is_err_and}
 use Rattle.constraint_parse.specs.Language.{SlabTree, path, call}
-use Rattle.constraint_parse.specs.Machine.{Stepped}
-use Rattle.constraint_parse.specs.Standing.{StandsAt}
+use Rattle.constraint_parse.specs.inner.Machine.{Stepped}
+use Rattle.constraint_parse.specs.inner.Standing.{StandsAt}
 use Rattle.constraint_parse.specs.Values.{slab_value}
 use Rattle.constraint_parse.specs.declared.constraint.Step.{Step}
 use Rattle.constraint_parse.specs.declared.constraint.Item.TheVariants.{Path}

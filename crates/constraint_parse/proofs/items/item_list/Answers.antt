@@ -1,6 +1,6 @@
 use Rattle.std.proofs.Common.{[], ◌∙◌}
 use Rattle.std.proofs.lemmas.Result.{err_from_is_err_and}
-use Rattle.constraint_parse.specs.Machine.{with_last}
+use Rattle.constraint_parse.specs.inner.Machine.{with_last}
 use Rattle.constraint_parse.specs.Values.{item_value}
 use Rattle.constraint_parse.proofs.Ends.{after_comma}
 use Rattle.constraint_parse.proofs.Lists.{map_with_last}

@@ -1,7 +1,7 @@
 use Rattle.std.proofs.Common.{◌≡◌, ◌-◌, List, [], map, length}
 use Rattle.constraint_parse.specs.Language.{ItemTree}
-use Rattle.constraint_parse.specs.Machine.{Naming, with_last}
-use Rattle.constraint_parse.specs.Standing.{StandsAt, StandsAfter, IsPlace}
+use Rattle.constraint_parse.specs.inner.Machine.{Naming, with_last}
+use Rattle.constraint_parse.specs.inner.Standing.{StandsAt, StandsAfter, IsPlace}
 use Rattle.constraint_parse.specs.Values.{item_value}
 use Rattle.constraint_parse.proofs.items.item_list.Given as goal
 

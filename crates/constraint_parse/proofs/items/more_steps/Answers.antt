@@ -1,6 +1,6 @@
 use Rattle.std.proofs.Common.{[], ◌∙◌, arith}
 use Rattle.std.proofs.lemmas.Result.{err_from_is_err_and}
-use Rattle.constraint_parse.specs.Machine.{with_last}
+use Rattle.constraint_parse.specs.inner.Machine.{with_last}
 use Rattle.constraint_parse.specs.Values.{step_value}
 use Rattle.constraint_parse.proofs.Moves.{stepped_dot}
 use Rattle.constraint_parse.proofs.Lists.{map_with_last, not_empty}

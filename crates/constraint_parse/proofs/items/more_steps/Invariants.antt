@@ -1,7 +1,7 @@
 use Rattle.std.proofs.Common.{◌≡◌, ◌≤◌, ◌-◌, List, [], map, length}
 use Rattle.constraint_parse.specs.Language.{StepTree, ItemTree}
-use Rattle.constraint_parse.specs.Machine.{Stepped, with_last}
-use Rattle.constraint_parse.specs.Standing.{StandsAt, IsPlace, Lacks, MayCall}
+use Rattle.constraint_parse.specs.inner.Machine.{Stepped, with_last}
+use Rattle.constraint_parse.specs.inner.Standing.{StandsAt, IsPlace, Lacks, MayCall}
 use Rattle.constraint_parse.specs.Values.{step_value}
 use Rattle.constraint_parse.proofs.items.more_steps.Given as goal
 

@@ -1,6 +1,6 @@
 use Rattle.std.proofs.Common.{refl}
 use Rattle.std.proofs.lemmas.Result.{err_from_is_err_and}
-use Rattle.constraint_parse.specs.Machine.{Naming, step_of}
+use Rattle.constraint_parse.specs.inner.Machine.{Naming, step_of}
 use Rattle.constraint_parse.proofs.items.path_step.Goals as goal
 
 pub returns-in_err-name-clause-spelled : goal.returns-in_err-name-clause-spelled

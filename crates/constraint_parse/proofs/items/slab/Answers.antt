@@ -1,7 +1,7 @@
 use Rattle.std.proofs.Common.{refl}
 use Rattle.std.proofs.lemmas.Result.{err_from_is_err_and}
 use Rattle.constraint_parse.specs.Language.{index, range, strided}
-use Rattle.constraint_parse.specs.Machine.{Opened, SecondOpened, ThirdOpened}
+use Rattle.constraint_parse.specs.inner.Machine.{Opened, SecondOpened, ThirdOpened}
 use Rattle.constraint_parse.proofs.Moves.{numbered_close, numbered2_close, numbered3_close, numbered_colon, numbered2_colon, numbered_faults, numbered2_faults, numbered3_faults}
 use Rattle.constraint_parse.proofs.items.slab.Goals as goal
 

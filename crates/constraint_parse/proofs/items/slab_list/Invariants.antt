@@ -1,7 +1,7 @@
 use Rattle.std.proofs.Common.{◌≡◌, ◌≤◌, ◌-◌, ℕ, List, [], map, length}
 use Rattle.constraint_parse.specs.Language.{SlabTree, StepTree, ItemTree}
-use Rattle.constraint_parse.specs.Machine.{Stepped}
-use Rattle.constraint_parse.specs.Standing.{StandsAt, IsPlace}
+use Rattle.constraint_parse.specs.inner.Machine.{Stepped}
+use Rattle.constraint_parse.specs.inner.Standing.{StandsAt, IsPlace}
 use Rattle.constraint_parse.specs.Values.{slab_value}
 use Rattle.constraint_parse.proofs.items.slab_list.Given as goal
 

@@ -1,6 +1,6 @@
 use Rattle.std.proofs.Common.{refl}
 use Rattle.std.proofs.lemmas.Result.{err_from_is_err_and}
-use Rattle.constraint_parse.specs.Machine.{Start, tree_of}
+use Rattle.constraint_parse.specs.inner.Machine.{Start, tree_of}
 use Rattle.constraint_parse.proofs.Places.{starts, accepts}
 use Rattle.constraint_parse.proofs.Moves.{clausal_faults}
 use Rattle.constraint_parse.proofs.parser.read.Goals as goal

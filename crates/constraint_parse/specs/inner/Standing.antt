@@ -3,7 +3,7 @@ use Rattle.std.specs.Prelude.{◌≡◌, ◌≢◌, ℕ, not, List, [], ◌<◌,
 use Rattle.viable.specs.inner.Standing.{Stands}
 use Rattle.viable.specs.Prefix.{is_byte, IsFault}
 use Rattle.constraint_parse.specs.Language.{is_blank, Token, ConstraintTree, IsSpaced, IsTextOf, SlabTree, StepTree, ItemTree, path, call}
-use Rattle.constraint_parse.specs.Machine.{State, Naming, Stepped, Opened, SecondOpened, ThirdOpened, Called, ClauseNaming, ClauseNamed, Compared, Bracing, step, read}
+use Rattle.constraint_parse.specs.inner.Machine.{State, Naming, Stepped, Opened, SecondOpened, ThirdOpened, Called, ClauseNaming, ClauseNamed, Compared, Bracing, step, read}
 
 -- what may follow in a state
 abbrev pub Rest : State → List ℕ → ConstraintTree → Type 0
