@@ -4,7 +4,8 @@ use Rattle.std.specs.Prelude.{option_map, option_and_then, slice_get}
 use Rattle.std.specs.Option.{option_map_or}
 use Rattle.dap_types.specs.declared.slabs.Layout.{Layout}
 use Rattle.netcdf_source.specs.Layouts.{layout_of}
-use Rattle.netcdf_source.specs.Mapping.{is_char, leaf_in, leaves_from, leaf_variable}
+use Rattle.netcdf_source.specs.Mapping.{base_of, is_char, leaf_in, leaves_from, leaf_variable}
+use Rattle.dap_types.specs.declared.declarations.BaseType.{BaseType}
 use Rattle.netcdf_source.specs.declared.header.Contents.{Contents}
 
 pub slice_get-map : {X Y : Type 0} (f : X → Y) (xs : List X) (i : ℕ) → slice_get (map f xs) i ≡ option_map f (slice_get xs i)
@@ -30,6 +31,13 @@ char_found c leaves leaf number r e is at = at ∙ ap (λ o. option_map_or is_ch
 
 pub char_none : (c : Contents) (leaves : List (Option ℕ)) (leaf : ℕ) → leaves ≡ leaves_from c 0 c.variables → leaf_in leaves leaf ≡ None → option_map_or is_char (leaf_variable c leaf) false ≡ false
 char_none c leaves leaf e is = ap (λ o. option_map_or is_char o false) (variable_is c leaves leaf None e is)
+
+pub base_found : (c : Contents) (leaves : List (Option ℕ)) (leaf number : ℕ) (r : Option BaseType)
+    → leaves ≡ leaves_from c 0 c.variables → leaf_in leaves leaf ≡ Some number → r ≡ option_map (λ v. base_of v.external_type) (slice_get c.variables number) → r ≡ option_map (λ v. base_of v.external_type) (leaf_variable c leaf)
+base_found c leaves leaf number r e is at = at ∙ ap (option_map (λ v. base_of v.external_type)) (sym (variable_is c leaves leaf (Some number) e is))
+
+pub base_none : (c : Contents) (leaves : List (Option ℕ)) (leaf : ℕ) → leaves ≡ leaves_from c 0 c.variables → leaf_in leaves leaf ≡ None → ◌≡◌ {A = Option BaseType} (option_map (λ v. base_of v.external_type) (leaf_variable c leaf)) None
+base_none c leaves leaf e is = ap (option_map (λ v. base_of v.external_type)) (variable_is c leaves leaf None e is)
 
 -- what stands at an index of a list that is mapped
 pub mapped_at : {X Y : Type 0} (f : X → Y) (xs : List X) (ys : List Y) (i : ℕ) (x : X) (y : Y) → ys ≡ map f xs → i < length xs → get_or ys i y ≡ f (get_or xs i x)

@@ -24,3 +24,4 @@ pub mod Shaped
 pub mod Zeros
 pub mod AttributeValues
 pub mod NewNames
+pub mod Counted

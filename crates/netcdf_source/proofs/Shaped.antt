@@ -33,7 +33,7 @@ steps_len step size (n ∷ ns) = go (eqb n 0)
     go true = ap suc (length-row_steps size ns)
     go false = length-row_steps size (n ∷ ns)
 
-has_steps : (c : Contents) (v : Variable) → length (steps_of c v) ≡ length (element_dimensions c v)
+pub has_steps : (c : Contents) (v : Variable) → length (steps_of c v) ≡ length (element_dimensions c v)
 unfolding steps_of
 has_steps c v = steps_len (record_size c.dimensions c.variables) (element_size c v) (lengths c.dimensions (element_dimensions c v)) ∙ length_of_map c.dimensions (element_dimensions c v)
 

@@ -29,8 +29,9 @@ fn value_base(external_type: ExternalType) -> BaseType
 }
 
 /// A text without the zero bytes at its end.
-fn without_zeros(bytes: &[u8]) -> &[u8]
-    ensures { result.now ≡ without_zeros bytes.now }
+pub fn without_zeros(bytes: &[u8]) -> &[u8]
+    ensures same { result.now ≡ without_zeros bytes.now }
+    ensures shorter { length result.now ≤ length bytes.now }
 {
     let mut end = bytes.len();
     while end > 0 && bytes[end - 1] == 0 {

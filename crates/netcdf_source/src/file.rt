@@ -1,11 +1,11 @@
-ghost use Rattle.std.specs.Prelude.{◌≡◌, ℕ, ◌+◌, Bool, false, None, IfOk, option_map, slice_get};
+ghost use Rattle.std.specs.Prelude.{◌≡◌, ℕ, ◌+◌, ◌<◌, ◌^◌, Bool, false, None, IfOk, length, option_map, slice_get};
 ghost use Rattle.std.specs.Option.{option_copied, option_map_or};
 ghost use Rattle.dap_types.specs.View.{dataset_view};
 ghost use Rattle.dap_types.specs.WellFormed.{IsWellFormed};
 ghost use Rattle.das_text.specs.View.{attributes_view};
 ghost use Rattle.netcdf_source.specs.Attributes.{attributes_of};
 ghost use Rattle.netcdf_source.specs.Layouts.{layout_of, LeafIsPlaced, LeafIsShaped};
-ghost use Rattle.netcdf_source.specs.Mapping.{dataset_of, is_char, leaf_variable};
+ghost use Rattle.netcdf_source.specs.Mapping.{base_of, dataset_of, is_char, leaf_variable, leaves_from};
 ghost use Rattle.netcdf_source.specs.Parts.{past_end, record_size};
 ghost use Rattle.netcdf_source.specs.Sound.{IsSound};
 
@@ -14,9 +14,9 @@ use crate::das::attributes_of;
 use crate::header::Contents;
 use crate::layouts::layouts;
 use crate::leaves::{leaf_in, leaves};
-use crate::mapping::{dataset_of, grids};
+use crate::mapping::{base_of, dataset_of, grids};
 use crate::texts::is_char;
-use dap_types::{Dataset, Layout, List, Memory};
+use dap_types::{BaseType, Dataset, Layout, List, Memory};
 use das_text::Attributes;
 use std::alloc::Global;
 use std::marker::Model;
@@ -39,7 +39,7 @@ pub struct Header {
 }
 
 impl Model for Header {
-    ghost use Rattle.std.specs.Prelude.{◌≡◌, None, map};
+    ghost use Rattle.std.specs.Prelude.{◌≡◌, ◌<◌, ◌^◌, None, map};
     ghost use Rattle.netcdf_source.specs.Coordinates.{AreCoordinates};
     ghost use Rattle.netcdf_source.specs.File.{FileHeader};
     ghost use Rattle.netcdf_source.specs.Layouts.{layout_of};
@@ -55,7 +55,8 @@ impl Model for Header {
         × AreCoordinates h.contents h.coordinates.items
         × (h.leaves.items ≡ leaves_from h.contents 0 h.contents.variables)
         × (h.layouts ≡ map (layout_of h.contents) h.contents.variables)
-        × (h.grids.items ≡ map (is_grid h.contents) h.contents.variables) };
+        × (h.grids.items ≡ map (is_grid h.contents) h.contents.variables)
+        × (h.length < 2 ^ 63) };
 }
 
 impl Header {
@@ -69,6 +70,7 @@ impl Header {
         requires sound { IsSound contents }
         requires record { step ≡ record_size contents.dimensions contents.variables }
         requires within { past_end contents length ≡ None }
+        requires length { length < 2 ^ 63 }
         ensures contents { IfOk result (λ h. h.contents ≡ contents) }
         ensures length { IfOk result (λ h. h.length ≡ length) }
     {
@@ -111,10 +113,29 @@ impl Header {
         attributes_of(alloc, &self.contents)
     }
 
+    /// How many members the dataset has, which are numbered from 1.
+    pub fn members(&self) -> u32
+        ensures { result ≡ length (leaves_from self.now.contents 0 self.now.contents.variables) }
+    {
+        self.leaves.len() as u32
+    }
+
+    /// The type of the elements of a leaf, `leaf` being its number as a member of the dataset. None
+    /// where that member is no leaf.
+    pub fn base(&self, leaf: u32) -> Option<BaseType>
+        ensures { result ≡ option_map (λ v. base_of v.external_type) (leaf_variable self.now.contents leaf) }
+    {
+        match leaf_in(&self.leaves, leaf) {
+            Some(number) => base_at(&self.contents, number),
+            None => None,
+        }
+    }
+
     /// Where the elements of a leaf stand in the file, `leaf` being its number as a member of the
     /// dataset, from 1. None where that member is no leaf.
     pub fn layout(&self, leaf: u32) -> Option<&Layout>
         ensures leaf { option_copied result ≡ option_map (layout_of self.now.contents) (leaf_variable self.now.contents leaf) }
+        ensures below { self.now.length < 2 ^ 63 }
         ensures placed { LeafIsPlaced self.now.contents self.now.length leaf (option_copied result) }
         ensures shaped { LeafIsShaped self.now.contents leaf (option_copied result) }
     {
@@ -149,5 +170,15 @@ fn is_char_at(contents: &Contents, number: u32) -> bool
     match contents.variables.items().get(number as usize) {
         Some(variable) => is_char(variable),
         None => false,
+    }
+}
+
+/// The type of the elements of the variable with that number.
+fn base_at(contents: &Contents, number: u32) -> Option<BaseType>
+    ensures { result ≡ option_map (λ v. base_of v.external_type) (slice_get contents.now.variables number) }
+{
+    match contents.variables.items().get(number as usize) {
+        Some(variable) => Some(base_of(variable.external_type)),
+        None => None,
     }
 }

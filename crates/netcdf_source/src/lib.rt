@@ -26,6 +26,7 @@ mod texts;
 mod variables;
 mod words;
 
+pub use das::without_zeros;
 pub use external_type::ExternalType;
 pub use file::Header;
 pub use header::{Attribute, Dimension, Variable};

@@ -17,7 +17,7 @@ use file_names::dataset_id;
 use std::alloc::Global;
 
 /// The DAP type of values of a type. A char is a part of a String.
-fn base_of(external_type: ExternalType) -> BaseType
+pub fn base_of(external_type: ExternalType) -> BaseType
     ensures { result ≡ base_of external_type }
 {
     match external_type {

@@ -90,7 +90,8 @@ fn judge(
     whole: u64,
     file_len: u64,
 ) -> Result<Header, HeaderRefusal>
-    requires { length body.now ≤ 1048576 }
+    requires body { length body.now ≤ 1048576 }
+    requires file_len { file_len < 2 ^ 63 }
     ensures verdict { Answers result (verdict version body.now whole file_len) }
     ensures length { IfOk result (λ h. h.length ≡ file_len) }
 {

@@ -9,8 +9,8 @@ loop-end-preserved c = record {
   same = zero-before _ _ c.loop-end-test.true c.loop-end.invariant.within c.if-bytes-end-eq0.true ∙ c.loop-end.invariant.same;
 }
 
-pub returns : goal.returns
-returns c =
+pub returns-clause-same : goal.returns-clause-same
+returns-clause-same c =
     elim c.loop-end-test.branch [
       | then-loop-end-test+else-bytes-end-eq0 w ↦ sym (other-before _ _ w.loop-end-test.true c.loop-end.invariant.within w.if-bytes-end-eq0.false) ∙ c.loop-end.invariant.same
       | else-loop-end-test w ↦ sym (none-before _ _ w.loop-end-test.false) ∙ c.loop-end.invariant.same

@@ -7,16 +7,16 @@ use Rattle.netcdf_source.proofs.Records.{sound_sizes, sound_shares}
 use Rattle.netcdf_source.proofs.read.judge.Goals as goal
 
 pub record_size-step-requires-clause-sizes : goal.record_size-step-requires-clause-sizes
-record_size-step-requires-clause-sizes c = rw (c.items-in-Ok.ensures, c.items.ensures) (sound_sizes c.in-Ok.contents (read_sound c.args.version c.args.body.now c.in-Ok.contents c.in-Ok.field-0-1.now (λ i. omega (arith, c.type_inv.body i)) c.requires c.in-Ok.ensures))
+record_size-step-requires-clause-sizes c = rw (c.items-in-Ok.ensures, c.items.ensures) (sound_sizes c.in-Ok.contents (read_sound c.args.version c.args.body.now c.in-Ok.contents c.in-Ok.field-0-1.now (λ i. omega (arith, c.type_inv.body i)) c.requires.body c.in-Ok.ensures))
 
 pub record_size-step-requires-clause-count : goal.record_size-step-requires-clause-count
-record_size-step-requires-clause-count c = rw c.items-in-Ok.ensures ((read_sound c.args.version c.args.body.now c.in-Ok.contents c.in-Ok.field-0-1.now (λ i. omega (arith, c.type_inv.body i)) c.requires c.in-Ok.ensures).count)
+record_size-step-requires-clause-count c = rw c.items-in-Ok.ensures ((read_sound c.args.version c.args.body.now c.in-Ok.contents c.in-Ok.field-0-1.now (λ i. omega (arith, c.type_inv.body i)) c.requires.body c.in-Ok.ensures).count)
 
 pub record_size-step-requires-clause-sum : goal.record_size-step-requires-clause-sum
-record_size-step-requires-clause-sum c = rw (c.items-in-Ok.ensures, c.items.ensures) (sound_shares c.in-Ok.contents (read_sound c.args.version c.args.body.now c.in-Ok.contents c.in-Ok.field-0-1.now (λ i. omega (arith, c.type_inv.body i)) c.requires c.in-Ok.ensures))
+record_size-step-requires-clause-sum c = rw (c.items-in-Ok.ensures, c.items.ensures) (sound_shares c.in-Ok.contents (read_sound c.args.version c.args.body.now c.in-Ok.contents c.in-Ok.field-0-1.now (λ i. omega (arith, c.type_inv.body i)) c.requires.body c.in-Ok.ensures))
 
 pub past_end-requires-clause-sound : goal.past_end-requires-clause-sound
-past_end-requires-clause-sound c = read_sound c.args.version c.args.body.now c.in-Ok.contents c.in-Ok.field-0-1.now (λ i. omega (arith, c.type_inv.body i)) c.requires c.in-Ok.ensures
+past_end-requires-clause-sound c = read_sound c.args.version c.args.body.now c.in-Ok.contents c.in-Ok.field-0-1.now (λ i. omega (arith, c.type_inv.body i)) c.requires.body c.in-Ok.ensures
 
 pub returns-in-Err-Failed-clause-verdict : goal.returns-in-Err-Failed-clause-verdict
 unfolding verdict
@@ -32,7 +32,7 @@ returns-in-Some-clause-verdict c =
     inr (rw (c.in-Ok.ensures, past) refl)
 
 pub new-requires-clause-sound : goal.new-requires-clause-sound
-new-requires-clause-sound c = read_sound c.args.version c.args.body.now c.in-Ok.contents c.in-Ok.field-0-1.now (λ i. omega (arith, c.type_inv.body i)) c.requires c.in-Ok.ensures
+new-requires-clause-sound c = read_sound c.args.version c.args.body.now c.in-Ok.contents c.in-Ok.field-0-1.now (λ i. omega (arith, c.type_inv.body i)) c.requires.body c.in-Ok.ensures
 
 pub returns-in_ok-new-in-None-clause-verdict : goal.returns-in_ok-new-in-None-clause-verdict
 unfolding verdict
