@@ -1,11 +1,33 @@
-//! The bytes of a data response. Words and strings, and a table with its dataset, come in; the forms of
-//! XDR go out (RFC 4506), and the body with the DDS before them (DAP 2.0). They are `word`,
-//! `string_fields` and `body` of `dap_model`.
+//! The bytes of a data response (DAP 2.0, DODS). A netCDF header or a table comes in with the marks of a
+//! constraint; the DDS, the line `Data:` and the values as XDR (RFC 4506) go out to a sink, the file read
+//! in batches. They are `body` of `dap_model` over what the constraint leaves of the dataset.
 #![tactic(auto)]
 
-mod cells;
+mod array;
+mod body;
+mod buffered;
+mod elements;
+mod fault;
+mod fetch;
+mod kept;
+pub mod laws;
+mod leaf;
+mod leaves;
+mod make;
+mod numbers;
+mod plans;
 mod put;
+mod refusal;
+mod scalar;
+mod stream;
+mod streamed;
 mod table;
+mod table_rows;
+mod texts;
+mod wanted;
 
+pub use body::Body;
 pub use put::{put_string, put_word};
+pub use refusal::BodyRefusal;
+pub use streamed::Streamed;
 pub use table::table_body;
