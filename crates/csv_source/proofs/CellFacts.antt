@@ -7,7 +7,7 @@ use Rattle.dap_types.specs.declared.declarations.BaseType.TheVariants.{Byte, Int
 use Rattle.dap_types.specs.declared.declarations.Column.{Column}
 use Rattle.dap_types.specs.declared.values.Value.TheVariants as values
 use Rattle.csv_source.specs.Cells.{cell_value, is_cell, is_whole, whole_of}
-use Rattle.csv_source.specs.Held.{IsHeld, fields_in, held_rows}
+use Rattle.csv_source.specs.inner.Held.{IsHeld, fields_in, held_rows}
 use Rattle.csv_source.proofs.KeptFields.{field-short, fields-length, index-there}
 use Rattle.csv_source.proofs.Rows.{held-cell, held-count}
 use Rattle.csv_source.proofs.Wholes.{bits-small, whole-fits}

@@ -3,7 +3,7 @@ use Rattle.std.proofs.Common.{◌≡◌, ◌≤◌, ◌<◌, ◌+◌, ◌-◌, �
 use Rattle.std.specs.Prelude.{slice_get}
 use Rattle.std.proofs.lemmas.List.{drop-append-le, length-drop, drop_all, take-append-le, take_all}
 use Rattle.std.proofs.Common.{length-take}
-use Rattle.csv_source.specs.Held.{AreEnds, begin_of, fields_from, total, total_all}
+use Rattle.csv_source.specs.inner.Held.{AreEnds, begin_of, fields_from, total, total_all}
 
 pub ends-le : (start : ℕ) (ends : List ℕ) (last : ℕ) → AreEnds start ends last → start ≤ last
 unfolding AreEnds

@@ -6,8 +6,8 @@ use Rattle.csv.specs.declared.reader.Reader.{Reader}
 use Rattle.dap_types.specs.declared.declarations.Column.{Column}
 use Rattle.csv_source.specs.Causes.{is_row, row_cause}
 use Rattle.csv_source.specs.Csv.{csv_records}
-use Rattle.csv_source.specs.Held.{rows_of, total, total_all}
-use Rattle.csv_source.specs.Standing.{HasBadRow, Stands}
+use Rattle.csv_source.specs.inner.Held.{rows_of, total, total_all}
+use Rattle.csv_source.specs.inner.Standing.{HasBadRow, Stands}
 use Rattle.csv_source.specs.declared.refusal.TableRefusal.{TableRefusal}
 use Rattle.csv_source.proofs.KeptFields.{total_all-append, total_all-cons, total_all-one}
 use Rattle.csv_source.proofs.RowCauses.{rows-after, rows-hit}

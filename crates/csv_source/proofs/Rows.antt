@@ -7,7 +7,7 @@ use Rattle.std.proofs.lemmas.List.Elements.{All-cons}
 use Rattle.dap_types.specs.declared.declarations.Column.{Column}
 use Rattle.csv_source.specs.Causes.{is_row, row_values}
 use Rattle.csv_source.specs.Cells.{is_cell, cell_value}
-use Rattle.csv_source.specs.Held.{held_rows, rows_of}
+use Rattle.csv_source.specs.inner.Held.{held_rows, rows_of}
 use Rattle.dap_model.proofs.Tests.{both_true}
 
 -- a row more

@@ -9,7 +9,7 @@ use Rattle.csv.specs.declared.parser.Action.TheVariants as act
 use Rattle.csv.specs.declared.parser.Config.{Config}
 use Rattle.csv.specs.declared.parser.State.{State}
 use Rattle.csv.specs.declared.parser.State.TheVariants as st
-use Rattle.csv_source.specs.Held.{total, total_all}
+use Rattle.csv_source.specs.inner.Held.{total, total_all}
 use Rattle.csv_source.proofs.KeptFields.{total-append, total-one}
 use Rattle.csv_source.proofs.Recorded.{next-shrinks}
 

@@ -9,9 +9,9 @@ use Rattle.csv.specs.declared.reader.Trim.TheVariants as trim
 use Rattle.csv.specs.declared.parser.State.TheVariants as st
 use Rattle.csv.specs.declared.reader.Reader.{Reader}
 use Rattle.csv_source.specs.Csv.{csv_records}
-use Rattle.csv_source.specs.Standing.{Stands}
+use Rattle.csv_source.specs.inner.Standing.{Stands}
 use Rattle.csv_source.proofs.Recorded.{reached-bound, recorded, recorded-front}
-use Rattle.csv_source.specs.Held.{total_all}
+use Rattle.csv_source.specs.inner.Held.{total_all}
 use Rattle.csv_source.proofs.Sizes.{reached-total, strip_bom-shorter}
 
 -- the records so far are the first ones

@@ -9,8 +9,8 @@ use Rattle.dap_types.specs.declared.declarations.Column.{Column}
 use Rattle.csv_source.specs.Causes.{is_row, ok_unless, row_values, rows_cause, table_cause, table_of, table_of_records}
 use Rattle.csv_source.specs.Csv.{csv_records}
 use Rattle.csv_source.specs.Header.{columns_of, repeated}
-use Rattle.csv_source.specs.Held.{held_rows, rows_of}
-use Rattle.csv_source.specs.Standing.{HasBadRow}
+use Rattle.csv_source.specs.inner.Held.{held_rows, rows_of}
+use Rattle.csv_source.specs.inner.Standing.{HasBadRow}
 use Rattle.csv_source.specs.Table.{table}
 use Rattle.csv_source.specs.declared.refusal.TableRefusal.{TableRefusal}
 use Rattle.csv_source.specs.declared.refusal.TableRefusal.TheVariants.{NoHeader, RepeatedColumn, TooLong, TooWide}

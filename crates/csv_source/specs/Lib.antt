@@ -8,6 +8,5 @@ pub mod Causes
 pub mod FirstCause
 pub mod Dataset
 pub mod Lent
-pub mod Held
-pub mod Standing
 pub mod Laws
+pub mod inner

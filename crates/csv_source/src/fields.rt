@@ -1,7 +1,7 @@
 //! Fields that are kept: all their bytes in one text, and four bytes for each.
 
 ghost use Rattle.std.specs.Prelude.{◌≡◌, ◌<◌, ◌≤◌, ◌+◌, ◌-◌, ◌^◌, ◌++◌, ◌∷◌, [], Some, length, take, drop, slice_get, IfOk, OnOk};
-ghost use Rattle.csv_source.specs.Held.{AreEnds, begin_of, fields_in};
+ghost use Rattle.csv_source.specs.inner.Held.{AreEnds, begin_of, fields_in};
 
 use dap_types::Memory;
 use std::alloc::{AllocError, Global};

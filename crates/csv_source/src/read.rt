@@ -3,8 +3,8 @@ ghost use Rattle.std.specs.List.{list_all};
 ghost use Rattle.csv.specs.Records.{fields_of};
 ghost use Rattle.csv_source.specs.Causes.{is_row, row_cause, table_of};
 ghost use Rattle.csv_source.specs.Csv.{csv_records};
-ghost use Rattle.csv_source.specs.Held.{AreEnds, fields_in, rows_of, total};
-ghost use Rattle.csv_source.specs.Standing.{HasBadRow, Stands};
+ghost use Rattle.csv_source.specs.inner.Held.{AreEnds, fields_in, rows_of, total};
+ghost use Rattle.csv_source.specs.inner.Standing.{HasBadRow, Stands};
 ghost use Rattle.csv_source.specs.declared.refusal.TableRefusal.TheVariants.{Memory};
 
 use crate::cell::may_be_cell;

@@ -3,7 +3,7 @@ ghost use Rattle.std.specs.Bool.{MatchBool};
 ghost use Rattle.csv.specs.Reading.{error_kind};
 ghost use Rattle.csv.specs.Records.{fields_of};
 ghost use Rattle.csv_source.specs.Csv.{csv_records};
-ghost use Rattle.csv_source.specs.Standing.{IsIoOrMemory, Stands};
+ghost use Rattle.csv_source.specs.inner.Standing.{IsIoOrMemory, Stands};
 
 use csv::{ByteRecord, Error, Reader, ReaderBuilder};
 use std::alloc::Global;

@@ -35,7 +35,7 @@ impl Model for Table {
 
     ghost Value = { CsvTable };
 
-    ghost use Rattle.csv_source.specs.Held.{IsHeld, fields_in, held_rows};
+    ghost use Rattle.csv_source.specs.inner.Held.{IsHeld, fields_in, held_rows};
 
     ghost view = { λ t. table t.file_name t.columns (held_rows t.columns t.rows (fields_in t.cells.ends.items t.cells.text.items)) };
 

@@ -3,10 +3,10 @@ use Rattle.std.proofs.Common.{◌≡◌, List, [], ◌∷◌, ◌++◌, ℕ, ref
 use Rattle.std.specs.Prelude.{codes}
 use Rattle.std.specs.List.{flat_map, list_all}
 use Rattle.viable.specs.Quoted.{Piece}
-use Rattle.text_tokens.specs.Machines.{run}
+use Rattle.text_tokens.specs.inner.Machines.{run}
 use Rattle.text_tokens.specs.Tokens.{Token, sign, is_token}
 use Rattle.dap_errors.specs.Object.{signs, Value, bare, text, Field, value_token, field_tokens, is_error_word, is_code, is_message, is_code_word, values, IsObject}
-use Rattle.dap_errors.specs.Machine.{State, Start, Fields, Assigned, Ended, is_none_of, may_label, holds_code, holds_message, may_hold, has_both, said_by, field_of, step}
+use Rattle.dap_errors.specs.inner.Machine.{State, Start, Fields, Assigned, Ended, is_none_of, may_label, holds_code, holds_message, may_hold, has_both, said_by, field_of, step}
 use Rattle.dap_errors.specs.declared.object.ErrorObject.{ErrorObject}
 use Rattle.dap_errors.proofs.Labels.{values_append, says_is}
 

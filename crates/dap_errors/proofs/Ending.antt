@@ -4,8 +4,8 @@ use Rattle.std.specs.Prelude.{MatchResult}
 use Rattle.std.proofs.Common.{List}
 use Rattle.text_tokens.specs.Tokens.{sign, Next}
 use Rattle.dap_errors.specs.Object.{signs, Field}
-use Rattle.dap_errors.specs.Machine.{Fields, Ended, has_both, said_by}
-use Rattle.dap_errors.specs.Standing.{StandsAt, StopsAt, Holds, Says}
+use Rattle.dap_errors.specs.inner.Machine.{Fields, Ended, has_both, said_by}
+use Rattle.dap_errors.specs.inner.Standing.{StandsAt, StopsAt, Holds, Says}
 use Rattle.dap_errors.specs.declared.found.Found.{Found}
 use Rattle.dap_errors.specs.declared.object.ErrorObject.{ErrorObject}
 use Rattle.dap_errors.specs.declared.object.Stop.{Stop}

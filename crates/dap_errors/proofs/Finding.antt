@@ -5,8 +5,8 @@ use Rattle.viable.specs.Quoted.{Piece, quoted_value}
 use Rattle.viable.proofs.Tests.{and_parts}
 use Rattle.text_tokens.specs.Tokens.{sign, word, quoted}
 use Rattle.dap_errors.specs.Object.{Value, bare, text, Field, is_code, is_message, is_code_word, code_value, values}
-use Rattle.dap_errors.specs.Machine.{Fields, Labelled, Assigned, Ended, is_none_of, may_label, may_hold, has_both, said_by, field_of, step}
-use Rattle.dap_errors.specs.Standing.{HoldsCode, HoldsMessage, Holds, label_kind}
+use Rattle.dap_errors.specs.inner.Machine.{Fields, Labelled, Assigned, Ended, is_none_of, may_label, may_hold, has_both, said_by, field_of, step}
+use Rattle.dap_errors.specs.inner.Standing.{HoldsCode, HoldsMessage, Holds, label_kind}
 use Rattle.dap_errors.specs.declared.found.Found.{Found}
 use Rattle.dap_errors.specs.declared.found.Label.TheVariants as labels
 use Rattle.dap_errors.proofs.Labels.{values_append, code_no_message}

@@ -4,8 +4,8 @@ use Rattle.std.specs.Prelude.{codes}
 use Rattle.std.specs.Str.{str_to_ascii_lowercase}
 use Rattle.std.proofs.lemmas.Slice.Eq.{bytes_eq-Decides}
 use Rattle.dap_errors.specs.Object.{Value, Field, is_code, is_message, values}
-use Rattle.dap_errors.specs.Machine.{first_code, first_message, said_by}
-use Rattle.dap_errors.specs.Standing.{Says}
+use Rattle.dap_errors.specs.inner.Machine.{first_code, first_message, said_by}
+use Rattle.dap_errors.specs.inner.Standing.{Says}
 use Rattle.dap_errors.specs.declared.object.ErrorObject.{ErrorObject}
 
 pub values_append : (test : List ℕ → Bool) (xs ys : List Field) → values test (xs ++ ys) ≡ values test xs ++ values test ys

@@ -2,10 +2,10 @@
 use Rattle.std.proofs.Common.{◌≡◌, List, [], ◌∷◌, ◌++◌, ℕ, refl, sym, ◌∙◌, Some, None, Bool, true, false, IsTrue, ◌⊎◌, inl, inr}
 use Rattle.std.specs.Prelude.{codes}
 use Rattle.std.proofs.lemmas.List.Folds.{list_all-append}
-use Rattle.text_tokens.specs.Machines.{IsMachine}
+use Rattle.text_tokens.specs.inner.Machines.{IsMachine}
 use Rattle.text_tokens.specs.Tokens.{Token, sign, word, quoted, is_token}
 use Rattle.dap_errors.specs.Object.{signs, Value, bare, text, Field, value_token, field_tokens, is_error_word, is_code, is_message, values, IsObject}
-use Rattle.dap_errors.specs.Machine.{State, Start, Named, Fields, Labelled, Assigned, Valued, Ended, may_hold, said_by, field_of, step, IsOpenState}
+use Rattle.dap_errors.specs.inner.Machine.{State, Start, Named, Fields, Labelled, Assigned, Valued, Ended, may_hold, said_by, field_of, step, IsOpenState}
 use Rattle.dap_errors.specs.declared.object.ErrorObject.{ErrorObject}
 use Rattle.dap_errors.proofs.Labels.{code_no_message}
 use Rattle.dap_errors.proofs.Runs.{run_told}

@@ -4,8 +4,8 @@ use Rattle.std.proofs.lemmas.Bool.{ne_eqb}
 use Rattle.text_tokens.specs.Tokens.{Token, sign, word, quoted, Next, NoToken}
 use Rattle.text_tokens.proofs.Machines as machines
 use Rattle.dap_errors.specs.Object.{signs, Value, Field}
-use Rattle.dap_errors.specs.Machine.{State, Start, Named, Fields, Labelled, Assigned, Valued, field_of, next_when, step, IsOpenState}
-use Rattle.dap_errors.specs.Standing.{StandsAt, StopsAt, WantsSign}
+use Rattle.dap_errors.specs.inner.Machine.{State, Start, Named, Fields, Labelled, Assigned, Valued, field_of, next_when, step, IsOpenState}
+use Rattle.dap_errors.specs.inner.Standing.{StandsAt, StopsAt, WantsSign}
 use Rattle.dap_errors.specs.declared.object.Stop.TheVariants.{Bad, End}
 
 -- the reader goes on over a token

@@ -6,8 +6,8 @@ use Rattle.std.proofs.Math.Seq.{take-append_seam}
 use Rattle.viable.specs.Quoted.{Piece, spelling}
 use Rattle.text_tokens.specs.Tokens.{Token, sign, word, quoted, TokenAt}
 use Rattle.dap_errors.specs.Object.{signs, is_error_word}
-use Rattle.dap_errors.specs.Machine.{Start, Named, step}
-use Rattle.dap_errors.specs.Standing.{has_name}
+use Rattle.dap_errors.specs.inner.Machine.{Start, Named, step}
+use Rattle.dap_errors.specs.inner.Standing.{has_name}
 
 -- the bytes of a word are a slice of the text
 pub word_slice : (text : List ℕ) (place behind : ℕ) (bytes : List ℕ) → TokenAt signs text place behind (word bytes) → take (behind - place) (drop place text) ≡ bytes

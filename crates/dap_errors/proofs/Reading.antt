@@ -2,9 +2,9 @@
 use Rattle.std.proofs.Common.{◌≡◌, ℕ, ◌+◌, ◌≤◌, List, length, drop, refl, arith, inl, inr, length-take}
 use Rattle.text_tokens.proofs.Machines as machines
 use Rattle.dap_errors.specs.Object.{signs, IsObject}
-use Rattle.dap_errors.specs.Machine.{Start, Ended, step, IsOpenState}
+use Rattle.dap_errors.specs.inner.Machine.{Start, Ended, step, IsOpenState}
 use Rattle.dap_errors.specs.Reading.{front, limit, EndsAt, IsEnd, IsStray, IsUnended, ErrorOf, IsBad}
-use Rattle.dap_errors.specs.Standing.{StandsAt, StopsAt}
+use Rattle.dap_errors.specs.inner.Standing.{StandsAt, StopsAt}
 use Rattle.dap_errors.specs.declared.object.ErrorObject.{ErrorObject}
 use Rattle.dap_errors.specs.declared.object.Stop.TheVariants.{Bad, End}
 use Rattle.dap_errors.proofs.Live.{machine}

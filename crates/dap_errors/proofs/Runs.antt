@@ -7,10 +7,10 @@ use Rattle.std.proofs.lemmas.Grind.{flat_map-append}
 use Rattle.std.proofs.lemmas.Bool.{eqb-true}
 use Rattle.viable.proofs.Tests.{and_parts}
 use Rattle.viable.specs.Quoted.{Piece}
-use Rattle.text_tokens.specs.Machines.{run}
+use Rattle.text_tokens.specs.inner.Machines.{run}
 use Rattle.text_tokens.specs.Tokens.{Token, sign, word, quoted}
 use Rattle.dap_errors.specs.Object.{Value, bare, text, Field, value_token, field_tokens, object_tokens, is_error_word, is_code, is_message, is_code_word, values, IsObject}
-use Rattle.dap_errors.specs.Machine.{State, Start, Named, Fields, Labelled, Assigned, Valued, Ended, is_none_of, may_label, holds_code, holds_message, may_hold, has_both, first_code, first_message, said_by, field_of, next_when, step}
+use Rattle.dap_errors.specs.inner.Machine.{State, Start, Named, Fields, Labelled, Assigned, Valued, Ended, is_none_of, may_label, holds_code, holds_message, may_hold, has_both, first_code, first_message, said_by, field_of, next_when, step}
 use Rattle.dap_errors.proofs.Labels.{values_append}
 
 pub when_some : (b : Bool) (s next : State) → next_when b s ≡ Some next → IsTrue b × (s ≡ next)

@@ -5,7 +5,7 @@ use Rattle.text_tokens.specs.Tokens.{Placed}
 use Rattle.text_tokens.proofs.Languages.{IsPrefixFree, same_end, spells_no_bad, spells_no_break, bads_same, bad_no_break}
 use Rattle.text_tokens.proofs.Machines.{prefix_free, says_one}
 use Rattle.dap_errors.specs.Object.{signs, IsObject}
-use Rattle.dap_errors.specs.Machine.{Start, Ended, step, IsOpenState}
+use Rattle.dap_errors.specs.inner.Machine.{Start, Ended, step, IsOpenState}
 use Rattle.dap_errors.specs.Reading.{IsEnd, IsStray, front, ErrorOf, IsBad, IsCut}
 use Rattle.dap_errors.specs.declared.object.ErrorObject.{ErrorObject}
 use Rattle.dap_errors.proofs.Live.{machine}

@@ -4,8 +4,8 @@ ghost use Rattle.std.specs.Prelude.{◌≡◌, ◌≢◌, ℕ, ◌+◌, ◌<◌,
 ghost use Rattle.text_tokens.specs.Tokens.{Token as AnyToken, word, TokenAt, Next, NoToken};
 ghost use Rattle.text_tokens.specs.Kinds.{IsKind};
 ghost use Rattle.dap_errors.specs.Object.{signs, Value, Field, value_token, is_code, is_message};
-ghost use Rattle.dap_errors.specs.Machine.{State, Named, Fields, Assigned, Ended, field_of, has_both, may_hold, may_label};
-ghost use Rattle.dap_errors.specs.Standing.{StandsAt, StopsAt, WantsSign, has_name, label_kind, Holds, Says};
+ghost use Rattle.dap_errors.specs.inner.Machine.{State, Named, Fields, Assigned, Ended, field_of, has_both, may_hold, may_label};
+ghost use Rattle.dap_errors.specs.inner.Standing.{StandsAt, StopsAt, WantsSign, has_name, label_kind, Holds, Says};
 
 use crate::ErrorObject;
 use crate::code_word::code_of;

@@ -5,7 +5,7 @@ use Rattle.std.proofs.lemmas.Bool.{cases_lt}
 use Rattle.text_tokens.specs.Tokens.{is_white}
 use Rattle.text_tokens.proofs.Every.{every, Verdict}
 use Rattle.das_text.specs.Grammar.{signs, IsDas}
-use Rattle.das_text.specs.Machine.{start, step, ended, IsOpenState}
+use Rattle.das_text.specs.inner.Machine.{start, step, ended, IsOpenState}
 use Rattle.das_text.specs.Model.{Attributes}
 use Rattle.das_text.specs.Reading.{front, limit, DasOf, EndsAt, IsTrailing, IsBad, IsCut, IsUnended}
 use Rattle.das_text.proofs.Language.{machine}

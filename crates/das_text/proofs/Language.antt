@@ -10,7 +10,7 @@ use Rattle.dap_types.specs.declared.declarations.BaseType.{BaseType}
 use Rattle.text_tokens.specs.Tokens.{Token, sign, word, is_token}
 use Rattle.text_tokens.specs.inner.Machines.{run, IsMachine}
 use Rattle.das_text.specs.Grammar.{signs, base_of_word, most_depth, IsDas}
-use Rattle.das_text.specs.Machine.{Around, State, start, begun, headed, inside, worded, named, valued, parted, ended, may_begin, attribute_of, with_value, leave, enter, add, step, IsOpenState}
+use Rattle.das_text.specs.inner.Machine.{Around, State, start, begun, headed, inside, worded, named, valued, parted, ended, may_begin, attribute_of, with_value, leave, enter, add, step, IsOpenState}
 use Rattle.das_text.specs.Model.{Attributes, Entry, attribute, container, entries_of}
 use Rattle.das_text.specs.declared.entries.Attribute.{Attribute}
 use Rattle.das_text.specs.declared.entries.Word.TheVariants.{Plain}

@@ -3,8 +3,8 @@ use Rattle.std.proofs.Common.{◌≡◌, List, [], ◌∷◌, ◌++◌, ℕ, len
 use Rattle.std.specs.Prelude.{option_map}
 use Rattle.std.proofs.lemmas.List.{map-append, reverse-append}
 use Rattle.das_text.specs.Grammar.{base_of_word}
-use Rattle.das_text.specs.Held.{around_view}
-use Rattle.das_text.specs.Machine.{Around, inside, named, attribute_of, begin_attribute, leave}
+use Rattle.das_text.specs.inner.Held.{around_view}
+use Rattle.das_text.specs.inner.Machine.{Around, inside, named, attribute_of, begin_attribute, leave}
 use Rattle.das_text.specs.Model.{entries_of, container}
 use Rattle.das_text.specs.Model as model
 use Rattle.das_text.specs.View.{entry_view}

@@ -8,11 +8,11 @@ use Rattle.viable.proofs.Runs.{drop_next}
 use Rattle.text_tokens.specs.Tokens.{Token, Next, NoToken, is_white}
 use Rattle.text_tokens.proofs.Machines.{moves, starts, spells_of, bad_of, breaks_of}
 use Rattle.das_text.specs.Grammar.{signs, IsDas}
-use Rattle.das_text.specs.Held.{state_view}
-use Rattle.das_text.specs.Machine.{State, start, step, ended, IsOpenState}
+use Rattle.das_text.specs.inner.Held.{state_view}
+use Rattle.das_text.specs.inner.Machine.{State, start, step, ended, IsOpenState}
 use Rattle.das_text.specs.Model.{Attributes}
 use Rattle.das_text.specs.Reading.{front, limit, DasOf, HasBehind, IsTrailing, IsBad, IsUnended}
-use Rattle.das_text.specs.Standing.{Stands, StopsAt}
+use Rattle.das_text.specs.inner.Standing.{Stands, StopsAt}
 use Rattle.das_text.specs.declared.entries.Attributes as code
 use Rattle.das_text.specs.declared.levels.Levels.{Levels}
 use Rattle.das_text.specs.declared.state.State as code_state

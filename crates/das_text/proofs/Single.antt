@@ -8,7 +8,7 @@ use Rattle.text_tokens.specs.Tokens.{Placed, is_white}
 use Rattle.text_tokens.proofs.Languages.{IsPrefixFree, same_end, spells_no_bad, spells_no_break, bads_same, bad_no_break}
 use Rattle.text_tokens.proofs.Machines.{prefix_free, says_one}
 use Rattle.das_text.specs.Grammar.{signs, IsDas}
-use Rattle.das_text.specs.Machine.{start, step, ended, IsOpenState}
+use Rattle.das_text.specs.inner.Machine.{start, step, ended, IsOpenState}
 use Rattle.das_text.specs.Model.{Attributes}
 use Rattle.das_text.specs.Reading.{front, DasOf, HasBehind, IsTrailing, IsBad, IsCut}
 use Rattle.das_text.proofs.Language.{machine}

@@ -9,7 +9,7 @@ use Rattle.viable.specs.Quoted.{quoted_value}
 use Rattle.viable.proofs.Tests.{and_parts}
 use Rattle.text_tokens.specs.Tokens.{Token, sign, word, quoted}
 use Rattle.das_text.specs.Grammar.{base_of_word, most_depth, IsValue, LaterOf, ValuesOf, EntryOf, EntriesOf, IsDas}
-use Rattle.das_text.specs.Machine.{Around, State, begun, headed, inside, worded, named, valued, parted, ended, may_begin, attribute_of, with_value, begin_attribute, leave, enter, next_when, add, step}
+use Rattle.das_text.specs.inner.Machine.{Around, State, begun, headed, inside, worded, named, valued, parted, ended, may_begin, attribute_of, with_value, begin_attribute, leave, enter, next_when, add, step}
 use Rattle.das_text.specs.Model.{Entry, attribute, container, entries_of}
 use Rattle.das_text.specs.declared.entries.Attribute.{Attribute}
 use Rattle.das_text.specs.declared.entries.Word.{Word}

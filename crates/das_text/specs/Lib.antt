@@ -1,11 +1,9 @@
 pub mod Das
 pub mod DdsTokens
 pub mod Grammar
-pub mod Held
-pub mod Machine
 pub mod Model
 pub mod Reading
 pub mod Refusals
-pub mod Standing
 pub mod View
 pub mod Words
+pub mod inner

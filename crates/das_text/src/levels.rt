@@ -1,8 +1,8 @@
 //! The containers that are open, inside one another.
 
 ghost use Rattle.std.specs.Prelude.{◌≡◌, List as Items, [], ◌∷◌, ◌++◌, IfOk, OnOk, length};
-ghost use Rattle.das_text.specs.Held.{inner_view, outer_view, state_view};
-ghost use Rattle.das_text.specs.Machine.{leave};
+ghost use Rattle.das_text.specs.inner.Held.{inner_view, outer_view, state_view};
+ghost use Rattle.das_text.specs.inner.Machine.{leave};
 ghost use Rattle.das_text.specs.View.{entry_view};
 
 use crate::state::State;

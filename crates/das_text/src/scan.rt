@@ -5,9 +5,9 @@ ghost use Rattle.viable.specs.Quoted.{Piece, quoted_value};
 ghost use Rattle.text_tokens.specs.Kinds.{IsKind};
 ghost use Rattle.text_tokens.specs.Tokens.{Token as AnyToken, TokenAt, Next, NoToken, quoted};
 ghost use Rattle.das_text.specs.Grammar.{signs};
-ghost use Rattle.das_text.specs.Held.{state_view};
-ghost use Rattle.das_text.specs.Machine.{ended, step};
-ghost use Rattle.das_text.specs.Standing.{Stands, StopsAt};
+ghost use Rattle.das_text.specs.inner.Held.{state_view};
+ghost use Rattle.das_text.specs.inner.Machine.{ended, step};
+ghost use Rattle.das_text.specs.inner.Standing.{Stands, StopsAt};
 ghost use Rattle.das_text.specs.View.{attributes_view};
 
 use crate::Attributes;

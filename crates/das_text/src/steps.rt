@@ -3,8 +3,8 @@
 ghost use Rattle.std.specs.Prelude.{◌≡◌, List as Items, [], ◌∷◌, ◌++◌, IfOk, option_map};
 ghost use Rattle.viable.specs.Quoted.{Piece, quoted_value};
 ghost use Rattle.text_tokens.specs.Tokens.{sign as sign_token, word as word_token, quoted as quoted_token};
-ghost use Rattle.das_text.specs.Held.{inner_view, outer_view, state_view};
-ghost use Rattle.das_text.specs.Machine.{add, step};
+ghost use Rattle.das_text.specs.inner.Held.{inner_view, outer_view, state_view};
+ghost use Rattle.das_text.specs.inner.Machine.{add, step};
 
 use crate::levels::Levels;
 use crate::state::State;

@@ -4,11 +4,11 @@ use Rattle.std.proofs.lemmas.List.{length-take}
 use Rattle.std.specs.Option.{option_and_then, option_map_or}
 use Rattle.dap_types.specs.Model.{Dataset}
 use Rattle.dap_model.specs.Tokens.{Token, Placed, whole_tokens, tokens_of}
-use Rattle.dds_text.specs.Held.{go, unbroken, state_view}
-use Rattle.dds_text.specs.Machine.{Moved, keeps, step, refuses, Keeps}
+use Rattle.dds_text.specs.inner.Held.{go, unbroken, state_view}
+use Rattle.dds_text.specs.inner.Machine.{Moved, keeps, step, refuses, Keeps}
 use Rattle.dds_text.specs.Reading.{IsRefused, IsOpen, limit, IsDone, IsBadText}
-use Rattle.dds_text.specs.Standing.{run, EndsAt}
-use Rattle.dds_text.specs.States.{State, begun, ended, IsOpenState}
+use Rattle.dds_text.specs.inner.Standing.{run, EndsAt}
+use Rattle.dds_text.specs.inner.States.{State, begun, ended, IsOpenState}
 use Rattle.dds_text.specs.declared.level.Levels as code_levels
 use Rattle.dds_text.specs.declared.state.State as code_state
 use Rattle.dds_text.specs.declared.state.State.TheVariants as state

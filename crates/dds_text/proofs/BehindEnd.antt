@@ -9,8 +9,8 @@ use Rattle.dap_model.proofs.Values.{all_first, all_rest}
 use Rattle.dap_model.specs.Grammar.{IsBad, IsFirstBad, IsBadAt}
 use Rattle.dap_model.specs.Tokens.{Token, Placed, is_white, is_sign, ended as ended_word, sign_at, tokens_from, whole_tokens, tokens_of}
 use Rattle.dds_text.specs.Reading.{IsEnded}
-use Rattle.dds_text.specs.States.{ended}
-use Rattle.dds_text.specs.Words.{left}
+use Rattle.dds_text.specs.inner.States.{ended}
+use Rattle.dds_text.specs.inner.Words.{left}
 use Rattle.dds_text.proofs.Bytes.{left-stop, whole_tokens-append}
 use Rattle.dds_text.proofs.Readings.{ended_kept, tokens_split}
 use Rattle.dds_text.proofs.Verdicts.{none_bad}

@@ -3,10 +3,10 @@ use Rattle.std.proofs.Common.{◌≡◌, ℕ, ◌+◌, Bool, true, false, ◌||�
 use Rattle.std.proofs.lemmas.List.{map-append}
 use Rattle.std.specs.Option.{option_and_then}
 use Rattle.dap_model.specs.Tokens.{Token, sign, word, Placed, is_white, is_sign, is_plain, ended, sign_at, tokens_from, whole_tokens, tokens_of}
-use Rattle.dds_text.specs.States.{State, begun, IsOpenState}
-use Rattle.dds_text.specs.Standing.{run, after_word, after_sign, StopsAt}
-use Rattle.dds_text.specs.Held.{go}
-use Rattle.dds_text.specs.Words.{left_from, left}
+use Rattle.dds_text.specs.inner.States.{State, begun, IsOpenState}
+use Rattle.dds_text.specs.inner.Standing.{run, after_word, after_sign, StopsAt}
+use Rattle.dds_text.specs.inner.Held.{go}
+use Rattle.dds_text.specs.inner.Words.{left_from, left}
 
 -- the tokens of more bytes
 pub tokens_from-append : (front : List ℕ) (at end : ℕ) (xs ys : List ℕ) → at + length xs ≡ end

@@ -10,8 +10,8 @@ use Rattle.dap_model.proofs.Tests.{both_true}
 use Rattle.dap_model.specs.Dds.{type_word}
 use Rattle.dap_model.specs.Grammar.{keyword, name, sign, Judged, fine, opens, closes, semicolon, colon, head, named, dim_slots, array_slots, column_slots, map_slots, slots, slots_all, dataset_slots, has_dims, have_dims, all_have_dims, StandsFor}
 use Rattle.dap_model.specs.Tokens.{Token}
-use Rattle.dds_text.specs.Machine.{moved, keeps, kind_word, Steps}
-use Rattle.dds_text.specs.States.{Levels, top, within, variable, column, grid_array, grid_map, typed, Kind, structures, sequences, grids, entered, arrayed, ready, filled, mapping, Whole, whole_structure, whole_sequence, whole_grid, State, begun, headed, inside, declaring, opening, in_sequence, in_grid, in_maps, closed, called, dataset_closed, dataset_called, ended, depth_of, next_number, members_in, add, is_name_of, is_name_of_column, is_name_of_map, is_past, is_out, wanted_size, with_name, behind_brace}
+use Rattle.dds_text.specs.inner.Machine.{moved, keeps, kind_word, Steps}
+use Rattle.dds_text.specs.inner.States.{Levels, top, within, variable, column, grid_array, grid_map, typed, Kind, structures, sequences, grids, entered, arrayed, ready, filled, mapping, Whole, whole_structure, whole_sequence, whole_grid, State, begun, headed, inside, declaring, opening, in_sequence, in_grid, in_maps, closed, called, dataset_closed, dataset_called, ended, depth_of, next_number, members_in, add, is_name_of, is_name_of_column, is_name_of_map, is_past, is_out, wanted_size, with_name, behind_brace}
 use Rattle.dds_text.proofs.LevelFacts.{SameNames, Suits, added_suits, top_suits, within_suits, columns_last, maps_last, add_all, add_all_top, add_all_within, list_of, members_of_list, length_last, first_of, rest_of, slice_get-drop, drop-one}
 use Rattle.dds_text.proofs.Runs.{Goes, Runs, flags_in, run_none, run_one, run_both}
 use Rattle.dds_text.proofs.SlotSteps.{by_sign, by_name, wanted_goes, type_in_level, type_in_sequence, type_in_grid, type_in_maps, kind_in_level, scalar_run, array_run}

@@ -3,8 +3,8 @@ use Rattle.std.proofs.Common.{◌≡◌, ℕ, ◌+◌, List, [], ◌∷◌, ◌+
 use Rattle.dap_types.specs.Model.{Member, count, count_all, members_of}
 use Rattle.dap_types.specs.declared.declarations.ArrayDecl.{ArrayDecl}
 use Rattle.dap_types.specs.declared.declarations.Column.{Column}
-use Rattle.dds_text.specs.Held.{IsCounted, own_number}
-use Rattle.dds_text.specs.States.{Levels, top, within, variable, column, grid_map, add, next_number, behind_level}
+use Rattle.dds_text.specs.inner.Held.{IsCounted, own_number}
+use Rattle.dds_text.specs.inner.States.{Levels, top, within, variable, column, grid_map, add, next_number, behind_level}
 
 count_all-last : (ms : List Member) (m : Member) → count_all (members_of (ms ++ m ∷ [])) ≡ count_all (members_of ms) + count m
 count_all-last [] m = omega arith

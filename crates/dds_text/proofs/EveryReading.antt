@@ -9,10 +9,10 @@ use Rattle.dap_model.proofs.Tests.{both_true}
 use Rattle.dap_model.specs.Grammar.{Slot, keyword, name, sign, spells, StandsFor}
 use Rattle.dap_model.specs.Tokens.{Token, Placed, is_white, is_sign, is_plain, ended as ended_word, sign_at, tokens_from, whole_tokens, tokens_of}
 use Rattle.dap_model.specs.Tokens as token
-use Rattle.dds_text.specs.Machine.{Moved, moved, keeps, step, refuses, Keeps}
+use Rattle.dds_text.specs.inner.Machine.{Moved, moved, keeps, step, refuses, Keeps}
 use Rattle.dds_text.specs.Reading.{IsEnded, IsRefused, IsOpen, limit, IsDone, IsBadText, IsUnfinished}
-use Rattle.dds_text.specs.States.{State, begun, ended, IsOpenState}
-use Rattle.dds_text.specs.Words.{left}
+use Rattle.dds_text.specs.inner.States.{State, begun, ended, IsOpenState}
+use Rattle.dds_text.specs.inner.Words.{left}
 use Rattle.dds_text.proofs.Bytes.{tokens-plain, tokens-stop}
 use Rattle.dds_text.proofs.Readings.{keeps_more, open_text, ended_text, refused_text}
 use Rattle.dds_text.proofs.Runs.{Spells}

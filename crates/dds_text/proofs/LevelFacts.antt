@@ -5,7 +5,7 @@ use Rattle.std.specs.Str.{bytes_eq}
 use Rattle.dap_types.specs.Model.{Member, Members, no_members, member, name_of, count, count_all, members_of}
 use Rattle.dap_types.specs.declared.declarations.ArrayDecl.{ArrayDecl}
 use Rattle.dap_types.specs.declared.declarations.Column.{Column}
-use Rattle.dds_text.specs.States.{Levels, top, within, depth_of, next_number, members_in, add, is_name_of, is_name_of_column, is_name_of_map}
+use Rattle.dds_text.specs.inner.States.{Levels, top, within, depth_of, next_number, members_in, add, is_name_of, is_name_of_column, is_name_of_map}
 
 -- the names before, as a test
 abbrev pub SameNames : (List ℕ → Bool) → List (List ℕ) → Type 0

@@ -9,8 +9,8 @@ use Rattle.dap_types.specs.declared.declarations.Dim.{Dim}
 use Rattle.dap_model.specs.Grammar.{has_dims, is_other}
 use Rattle.dap_model.specs.Tokens.{Token}
 use Rattle.dap_model.specs.Tokens as token
-use Rattle.dds_text.specs.Machine.{moved, step, Steps}
-use Rattle.dds_text.specs.States.{Levels, top, within, Role, variable, column, grid_array, grid_map, Stage, typed, named, bracketed, worded, equated, measured, Kind, structures, sequences, grids, GridStage, entered, arrayed, ready, filled, mapping, Whole, whole_structure, whole_sequence, whole_grid, State, begun, headed, inside, declaring, opening, in_sequence, in_grid, in_maps, closed, called, dataset_closed, dataset_called, ended, add, wanted_size, is_out, members_in, is_name_of, repeats, with_dim, declared, without_dims, with_name}
+use Rattle.dds_text.specs.inner.Machine.{moved, step, Steps}
+use Rattle.dds_text.specs.inner.States.{Levels, top, within, Role, variable, column, grid_array, grid_map, Stage, typed, named, bracketed, worded, equated, measured, Kind, structures, sequences, grids, GridStage, entered, arrayed, ready, filled, mapping, Whole, whole_structure, whole_sequence, whole_grid, State, begun, headed, inside, declaring, opening, in_sequence, in_grid, in_maps, closed, called, dataset_closed, dataset_called, ended, add, wanted_size, is_out, members_in, is_name_of, repeats, with_dim, declared, without_dims, with_name}
 use Rattle.dds_text.proofs.LevelFacts.{length_last}
 use Rattle.dds_text.proofs.Tells.{DimsFit, Fits}
 

@@ -6,8 +6,8 @@ use Rattle.std.proofs.lemmas.List.Folds.{list_any-append}
 use Rattle.dap_types.specs.Model.{Member, name_of}
 use Rattle.dap_types.specs.NameSet.{HasAlso}
 use Rattle.dap_types.specs.declared.declarations.Column.{Column}
-use Rattle.dds_text.specs.Held.{NamesAre}
-use Rattle.dds_text.specs.States.{is_name_of, is_name_of_column}
+use Rattle.dds_text.specs.inner.Held.{NamesAre}
+use Rattle.dds_text.specs.inner.States.{is_name_of, is_name_of_column}
 
 or_false : (a : Bool) → (a || false) ≡ a
 or_false true = refl

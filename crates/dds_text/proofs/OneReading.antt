@@ -5,10 +5,10 @@ use Rattle.std.proofs.lemmas.Option.{same_Some}
 use Rattle.dap_types.specs.Model.{Dataset}
 use Rattle.dap_model.specs.Grammar.{IsFirstBad}
 use Rattle.dap_model.specs.Tokens.{Token, Placed, is_white, is_sign, ended as ended_word, sign_at, tokens_from, whole_tokens, tokens_of}
-use Rattle.dds_text.specs.Machine.{Keeps}
+use Rattle.dds_text.specs.inner.Machine.{Keeps}
 use Rattle.dds_text.specs.Reading.{IsEnded, IsRefused, IsOpen, limit, IsDone, IsBadText, IsUnfinished}
-use Rattle.dds_text.specs.States.{begun, ended}
-use Rattle.dds_text.specs.Words.{left, left_from}
+use Rattle.dds_text.specs.inner.States.{begun, ended}
+use Rattle.dds_text.specs.inner.Words.{left, left_from}
 use Rattle.dds_text.proofs.Bytes.{tokens_from-append}
 use Rattle.dds_text.proofs.Readings.{keeps_on, behind_ended, same_dataset, tokens_grow, ended_kept}
 

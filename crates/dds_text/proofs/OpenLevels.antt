@@ -4,8 +4,8 @@ use Rattle.std.specs.List.{list_any}
 use Rattle.std.specs.Str.{bytes_eq}
 use Rattle.std.proofs.lemmas.List.Elements.{All-push, All-pop}
 use Rattle.dap_types.specs.Model.{Member}
-use Rattle.dds_text.specs.Held.{level_view, nested, nested_on, HasNames, AllNamed, NamesAre, HasColumnNames}
-use Rattle.dds_text.specs.States.{Levels, top, within, add, members_in, depth_of, closed, dataset_closed, whole_structure, behind_level, is_name_of, is_name_of_column}
+use Rattle.dds_text.specs.inner.Held.{level_view, nested, nested_on, HasNames, AllNamed, NamesAre, HasColumnNames}
+use Rattle.dds_text.specs.inner.States.{Levels, top, within, add, members_in, depth_of, closed, dataset_closed, whole_structure, behind_level, is_name_of, is_name_of_column}
 use Rattle.dds_text.specs.declared.level.Columns.{Columns}
 use Rattle.dds_text.specs.declared.level.Level.{Level}
 

@@ -2,9 +2,9 @@
 use Rattle.std.proofs.Common.{◌≡◌, Some, refl, sym, ap, subst, ◌∙◌}
 use Rattle.dap_types.specs.declared.declarations.Dataset.{Dataset}
 use Rattle.dap_model.specs.Tokens.{Token}
-use Rattle.dds_text.specs.Held.{state_view, IsSound, IsNotLast, MovesTo, go}
-use Rattle.dds_text.specs.Machine.{step}
-use Rattle.dds_text.specs.States.{State}
+use Rattle.dds_text.specs.inner.Held.{state_view, IsSound, IsNotLast, MovesTo, go}
+use Rattle.dds_text.specs.inner.Machine.{step}
+use Rattle.dds_text.specs.inner.States.{State}
 use Rattle.dds_text.specs.declared.level.Levels.{Levels}
 use Rattle.dds_text.specs.declared.parser.Parser.{Parser}
 use Rattle.dds_text.specs.declared.state.State as code

@@ -7,8 +7,8 @@ use Rattle.dap_types.specs.Model.{Dataset}
 use Rattle.dap_model.specs.Tokens.{tokens_from}
 use Rattle.dds_text.specs.After.{EndsBehind, StaysBad, IsClipped}
 use Rattle.dds_text.specs.Reading.{IsBadText, IsDone, IsUnfinished, limit}
-use Rattle.dds_text.specs.Standing.{IsRead, StopsAt, EndsAt}
-use Rattle.dds_text.specs.Words.{left}
+use Rattle.dds_text.specs.inner.Standing.{IsRead, StopsAt, EndsAt}
+use Rattle.dds_text.specs.inner.Words.{left}
 use Rattle.dds_text.specs.declared.front.Front.{Front}
 use Rattle.dds_text.proofs.Answered.{open_read, stopped_read, done_read, long_read}
 use Rattle.dds_text.proofs.Bytes.{whole_tokens-append}

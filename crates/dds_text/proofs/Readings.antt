@@ -6,10 +6,10 @@ use Rattle.std.specs.Option.{option_map_or}
 use Rattle.dap_types.specs.Model.{Dataset}
 use Rattle.dap_model.specs.Grammar.{IsBad, IsFirstBad}
 use Rattle.dap_model.specs.Tokens.{Token, Placed, tokens_from, whole_tokens, tokens_of}
-use Rattle.dds_text.specs.Machine.{Moved, keeps, step, refuses, Keeps}
+use Rattle.dds_text.specs.inner.Machine.{Moved, keeps, step, refuses, Keeps}
 use Rattle.dds_text.specs.Reading.{IsEnded, IsRefused, IsOpen, Unended}
-use Rattle.dds_text.specs.States.{State, begun, ended, IsOpenState}
-use Rattle.dds_text.specs.Words.{left}
+use Rattle.dds_text.specs.inner.States.{State, begun, ended, IsOpenState}
+use Rattle.dds_text.specs.inner.Words.{left}
 use Rattle.dds_text.proofs.Bytes.{whole_tokens-append}
 use Rattle.dds_text.proofs.Verdicts.{begins, keeps_steps, none_bad, first_refused, ended_stands, reads_all}
 

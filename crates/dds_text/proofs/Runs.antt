@@ -7,8 +7,8 @@ use Rattle.std.specs.Cmp.Lexicographic.{pointwise}
 use Rattle.dap_model.proofs.Tests.{both_true}
 use Rattle.dap_model.specs.Grammar.{Slot, spells, Judged}
 use Rattle.dap_model.specs.Tokens.{Token}
-use Rattle.dds_text.specs.Machine.{moved, step, Steps}
-use Rattle.dds_text.specs.States.{State}
+use Rattle.dds_text.specs.inner.Machine.{moved, step, Steps}
+use Rattle.dds_text.specs.inner.States.{State}
 
 abbrev pub Spells : List Slot → List Token → Type 0
 Spells slots ts = pointwise spells slots ts ≡ true

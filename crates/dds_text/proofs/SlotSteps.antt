@@ -12,8 +12,8 @@ use Rattle.dap_model.specs.Dds.{type_word}
 use Rattle.dap_model.specs.Grammar.{Slot, keyword, name, size, sign, spells, Judged, fine, equals, end_of_dim, semicolon, is_other, size_slots, dim_slots, has_dims}
 use Rattle.dap_model.specs.Tokens.{Token}
 use Rattle.dap_model.specs.Tokens as token
-use Rattle.dds_text.specs.Machine.{moved, keeps, step, wants, begin, open_whole, end_size, take_size, kind_word, kind_of_word}
-use Rattle.dds_text.specs.States.{Levels, Role, variable, column, grid_array, grid_map, typed, named, bracketed, worded, equated, measured, Kind, State, inside, declaring, opening, in_sequence, in_grid, in_maps, ready, depth_of, next_number, is_past, is_out, repeats, wanted_size, may_have_dims, most_dims, with_dim, declared, behind_array, behind_scalar}
+use Rattle.dds_text.specs.inner.Machine.{moved, keeps, step, wants, begin, open_whole, end_size, take_size, kind_word, kind_of_word}
+use Rattle.dds_text.specs.inner.States.{Levels, Role, variable, column, grid_array, grid_map, typed, named, bracketed, worded, equated, measured, Kind, State, inside, declaring, opening, in_sequence, in_grid, in_maps, ready, depth_of, next_number, is_past, is_out, repeats, wanted_size, may_have_dims, most_dims, with_dim, declared, behind_array, behind_scalar}
 use Rattle.dds_text.proofs.LevelFacts.{length_last}
 use Rattle.dds_text.proofs.Runs.{Goes, Runs, run_none, run_one, run_first, run_both}
 use Rattle.dds_text.proofs.WordKinds.{is_type_word, is_kind_word, is_size}

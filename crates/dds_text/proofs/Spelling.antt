@@ -9,8 +9,8 @@ use Rattle.dap_types.specs.declared.declarations.Column.{Column}
 use Rattle.dap_types.specs.declared.declarations.Dim.{Dim}
 use Rattle.dap_model.specs.Dds.{type_word}
 use Rattle.dap_model.specs.Grammar.{Slot, keyword, name, size, sign, Judged, head, semicolon, named as named_slot, size_slots, dim_slots, array_slots, column_slots, map_slots, slots, slots_all, dataset_slots, fine, colon}
-use Rattle.dds_text.specs.Machine.{kind_word}
-use Rattle.dds_text.specs.States.{Levels, top, within, Role, variable, column, grid_array, grid_map, Stage, typed, named, bracketed, worded, equated, measured, GridStage, entered, arrayed, ready, filled, mapping, Whole, whole_structure, whole_sequence, whole_grid, State, begun, headed, inside, declaring, opening, in_sequence, in_grid, in_maps, closed, called, dataset_closed, dataset_called, ended, add}
+use Rattle.dds_text.specs.inner.Machine.{kind_word}
+use Rattle.dds_text.specs.inner.States.{Levels, top, within, Role, variable, column, grid_array, grid_map, Stage, typed, named, bracketed, worded, equated, measured, GridStage, entered, arrayed, ready, filled, mapping, Whole, whole_structure, whole_sequence, whole_grid, State, begun, headed, inside, declaring, opening, in_sequence, in_grid, in_maps, closed, called, dataset_closed, dataset_called, ended, add}
 use Rattle.dds_text.proofs.Runs.{slots_in}
 
 -- a dimension up to its `]`

@@ -4,9 +4,9 @@ use Rattle.std.proofs.lemmas.Grind.{common_steps}
 use Rattle.std.proofs.lemmas.List.{take_more, take_all, get_or-drop}
 use Rattle.dap_types.specs.Model.{Dataset}
 use Rattle.dap_model.specs.Tokens.{is_plain, tokens_of}
-use Rattle.dds_text.specs.States.{State, begun, ended, IsOpenState}
-use Rattle.dds_text.specs.Standing.{Holds, Reads, IsReadTo, EndsAt, run, after_word, after_sign}
-use Rattle.dds_text.specs.Words.{left}
+use Rattle.dds_text.specs.inner.States.{State, begun, ended, IsOpenState}
+use Rattle.dds_text.specs.inner.Standing.{Holds, Reads, IsReadTo, EndsAt, run, after_word, after_sign}
+use Rattle.dds_text.specs.inner.Words.{left}
 use Rattle.dds_text.specs.declared.front.Front.{Front}
 use Rattle.dds_text.specs.declared.parser.Parser.{Parser}
 use Rattle.dds_text.proofs.Answered.{held_open}

@@ -14,8 +14,8 @@ use Rattle.dap_model.proofs.Tests.{both_true}
 use Rattle.dap_model.specs.Grammar.{Slot, keyword, name, sign, spells, has_dims, have_dims, all_have_dims}
 use Rattle.dap_model.specs.Tokens.{Token}
 use Rattle.dap_model.specs.Tokens as token
-use Rattle.dds_text.specs.Machine.{Moved, moved, keeps, wants}
-use Rattle.dds_text.specs.States.{Levels, top, within, Role, variable, column, grid_array, grid_map, Stage, typed, named, GridStage, filled, mapping, Whole, whole_structure, whole_sequence, whole_grid, State, begun, headed, inside, declaring, opening, in_sequence, in_grid, in_maps, closed, called, dataset_closed, dataset_called, ended, add, without_dims, behind_array, behind_scalar}
+use Rattle.dds_text.specs.inner.Machine.{Moved, moved, keeps, wants}
+use Rattle.dds_text.specs.inner.States.{Levels, top, within, Role, variable, column, grid_array, grid_map, Stage, typed, named, GridStage, filled, mapping, Whole, whole_structure, whole_sequence, whole_grid, State, begun, headed, inside, declaring, opening, in_sequence, in_grid, in_maps, closed, called, dataset_closed, dataset_called, ended, add, without_dims, behind_array, behind_scalar}
 use Rattle.dds_text.proofs.Runs.{Spells, spells_together}
 use Rattle.dds_text.proofs.Spelling.{typed_name, column_spelling, array_spelling, grid_front, maps_front, sequence_front, front_of, level_told, told, flat_last, added_told}
 

@@ -9,8 +9,8 @@ use Rattle.dap_types.specs.WellFormed.{IsWellFormed}
 use Rattle.dap_model.proofs.Unbroken.{well_formed_unbroken, unbroken_well_formed}
 use Rattle.dap_model.specs.Grammar.{Judged, dataset_slots, StandsFor, Begins, Breaks, IsBad, IsFirstBad}
 use Rattle.dap_model.specs.Tokens.{Token}
-use Rattle.dds_text.specs.Machine.{Moved, moved, step, refuses, Steps, Keeps}
-use Rattle.dds_text.specs.States.{State, begun, ended}
+use Rattle.dds_text.specs.inner.Machine.{Moved, moved, step, refuses, Steps, Keeps}
+use Rattle.dds_text.specs.inner.States.{State, begun, ended}
 use Rattle.dds_text.proofs.Complete.{complete}
 use Rattle.dds_text.proofs.Live.{live}
 use Rattle.dds_text.proofs.Runs.{flags_in, steps_append, steps_front, steps_more, steps_last}

@@ -16,8 +16,8 @@ use Rattle.dap_model.specs.Dds.{type_word}
 use Rattle.dap_model.specs.Grammar.{keyword, size, spells}
 use Rattle.dap_model.specs.Tokens.{Token}
 use Rattle.dap_model.specs.Tokens as token
-use Rattle.dds_text.specs.Machine.{base_of_word, kind_word, kind_of_word, is_size_word, size_of_word}
-use Rattle.dds_text.specs.States.{Kind, structures, sequences, grids}
+use Rattle.dds_text.specs.inner.Machine.{base_of_word, kind_word, kind_of_word, is_size_word, size_of_word}
+use Rattle.dds_text.specs.inner.States.{Kind, structures, sequences, grids}
 
 -- the same by the word in lower case
 abbrev base_of_lower : List ℕ → Option BaseType

@@ -4,7 +4,7 @@ use Rattle.dap_types.specs.Model.{Dataset}
 use Rattle.dap_types.specs.View.{dataset_view}
 use Rattle.dap_types.specs.declared.declarations.Dataset as code
 use Rattle.dds_text.specs.Reading.{IsBadText, IsDone, IsUnfinished, limit}
-use Rattle.dds_text.specs.Standing.{IsRead}
+use Rattle.dds_text.specs.inner.Standing.{IsRead}
 use Rattle.dds_text.specs.declared.front.Front.{Front}
 use Rattle.dds_text.specs.declared.reader.DdsReader.{DdsReader}
 use Rattle.dds_text.specs.declared.reader.DdsStep.{DdsStep}

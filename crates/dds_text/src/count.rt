@@ -1,7 +1,7 @@
 //! The number of members that a dataset has so far.
 
 ghost use Rattle.std.specs.Prelude.{◌≡◌, ◌+◌, not, if◌then◌else◌};
-ghost use Rattle.dds_text.specs.States.{is_past};
+ghost use Rattle.dds_text.specs.inner.States.{is_past};
 
 use std::marker::Model;
 

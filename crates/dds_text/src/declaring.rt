@@ -5,9 +5,9 @@ ghost use Rattle.dap_types.specs.Model.{array as array_member, scalar};
 ghost use Rattle.dap_types.specs.View.{member_view};
 ghost use Rattle.dap_model.specs.Grammar.{has_dims};
 ghost use Rattle.dap_model.specs.Tokens.{sign as sign_token, word as word_token};
-ghost use Rattle.dds_text.specs.Held.{HaveNames, MovesTo, RoleHasNames, levels_view, own_number, role_view, stage_view};
-ghost use Rattle.dds_text.specs.Machine.{declare_step, open_dim};
-ghost use Rattle.dds_text.specs.States.{with_dim, without_dims};
+ghost use Rattle.dds_text.specs.inner.Held.{HaveNames, MovesTo, RoleHasNames, levels_view, own_number, role_view, stage_view};
+ghost use Rattle.dds_text.specs.inner.Machine.{declare_step, open_dim};
+ghost use Rattle.dds_text.specs.inner.States.{with_dim, without_dims};
 
 use crate::keywords::size_of_word;
 use crate::level::{Columns, Levels, Maps};

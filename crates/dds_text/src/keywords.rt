@@ -2,8 +2,8 @@
 
 ghost use Rattle.std.specs.Prelude.{◌≡◌};
 ghost use Rattle.std.specs.Str.{str_eq_ignore_ascii_case};
-ghost use Rattle.dds_text.specs.Machine.{base_of_word, kind_of_word, size_of_word};
-ghost use Rattle.dds_text.specs.Held.{kind_seen};
+ghost use Rattle.dds_text.specs.inner.Machine.{base_of_word, kind_of_word, size_of_word};
+ghost use Rattle.dds_text.specs.inner.Held.{kind_seen};
 
 use crate::state::Kind;
 use dap_types::BaseType;

@@ -4,8 +4,8 @@ ghost use Rattle.std.specs.Prelude.{◌≡◌, ◌+◌, ℕ, List as Items, [], 
 ghost use Rattle.std.specs.List.{list_any};
 ghost use Rattle.std.specs.Str.{bytes_eq};
 ghost use Rattle.dap_types.specs.View.{member_view};
-ghost use Rattle.dds_text.specs.Held.{HasColumnNames, HasNames, HaveNames, level_view, levels_view, state_view};
-ghost use Rattle.dds_text.specs.States.{add, behind_level, is_name_of_map, top, within};
+ghost use Rattle.dds_text.specs.inner.Held.{HasColumnNames, HasNames, HaveNames, level_view, levels_view, state_view};
+ghost use Rattle.dds_text.specs.inner.States.{add, behind_level, is_name_of_map, top, within};
 
 use crate::count::MemberCount;
 use crate::lists::push;

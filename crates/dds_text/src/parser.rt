@@ -4,9 +4,9 @@ ghost use Rattle.std.specs.Prelude.{◌≡◌, IfOk, MatchBool, None};
 ghost use Rattle.dap_model.specs.Tokens.{word, sign as sign_token};
 ghost use Rattle.dap_types.specs.View.{dataset_view};
 ghost use Rattle.dds_text.specs.declared.parser.Parser.{Parser as ParserValue};
-ghost use Rattle.dds_text.specs.States.{State as MachineState, begun, dataset_called};
-ghost use Rattle.dds_text.specs.Held.{go};
-ghost use Rattle.dds_text.specs.Standing.{Holds, IsTaken, LeadsTo};
+ghost use Rattle.dds_text.specs.inner.States.{State as MachineState, begun, dataset_called};
+ghost use Rattle.dds_text.specs.inner.Held.{go};
+ghost use Rattle.dds_text.specs.inner.Standing.{Holds, IsTaken, LeadsTo};
 
 use crate::level::Levels;
 use crate::sign_steps::step_by_sign;
@@ -47,7 +47,7 @@ pub struct Parser {
 
 impl Parser {
     /// Before the first token.
-    #[tactic(auto, unfolding(crate::specs::Standing::Holds))]
+    #[tactic(auto, unfolding(crate::specs::inner::Standing::Holds))]
     pub fn new(alloc: Global) -> Parser
         ensures { Holds result begun }
     {
@@ -65,7 +65,7 @@ impl Parser {
     }
 
     /// Takes a word, and says whether it is good.
-    #[tactic(auto, unfolding(crate::specs::Standing::Holds))]
+    #[tactic(auto, unfolding(crate::specs::inner::Standing::Holds))]
     pub fn take_word(&mut self, bytes: &[u8]) -> Result<bool, Memory>
         ensures { (s : MachineState) → Holds self.old s → let next = go s (word bytes.now) in
             IfOk result (λ good. MatchBool good (LeadsTo self.new next) (next ≡ None)) }
@@ -81,7 +81,7 @@ impl Parser {
     }
 
     /// Takes a sign.
-    #[tactic(auto, unfolding(crate::specs::Standing::Holds))]
+    #[tactic(auto, unfolding(crate::specs::inner::Standing::Holds))]
     pub fn take_sign(&mut self, byte: u8) -> Result<Taken, Memory>
         ensures { (s : MachineState) → Holds self.old s →
             IfOk result (IsTaken self.new byte (go s (sign_token byte))) }

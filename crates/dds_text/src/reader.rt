@@ -83,7 +83,7 @@ impl DdsReader {
     ghost use Rattle.dds_text.specs.After.{Answers, IsClipped, IsSpent, StandsAfter, StaysBad, WhereBad, WhereDone, WhereMore, start_of, used_of};
     ghost use Rattle.dds_text.specs.declared.reader.Verdict.TheVariants.{Open};
     ghost use Rattle.dds_text.specs.Reading.{IsBadText, IsDone, IsUnfinished, limit};
-    ghost use Rattle.dds_text.specs.Standing.{IsFound, IsPlaced};
+    ghost use Rattle.dds_text.specs.inner.Standing.{IsFound, IsPlaced};
 
     /// A reader that has read nothing. Places count from `start`.
     pub fn new(alloc: Global, start: u64) -> DdsReader

@@ -2,9 +2,9 @@
 
 ghost use Rattle.std.specs.Prelude.{◌≡◌, ◌+◌, Some};
 ghost use Rattle.dap_model.specs.Grammar.{is_other};
-ghost use Rattle.dds_text.specs.Held.{HaveNames, MovesTo, RoleHasNames, is_extra, levels_view, own_depth, own_number, role_view};
-ghost use Rattle.dds_text.specs.Machine.{begin};
-ghost use Rattle.dds_text.specs.States.{may_have_dims, most_dims, repeats, wanted_size};
+ghost use Rattle.dds_text.specs.inner.Held.{HaveNames, MovesTo, RoleHasNames, is_extra, levels_view, own_depth, own_number, role_view};
+ghost use Rattle.dds_text.specs.inner.Machine.{begin};
+ghost use Rattle.dds_text.specs.inner.States.{may_have_dims, most_dims, repeats, wanted_size};
 
 use crate::level::{Levels, Maps};
 use crate::state::{Role, Stage, State};

@@ -1,8 +1,8 @@
 //! From pieces of a DDS to its tokens.
 
 ghost use Rattle.std.specs.Prelude.{◌≡◌, ℕ, ◌+◌, ◌<◌, ◌≤◌, List, [], ◌++◌, false, length, None, IfOk, MatchBool};
-ghost use Rattle.dds_text.specs.States.{State};
-ghost use Rattle.dds_text.specs.Standing.{Holds, IsFound, IsFoundAt, IsPlaced, IsRead, IsReadTo, IsTaken, LeadsTo, after_sign, after_word};
+ghost use Rattle.dds_text.specs.inner.States.{State};
+ghost use Rattle.dds_text.specs.inner.Standing.{Holds, IsFound, IsFoundAt, IsPlaced, IsRead, IsReadTo, IsTaken, LeadsTo, after_sign, after_word};
 ghost use Rattle.dap_model.specs.Tokens.{is_plain};
 
 use crate::front::{Found, Front, LIMIT};

@@ -2,8 +2,8 @@
 
 ghost use Rattle.std.specs.Prelude.{◌≡◌, [], IfOk};
 ghost use Rattle.dap_model.specs.Tokens.{sign as sign_token};
-ghost use Rattle.dds_text.specs.Held.{IsNotLast, IsSound, MovesTo, state_view};
-ghost use Rattle.dds_text.specs.Machine.{step};
+ghost use Rattle.dds_text.specs.inner.Held.{IsNotLast, IsSound, MovesTo, state_view};
+ghost use Rattle.dds_text.specs.inner.Machine.{step};
 
 use crate::declaring::declare_by_sign;
 use crate::level::{Columns, Levels, Maps};

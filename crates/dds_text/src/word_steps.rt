@@ -3,9 +3,9 @@
 ghost use Rattle.std.specs.Prelude.{◌≡◌, [], Some, IfOk, map};
 ghost use Rattle.dap_types.specs.View.{member_view};
 ghost use Rattle.dap_model.specs.Tokens.{word as word_token};
-ghost use Rattle.dds_text.specs.Held.{HaveNames, IsCounted, IsSound, MovesTo, grid_view, kind_view, levels_view, state_view, whole_view};
-ghost use Rattle.dds_text.specs.Machine.{open_whole, step};
-ghost use Rattle.dds_text.specs.States.{in_grid, inside, with_name};
+ghost use Rattle.dds_text.specs.inner.Held.{HaveNames, IsCounted, IsSound, MovesTo, grid_view, kind_view, levels_view, state_view, whole_view};
+ghost use Rattle.dds_text.specs.inner.Machine.{open_whole, step};
+ghost use Rattle.dds_text.specs.inner.States.{in_grid, inside, with_name};
 
 use crate::declaring::declare_by_word;
 use crate::keywords::{base_of_word, is_keyword, kind_of_word};

@@ -3,7 +3,7 @@ use Rattle.std.proofs.Common.{◌≡◌, ℕ, ◌+◌, ◌<◌, ◌≤◌, ◌^�
 use Rattle.std.proofs.lemmas.List.{length-map}
 use Rattle.std.proofs.lemmas.List.Sums.{sum_by-cons}
 use Rattle.netcdf_source.specs.Mapping.{is_grid, is_offered, coordinate_at, leaves_of, leaves_from}
-use Rattle.netcdf_source.specs.Sound.{IsSound, most_members}
+use Rattle.netcdf_source.specs.inner.Sound.{IsSound, most_members}
 use Rattle.netcdf_source.specs.declared.header.Contents.{Contents}
 use Rattle.netcdf_source.specs.declared.header.Variable.{Variable}
 

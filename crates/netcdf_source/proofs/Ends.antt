@@ -1,7 +1,7 @@
 -- What becomes of fields that stand one after the other, and of a reader that goes along with them.
 use Rattle.std.proofs.Common.{◌≡◌, ℕ, suc, ◌<◌, ◌⊎◌, inl, inr, List, [], ◌∷◌, ◌++◌, length, get_or, Option, Some, None, Result, Ok, Err, MatchOption, refl, sym, ap, subst, ◌∙◌, arith}
 use Rattle.netcdf_source.specs.Fields.{Judged, Fault, failure, Ends}
-use Rattle.netcdf_source.specs.Reading.{◌>>=◌}
+use Rattle.netcdf_source.specs.inner.Reading.{◌>>=◌}
 use Rattle.netcdf_source.specs.declared.stop.Failure.{Failure}
 use Rattle.netcdf_source.specs.declared.stop.Failure.TheVariants.{Cut}
 

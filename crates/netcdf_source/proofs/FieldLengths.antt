@@ -4,7 +4,7 @@ use Rattle.std.proofs.lemmas.List.Sums.{sum_by-cons}
 use Rattle.netcdf_source.specs.Fields.{Field, word, long, run, unread, field_len, Spells, Fault, failure, Judged, Ends}
 use Rattle.netcdf_source.specs.Grammar.{VariableTree, HeaderTree, attribute, variable, contents, in_turn, list_fields, attribute_fields, id_fields, variable_fields, header_fields, dimension_fields}
 use Rattle.netcdf_source.specs.Parts.{shares}
-use Rattle.netcdf_source.specs.Sound.{most_members}
+use Rattle.netcdf_source.specs.inner.Sound.{most_members}
 use Rattle.netcdf_source.specs.declared.header.Dimension.{Dimension}
 use Rattle.netcdf_source.specs.declared.header.Variable.{Variable}
 use Rattle.netcdf_source.specs.declared.stop.Failure.{Failure}

@@ -21,7 +21,7 @@ use Rattle.netcdf_source.specs.Laws.{HasHeader, ValuesFit, ValuesArePlaced}
 use Rattle.netcdf_source.specs.Layouts.{slice, element_sizes, element_at, AreWithin, layout_of, place, IsPlaced}
 use Rattle.netcdf_source.specs.Mapping.{base_of, size_at, is_char_type, is_char, element_dimensions, element_size, is_offered, is_empty, is_grid, column_of, array_of, maps_of, member_of, leaf_in, leaves_from, leaf_variable}
 use Rattle.netcdf_source.specs.Parts.{past_end}
-use Rattle.netcdf_source.specs.Sound.{IsSound}
+use Rattle.netcdf_source.specs.inner.Sound.{IsSound}
 use Rattle.netcdf_source.specs.Values.{without_zeros, value_of, by_index, indexed_tree, tree_of, map_variables, member_tree}
 use Rattle.netcdf_source.specs.declared.external_type.ExternalType.{ExternalType}
 use Rattle.netcdf_source.specs.declared.external_type.ExternalType.TheVariants.{Byte, Char, Short, Int, Float, Double}

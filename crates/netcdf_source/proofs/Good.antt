@@ -8,13 +8,13 @@ use Rattle.netcdf_source.specs.Fields.{Field, word, long, run, unread, Fault, ba
 use Rattle.netcdf_source.specs.Grammar.{VariableTree, HeaderTree, attribute, variable, contents, external_type, in_turn, list_fields, dimension_fields, attribute_fields, id_fields, variable_fields, header_fields, records_fault, repeat_fault, length_fault, rank_fault, dimension_fault, part_fault, begin_fault, is_record_dimension}
 use Rattle.netcdf_source.specs.Header.{Stands}
 use Rattle.netcdf_source.specs.Parts.{length_at, is_record, part, share, shares}
-use Rattle.netcdf_source.specs.Sound.{InTurn, IsDimension, IsId, IsVariable, IsSound, most_members}
+use Rattle.netcdf_source.specs.inner.Sound.{InTurn, IsDimension, IsId, IsVariable, IsSound, most_members}
 use Rattle.netcdf_source.specs.declared.header.Contents.{Contents}
 use Rattle.netcdf_source.specs.declared.header.Dimension.{Dimension}
 use Rattle.netcdf_source.specs.declared.header.Variable.{Variable}
 use Rattle.netcdf_source.specs.declared.stop.Failure.{Failure}
 use Rattle.netcdf_source.specs.declared.stop.Failure.TheVariants.{Cut}
-use Rattle.netcdf_source.specs.Reading.{contents_at}
+use Rattle.netcdf_source.specs.inner.Reading.{contents_at}
 use Rattle.netcdf_source.proofs.Ends.{IsBytes, with_value}
 use Rattle.netcdf_source.proofs.FieldLengths.{ends_len, header_len}
 use Rattle.netcdf_source.proofs.Trees.{map-same}

@@ -10,7 +10,7 @@ use Rattle.std.proofs.lemmas.Slice.Eq.{bytes_eq-Decides}
 use Rattle.dap_model.proofs.Tests.{both_true}
 use Rattle.netcdf_source.specs.Mapping.{is_char, has_single_bytes, has_texts, element_dimensions, has_dimension_name, own_dimension_in, own_dimension, is_coordinate_of, coordinate_at, differ, is_empty, is_grid, coordinate_variable, array_of, maps_of}
 use Rattle.netcdf_source.specs.Parts.{lengths}
-use Rattle.netcdf_source.specs.Sound.{InTurn, IsVariable}
+use Rattle.netcdf_source.specs.inner.Sound.{InTurn, IsVariable}
 use Rattle.netcdf_source.specs.Values.{map_variables}
 use Rattle.netcdf_source.specs.declared.header.Contents.{Contents}
 use Rattle.netcdf_source.specs.declared.header.Dimension.{Dimension}

@@ -3,7 +3,7 @@ use Rattle.std.proofs.Common.{ℕ, cond, List, [], ◌∷◌, ◌++◌, map, eqb
 use Rattle.netcdf_source.specs.Fields.{Judged, judged, unread, Fault}
 use Rattle.netcdf_source.specs.Grammar.{Listed, AttributeTree, VariableTree, HeaderTree, attribute, variable, contents, external_type, list_fields, new_name_fields, dimension_fields, attribute_fields, begin_field, variable_fields, header_fields, type_fault, part_fault, records_fault}
 use Rattle.netcdf_source.specs.Parts.{shares}
-use Rattle.netcdf_source.specs.Reading.{◌>>=◌, judged_at, unread_at, begin_at, type_at, list_at, new_name_at, next_dimension, next_attribute, ids_at, variable_at, next_variable, contents_at}
+use Rattle.netcdf_source.specs.inner.Reading.{◌>>=◌, judged_at, unread_at, begin_at, type_at, list_at, new_name_at, next_dimension, next_attribute, ids_at, variable_at, next_variable, contents_at}
 use Rattle.netcdf_source.specs.declared.external_type.ExternalType.{ExternalType}
 use Rattle.netcdf_source.specs.declared.header.Attribute.{Attribute}
 use Rattle.netcdf_source.specs.declared.header.Contents.{Contents}

@@ -4,7 +4,7 @@ use Rattle.std.proofs.lemmas.Bool.{cases_lt}
 use Rattle.std.proofs.lemmas.List.{append-nil, length-replicate}
 use Rattle.netcdf_source.specs.Fields.{Judged, judged, fine, run, Fault, Spells, Ends}
 use Rattle.netcdf_source.specs.Grammar.{Listed, in_turn, list_fields, tag_fault, count_fault, name_fault, repeat_fault, name_fields, new_name_fields}
-use Rattle.netcdf_source.specs.Reading.{◌>>=◌, passed, judged_at, run_at, times, head_at, list_at, name_at, new_name_at}
+use Rattle.netcdf_source.specs.inner.Reading.{◌>>=◌, passed, judged_at, run_at, times, head_at, list_at, name_at, new_name_at}
 use Rattle.netcdf_source.specs.declared.stop.Failure.{Failure}
 use Rattle.netcdf_source.specs.declared.stop.Failure.TheVariants.{Cut}
 use Rattle.netcdf_source.proofs.Ends.{IsBytes, no_bytes, with_value, Again, Sound, join_ends, fail_ends, bytes_left, again_done, again_then, again_like, sound_then, sound_like, sound_as}

@@ -11,7 +11,7 @@ use Rattle.std.proofs.lemmas.Map.Text.{is_eq-slice_cmp}
 use Rattle.dap_types.specs.NameSet.{AreSameNames}
 use Rattle.netcdf_source.specs.Fields.{bad_if}
 use Rattle.netcdf_source.specs.Grammar.{name_fault, repeat_fault}
-use Rattle.netcdf_source.specs.Reading.{◌>>=◌, passed, judged_at, run_at, new_name_at, dimension_at, variable_at}
+use Rattle.netcdf_source.specs.inner.Reading.{◌>>=◌, passed, judged_at, run_at, new_name_at, dimension_at, variable_at}
 use Rattle.netcdf_source.specs.declared.header.Dimension.{Dimension}
 use Rattle.netcdf_source.specs.declared.stop.Failure.{Failure}
 

@@ -11,7 +11,7 @@ use Rattle.dap_types.specs.declared.slabs.Layout.{Layout}
 use Rattle.netcdf_source.specs.Layouts.{slice, piece, chopped, element_sizes, whole_slice, record_slice, element_at, AreWithin, row_steps, steps_of, layout_of, distance, place, IsPlaced, LeafIsPlaced}
 use Rattle.netcdf_source.specs.Mapping.{leaf_in, leaves_from, leaf_variable, is_char, has_single_bytes, has_texts, size_at, element_dimensions, element_size}
 use Rattle.netcdf_source.specs.Parts.{length_at, lengths, inner, is_record, begins_with_records, part, record_size, end_of, is_past, past_end}
-use Rattle.netcdf_source.specs.Sound.{InTurn, IsVariable, IsSound}
+use Rattle.netcdf_source.specs.inner.Sound.{InTurn, IsVariable, IsSound}
 use Rattle.netcdf_source.specs.declared.header.Contents.{Contents}
 use Rattle.netcdf_source.specs.declared.header.Variable.{Variable}
 use Rattle.netcdf_source.proofs.Steps.{ArePositive, and_yes, length_of_map, element_lengths, element_part, element_positive}

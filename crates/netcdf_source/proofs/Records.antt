@@ -6,7 +6,7 @@ use Rattle.std.proofs.lemmas.List.{append-nil, drop_all}
 use Rattle.std.proofs.lemmas.List.Sums.{sum_by-cons}
 use Rattle.std.proofs.lemmas.List.Elements.{All-from_recursion}
 use Rattle.netcdf_source.specs.Parts.{is_record, part, share, shares, bare, mark, record_size}
-use Rattle.netcdf_source.specs.Sound.{InTurn, IsVariable, IsSound, HasSize, HaveSizes}
+use Rattle.netcdf_source.specs.inner.Sound.{InTurn, IsVariable, IsSound, HasSize, HaveSizes}
 use Rattle.netcdf_source.specs.declared.header.Contents.{Contents}
 use Rattle.netcdf_source.specs.declared.header.Dimension.{Dimension}
 use Rattle.netcdf_source.specs.declared.header.Variable.{Variable}

@@ -8,7 +8,7 @@ use Rattle.dap_types.specs.declared.slabs.Layout.{Layout}
 use Rattle.netcdf_source.specs.Layouts.{row_steps, steps_of, layout_of, IsShaped, LeafIsShaped}
 use Rattle.netcdf_source.specs.Mapping.{is_char, has_texts, has_single_bytes, element_dimensions, element_size, is_offered, coordinate_at, is_grid, leaves_of, leaves_from, leaf_in, leaf_variable}
 use Rattle.netcdf_source.specs.Parts.{length_at, lengths, inner, part, record_size, begins_with_records}
-use Rattle.netcdf_source.specs.Sound.{InTurn, IsVariable, IsSound}
+use Rattle.netcdf_source.specs.inner.Sound.{InTurn, IsVariable, IsSound}
 use Rattle.netcdf_source.specs.Types.{size_of}
 use Rattle.netcdf_source.specs.declared.external_type.ExternalType.{ExternalType}
 use Rattle.netcdf_source.specs.declared.external_type.ExternalType.TheVariants.{Byte, Char, Short, Int, Float, Double}

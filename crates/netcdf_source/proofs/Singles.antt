@@ -8,7 +8,7 @@ use Rattle.std.proofs.lemmas.List.{take_at, drop_at, take-append-drop, length-ap
 use Rattle.std.proofs.lemmas.Nat.{be_bytes_4, be_bytes_8, from_be_bytes-to_be_bytes_4, from_be_bytes-to_be_bytes_8}
 use Rattle.netcdf_source.specs.Fields.{word, long, run, unread, field_len, Spells, Fault, failure, bad_if, Judged, judged, fine, Ends}
 use Rattle.netcdf_source.specs.Grammar.{type_fault, external_type, begin_fault, begin_field}
-use Rattle.netcdf_source.specs.Reading.{◌>>=◌, passed, word_at, long_at, run_at, judged_at, unread_at, begin_at, type_at}
+use Rattle.netcdf_source.specs.inner.Reading.{◌>>=◌, passed, word_at, long_at, run_at, judged_at, unread_at, begin_at, type_at}
 use Rattle.netcdf_source.specs.Types.{type_of}
 use Rattle.netcdf_source.specs.declared.external_type.ExternalType.{ExternalType}
 use Rattle.netcdf_source.specs.declared.external_type.ExternalType.TheVariants.{Byte}

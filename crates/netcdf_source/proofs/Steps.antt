@@ -10,7 +10,7 @@ use Rattle.dap_types.specs.Model.{product}
 use Rattle.netcdf_source.specs.Layouts.{row_steps, SuffixesFit, HasSteps, HaveSteps}
 use Rattle.netcdf_source.specs.Mapping.{is_char_type, is_char, has_single_bytes, has_texts, element_dimensions, element_size}
 use Rattle.netcdf_source.specs.Parts.{length_at, lengths, inner, part}
-use Rattle.netcdf_source.specs.Sound.{InTurn, IsId, IsVariable, IsSound}
+use Rattle.netcdf_source.specs.inner.Sound.{InTurn, IsId, IsVariable, IsSound}
 use Rattle.netcdf_source.specs.Types.{size_of}
 use Rattle.netcdf_source.specs.declared.external_type.ExternalType.{ExternalType}
 use Rattle.netcdf_source.specs.declared.external_type.ExternalType.TheVariants.{Byte, Char, Short, Int, Float, Double}

@@ -3,7 +3,7 @@ use Rattle.std.proofs.Common.{◌≡◌, ℕ, suc, ◌-◌, ◌+◌, ◌≤◌, 
 use Rattle.netcdf_source.specs.declared.stop.Failure.{Failure}
 use Rattle.netcdf_source.specs.declared.stop.Stop.{Stop}
 use Rattle.netcdf_source.specs.declared.stop.Stop.TheVariants as stops
-use Rattle.netcdf_source.specs.Reading.{Fails, times}
+use Rattle.netcdf_source.specs.inner.Reading.{Fails, times}
 
 pub goes_on : {X : Type 0} (read : List X → List ℕ → Result (X × List ℕ) Failure) (before : List X) (count i : ℕ) (bytes : List ℕ) (x : X) (after : List ℕ) (total : Result (List X × List ℕ) Failure)
     → i < count → read before bytes ≡ Ok (x, after) → times read (count - i) before bytes ≡ total → times read (count - (i + 1)) (before ++ x ∷ []) after ≡ total

@@ -3,7 +3,7 @@ use Rattle.std.proofs.Common.{◌≡◌, ℕ, ◌*◌, List, [], ◌∷◌, ◌+
 use Rattle.std.specs.List.{list_any}
 use Rattle.netcdf_source.specs.Fields.{Judged, judged, fine, run, word}
 use Rattle.netcdf_source.specs.Grammar.{Listed, AttributeTree, attribute, external_type, in_turn, list_fields, name_fields, new_name_fields, dimension_fields, attribute_fields, id_fields, length_fault, type_fault, rank_fault, dimension_fault, is_record_dimension}
-use Rattle.netcdf_source.specs.Reading.{◌>>=◌, word_at, run_at, judged_at, type_at, list_at, name_at, new_name_at, dimension_at, next_dimension, attribute_at, next_attribute, next_id, ids_at, times}
+use Rattle.netcdf_source.specs.inner.Reading.{◌>>=◌, word_at, run_at, judged_at, type_at, list_at, name_at, new_name_at, dimension_at, next_dimension, attribute_at, next_attribute, next_id, ids_at, times}
 use Rattle.netcdf_source.specs.Types.{size_of}
 use Rattle.netcdf_source.specs.declared.header.Attribute.{Attribute}
 use Rattle.netcdf_source.specs.declared.header.Dimension.{Dimension}

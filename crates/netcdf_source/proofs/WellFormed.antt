@@ -16,7 +16,7 @@ use Rattle.dap_types.proofs.Faults.{length-places}
 use Rattle.dap_types.proofs.Rules.{Obeys, earlier-Decides, well_formed_where_all_obey, false_from_not}
 use Rattle.netcdf_source.specs.Mapping.{size_at, has_texts, element_dimensions, is_offered, own_dimension, coordinate_variable, differ, is_empty, is_grid, dim_of, column_of, array_of, maps_of, member_of, dataset_of}
 use Rattle.netcdf_source.specs.Parts.{length_at}
-use Rattle.netcdf_source.specs.Sound.{InTurn, IsDimension, IsVariable, IsSound, most_members}
+use Rattle.netcdf_source.specs.inner.Sound.{InTurn, IsDimension, IsVariable, IsSound, most_members}
 use Rattle.netcdf_source.specs.declared.header.Contents.{Contents}
 use Rattle.netcdf_source.specs.declared.header.Dimension.{Dimension}
 use Rattle.netcdf_source.specs.declared.header.Variable.{Variable}

@@ -4,7 +4,7 @@ use Rattle.std.specs.Option.{option_map_or}
 use Rattle.netcdf_source.specs.Fields.{Ends}
 use Rattle.netcdf_source.specs.Grammar.{HeaderTree, contents, header_fields}
 use Rattle.netcdf_source.specs.Parts.{past_end}
-use Rattle.netcdf_source.specs.Reading.{contents_at}
+use Rattle.netcdf_source.specs.inner.Reading.{contents_at}
 use Rattle.netcdf_source.specs.declared.header.Contents.{Contents}
 use Rattle.netcdf_source.specs.declared.file.Header.{Header}
 use Rattle.netcdf_source.specs.declared.refusal.HeaderRefusal.{HeaderRefusal}

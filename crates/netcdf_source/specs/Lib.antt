@@ -2,8 +2,6 @@ pub mod Types
 pub mod Fields
 pub mod Parts
 pub mod Grammar
-pub mod Reading
-pub mod Sound
 pub mod Header
 pub mod Mapping
 pub mod Coordinates
@@ -12,3 +10,4 @@ pub mod Layouts
 pub mod Values
 pub mod Laws
 pub mod Attributes
+pub mod inner

@@ -1,5 +1,5 @@
 ghost use Rattle.std.specs.Prelude.{◌≡◌, ℕ, [], Ok};
-ghost use Rattle.netcdf_source.specs.Reading.{Gives, attribute_at, next_attribute, times, list_at};
+ghost use Rattle.netcdf_source.specs.inner.Reading.{Gives, attribute_at, next_attribute, times, list_at};
 
 use crate::Attribute;
 use crate::stop::Stop;
@@ -10,7 +10,7 @@ use std::alloc::Global;
 /// The tag of a list of attributes.
 const TAG: u32 = 12;
 
-#[tactic(auto, unfolding(crate::specs::Reading::attribute_at))]
+#[tactic(auto, unfolding(crate::specs::inner::Reading::attribute_at))]
 fn attribute(alloc: Global, bytes: &[u8]) -> Result<(Attribute, &[u8]), Stop>
     ensures { Gives (λ x. (x.0, x.1.now)) result (attribute_at bytes.now) }
 {
@@ -43,7 +43,7 @@ fn items(alloc: Global, count: u32, bytes: &[u8]) -> Result<(List<Attribute>, &[
 }
 
 /// A list of attributes.
-#[tactic(auto, unfolding(crate::specs::Reading::list_at))]
+#[tactic(auto, unfolding(crate::specs::inner::Reading::list_at))]
 pub fn attributes(alloc: Global, bytes: &[u8]) -> Result<(List<Attribute>, &[u8]), Stop>
     ensures { Gives (λ x. (x.0, x.1.now)) result (list_at 12 next_attribute bytes.now) }
 {

@@ -2,7 +2,7 @@ ghost use Rattle.std.specs.Prelude.{◌≡◌, ℕ, ◌+◌, ◌≤◌, Bool, �
 ghost use Rattle.dap_types.specs.NameSet.{HasAlso};
 ghost use Rattle.netcdf_source.specs.Grammar.{length_fault, is_record_dimension};
 ghost use Rattle.netcdf_source.specs.Parts.{length_at};
-ghost use Rattle.netcdf_source.specs.Reading.{Gives, new_name_at, judged_at, dimension_at, next_dimension, times, list_at};
+ghost use Rattle.netcdf_source.specs.inner.Reading.{Gives, new_name_at, judged_at, dimension_at, next_dimension, times, list_at};
 
 use crate::Dimension;
 use crate::names::Names;
@@ -17,7 +17,7 @@ const TAG: u32 = 10;
 const LEAST: usize = 12;
 
 /// A name that differs from all of these, and is one of them from now on.
-#[tactic(auto, unfolding(crate::specs::Reading::new_name_at, crate::specs::Grammar::repeat_fault))]
+#[tactic(auto, unfolding(crate::specs::inner::Reading::new_name_at, crate::specs::Grammar::repeat_fault))]
 pub fn new_name<'a>(
     alloc: Global,
     names: &mut Names<'a>,
@@ -35,7 +35,7 @@ pub fn new_name<'a>(
 }
 
 /// The length of a dimension, behind a record dimension or not.
-#[tactic(auto, unfolding(crate::specs::Reading::judged_at, crate::specs::Grammar::length_fault))]
+#[tactic(auto, unfolding(crate::specs::inner::Reading::judged_at, crate::specs::Grammar::length_fault))]
 fn length(has_records: bool, bytes: &[u8]) -> Result<(u32, &[u8]), Stop>
     ensures { Gives (λ x. (x.0, x.1.now)) result (judged_at (length_fault has_records) bytes.now) }
 {
@@ -46,7 +46,7 @@ fn length(has_records: bool, bytes: &[u8]) -> Result<(u32, &[u8]), Stop>
     Ok((number, rest))
 }
 
-#[tactic(auto, unfolding(crate::specs::Reading::dimension_at))]
+#[tactic(auto, unfolding(crate::specs::inner::Reading::dimension_at))]
 fn dimension<'a>(
     alloc: Global,
     names: &mut Names<'a>,
@@ -86,7 +86,7 @@ fn items(alloc: Global, count: u32, bytes: &[u8]) -> Result<(List<Dimension>, &[
 }
 
 /// The list of dimensions.
-#[tactic(auto, unfolding(crate::specs::Reading::list_at))]
+#[tactic(auto, unfolding(crate::specs::inner::Reading::list_at))]
 pub fn dimensions(alloc: Global, bytes: &[u8]) -> Result<(List<Dimension>, &[u8]), Stop>
     ensures { Gives (λ x. (x.0, x.1.now)) result (list_at 10 next_dimension bytes.now) }
 {

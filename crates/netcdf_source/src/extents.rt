@@ -1,7 +1,7 @@
 ghost use Rattle.std.specs.Prelude.{◌≡◌, ℕ, ◌+◌, ◌-◌, ◌*◌, ◌^◌, ◌<◌, ◌≤◌, Bool, ◌&&◌, not, ◌==◌, List, true, nat_lt, length, if◌then◌else◌};
 ghost use Rattle.dap_model.specs.Xdr.{padded};
 ghost use Rattle.netcdf_source.specs.Parts.{is_record, part, share, shares, record_size, bare, mark, is_past, past_end};
-ghost use Rattle.netcdf_source.specs.Sound.{IsSound, HasSize, HaveSizes};
+ghost use Rattle.netcdf_source.specs.inner.Sound.{IsSound, HasSize, HaveSizes};
 
 use crate::header::Contents;
 use crate::parts::{is_record, part};

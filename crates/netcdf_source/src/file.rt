@@ -7,7 +7,7 @@ ghost use Rattle.netcdf_source.specs.Attributes.{attributes_of};
 ghost use Rattle.netcdf_source.specs.Layouts.{layout_of, LeafIsPlaced, LeafIsShaped};
 ghost use Rattle.netcdf_source.specs.Mapping.{base_of, dataset_of, is_char, leaf_variable, leaves_from};
 ghost use Rattle.netcdf_source.specs.Parts.{past_end, record_size};
-ghost use Rattle.netcdf_source.specs.Sound.{IsSound};
+ghost use Rattle.netcdf_source.specs.inner.Sound.{IsSound};
 
 use crate::coordinates::coordinates;
 use crate::das::attributes_of;
@@ -45,7 +45,7 @@ impl Model for Header {
     ghost use Rattle.netcdf_source.specs.Layouts.{layout_of};
     ghost use Rattle.netcdf_source.specs.Mapping.{is_grid, leaves_from};
     ghost use Rattle.netcdf_source.specs.Parts.{past_end};
-    ghost use Rattle.netcdf_source.specs.Sound.{IsSound};
+    ghost use Rattle.netcdf_source.specs.inner.Sound.{IsSound};
 
     ghost Value = { FileHeader };
 

@@ -1,7 +1,7 @@
 ghost use Rattle.std.specs.Prelude.{◌≡◌, ℕ, ◌+◌, ◌^◌, ◌<◌, ◌≤◌, ◌⊎◌, min, List, [], ◌∷◌, ◌++◌, length, Result, Ok, Err, IfOk, IfErr, IfNone, IfSome, MatchResult, IsErrAnd};
 ghost use Rattle.netcdf_source.specs.Header.{contents_of, magic, IsVersion, version_of, version_in, HasNoMagic, IsHeader, IsFirst, refusal_of, verdict, Answers};
-ghost use Rattle.netcdf_source.specs.Reading.{Gives, contents_at};
-ghost use Rattle.netcdf_source.specs.Sound.{IsSound};
+ghost use Rattle.netcdf_source.specs.inner.Reading.{Gives, contents_at};
+ghost use Rattle.netcdf_source.specs.inner.Sound.{IsSound};
 
 use crate::attributes::attributes;
 use crate::dimensions::dimensions;
@@ -48,7 +48,7 @@ fn split_magic(front: &[u8]) -> Option<(u8, &[u8])>
 }
 
 /// All that stands behind the magic.
-#[tactic(auto, unfolding(crate::specs::Reading::contents_at))]
+#[tactic(auto, unfolding(crate::specs::inner::Reading::contents_at))]
 fn fields(alloc: Global, version: u8, body: &[u8]) -> Result<(Contents, &[u8]), Stop>
     ensures { Gives (λ x. (x.0, x.1.now)) result (contents_at version body.now) }
 {

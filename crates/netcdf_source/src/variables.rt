@@ -2,7 +2,7 @@ ghost use Rattle.std.specs.Prelude.{◌≡◌, ℕ, ◌+◌, ◌^◌, ◌≤◌,
 ghost use Rattle.dap_types.specs.NameSet.{HasAlso};
 ghost use Rattle.netcdf_source.specs.Grammar.{rank_fault, dimension_fault, part_fault};
 ghost use Rattle.netcdf_source.specs.Parts.{share};
-ghost use Rattle.netcdf_source.specs.Reading.{Gives, judged_at, unread_at, next_id, ids_at, variable_at, next_variable, times, list_at};
+ghost use Rattle.netcdf_source.specs.inner.Reading.{Gives, judged_at, unread_at, next_id, ids_at, variable_at, next_variable, times, list_at};
 
 use crate::attributes::attributes;
 use crate::dimensions::{length_of, new_name};
@@ -21,7 +21,7 @@ const RANK_MAX: u32 = 32;
 /// The bytes of the least variable.
 const LEAST: usize = 32;
 
-#[tactic(auto, unfolding(crate::specs::Reading::judged_at, crate::specs::Grammar::rank_fault))]
+#[tactic(auto, unfolding(crate::specs::inner::Reading::judged_at, crate::specs::Grammar::rank_fault))]
 fn rank(bytes: &[u8]) -> Result<(u32, &[u8]), Stop>
     ensures { Gives (λ x. (x.0, x.1.now)) result (judged_at rank_fault bytes.now) }
 {
@@ -33,7 +33,7 @@ fn rank(bytes: &[u8]) -> Result<(u32, &[u8]), Stop>
 }
 
 /// The number of a dimension. The record dimension stands first alone.
-#[tactic(auto, unfolding(crate::specs::Reading::judged_at, crate::specs::Grammar::dimension_fault))]
+#[tactic(auto, unfolding(crate::specs::inner::Reading::judged_at, crate::specs::Grammar::dimension_fault))]
 fn dimension<'a>(
     dimensions: &[Dimension],
     is_first: bool,
@@ -67,7 +67,7 @@ fn dimension_items<'a>(
 }
 
 /// The dimensions of a variable.
-#[tactic(auto, unfolding(crate::specs::Reading::ids_at))]
+#[tactic(auto, unfolding(crate::specs::inner::Reading::ids_at))]
 fn ids<'a>(
     alloc: Global,
     dimensions: &[Dimension],
@@ -80,7 +80,7 @@ fn ids<'a>(
 }
 
 /// Passes over a variable's `vsize`, and gives the bytes of a record with this variable.
-#[tactic(auto, unfolding(crate::specs::Reading::unread_at))]
+#[tactic(auto, unfolding(crate::specs::inner::Reading::unread_at))]
 fn vsize<'a>(
     dimensions: &[Dimension],
     sum: u64,
@@ -100,7 +100,7 @@ fn vsize<'a>(
 }
 
 /// A variable, and the bytes of a record with it.
-#[tactic(auto, unfolding(crate::specs::Reading::variable_at))]
+#[tactic(auto, unfolding(crate::specs::inner::Reading::variable_at))]
 fn variable<'a>(
     alloc: Global,
     version: u8,
@@ -157,7 +157,7 @@ fn items<'a>(
 }
 
 /// The list of variables.
-#[tactic(auto, unfolding(crate::specs::Reading::list_at))]
+#[tactic(auto, unfolding(crate::specs::inner::Reading::list_at))]
 pub fn variables<'a>(
     alloc: Global,
     version: u8,

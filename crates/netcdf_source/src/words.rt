@@ -1,7 +1,7 @@
 ghost use Rattle.std.specs.Prelude.{◌≡◌, ℕ, ◌+◌, ◌<◌, ◌≤◌, ◌^◌, List, length, Ok, Bool};
 ghost use Rattle.dap_model.specs.Xdr.{padded};
 ghost use Rattle.netcdf_source.specs.Grammar.{records_fault, tag_fault, count_fault, name_fault, length_fault, rank_fault, begin_fault};
-ghost use Rattle.netcdf_source.specs.Reading.{Gives, word_at, long_at, run_at, judged_at, begin_at, type_at, head_at, name_at};
+ghost use Rattle.netcdf_source.specs.inner.Reading.{Gives, word_at, long_at, run_at, judged_at, begin_at, type_at, head_at, name_at};
 
 use crate::ExternalType;
 use crate::stop::{Failure, Stop};
@@ -23,7 +23,7 @@ pub fn bad(bytes: &[u8]) -> Stop
 }
 
 /// A number of four bytes.
-#[tactic(auto, unfolding(crate::specs::Reading::word_at))]
+#[tactic(auto, unfolding(crate::specs::inner::Reading::word_at))]
 pub fn word(bytes: &[u8]) -> Result<(u32, &[u8]), Stop>
     ensures { Gives (λ x. (x.0, x.1.now)) result (word_at bytes.now) }
 {
@@ -36,7 +36,7 @@ pub fn word(bytes: &[u8]) -> Result<(u32, &[u8]), Stop>
 }
 
 /// A number of eight bytes.
-#[tactic(auto, unfolding(crate::specs::Reading::long_at))]
+#[tactic(auto, unfolding(crate::specs::inner::Reading::long_at))]
 pub fn long(bytes: &[u8]) -> Result<(u64, &[u8]), Stop>
     ensures { Gives (λ x. (x.0, x.1.now)) result (long_at bytes.now) }
 {
@@ -51,7 +51,7 @@ pub fn long(bytes: &[u8]) -> Result<(u64, &[u8]), Stop>
 }
 
 /// So many bytes, and behind them their padding to a multiple of four.
-#[tactic(auto, unfolding(crate::specs::Reading::run_at))]
+#[tactic(auto, unfolding(crate::specs::inner::Reading::run_at))]
 pub fn run(length: u64, bytes: &[u8]) -> Result<(&[u8], &[u8]), Stop>
     requires { length < 2 ^ 36 }
     ensures { Gives (λ x. (x.0.now, x.1.now)) result (run_at length bytes.now) }
@@ -64,7 +64,7 @@ pub fn run(length: u64, bytes: &[u8]) -> Result<(&[u8], &[u8]), Stop>
 }
 
 /// The number of records.
-#[tactic(auto, unfolding(crate::specs::Reading::judged_at, crate::specs::Grammar::records_fault))]
+#[tactic(auto, unfolding(crate::specs::inner::Reading::judged_at, crate::specs::Grammar::records_fault))]
 pub fn records(bytes: &[u8]) -> Result<(u32, &[u8]), Stop>
     ensures { Gives (λ x. (x.0, x.1.now)) result (judged_at records_fault bytes.now) }
 {
@@ -79,7 +79,7 @@ pub fn records(bytes: &[u8]) -> Result<(u32, &[u8]), Stop>
 }
 
 /// The tag of a list: its own, or 0 where the list is absent.
-#[tactic(auto, unfolding(crate::specs::Reading::judged_at, crate::specs::Grammar::tag_fault))]
+#[tactic(auto, unfolding(crate::specs::inner::Reading::judged_at, crate::specs::Grammar::tag_fault))]
 fn tag(wanted: u32, bytes: &[u8]) -> Result<(u32, &[u8]), Stop>
     ensures { Gives (λ x. (x.0, x.1.now)) result (judged_at (tag_fault wanted) bytes.now) }
 {
@@ -91,7 +91,7 @@ fn tag(wanted: u32, bytes: &[u8]) -> Result<(u32, &[u8]), Stop>
 }
 
 /// The number of items of a list with that tag.
-#[tactic(auto, unfolding(crate::specs::Reading::judged_at, crate::specs::Grammar::count_fault))]
+#[tactic(auto, unfolding(crate::specs::inner::Reading::judged_at, crate::specs::Grammar::count_fault))]
 fn count(tag: u32, bytes: &[u8]) -> Result<(u32, &[u8]), Stop>
     ensures { Gives (λ x. (x.0, x.1.now)) result (judged_at (count_fault tag) bytes.now) }
 {
@@ -103,7 +103,7 @@ fn count(tag: u32, bytes: &[u8]) -> Result<(u32, &[u8]), Stop>
 }
 
 /// The tag of a list and the number of its items.
-#[tactic(auto, unfolding(crate::specs::Reading::head_at))]
+#[tactic(auto, unfolding(crate::specs::inner::Reading::head_at))]
 pub fn head(wanted: u32, bytes: &[u8]) -> Result<(u32, &[u8]), Stop>
     ensures { Gives (λ x. (x.0, x.1.now)) result (head_at wanted bytes.now) }
 {
@@ -112,7 +112,7 @@ pub fn head(wanted: u32, bytes: &[u8]) -> Result<(u32, &[u8]), Stop>
 }
 
 /// The length of a name: 1 to 256.
-#[tactic(auto, unfolding(crate::specs::Reading::judged_at, crate::specs::Grammar::name_fault))]
+#[tactic(auto, unfolding(crate::specs::inner::Reading::judged_at, crate::specs::Grammar::name_fault))]
 pub fn name_length(bytes: &[u8]) -> Result<(u32, &[u8]), Stop>
     ensures { Gives (λ x. (x.0, x.1.now)) result (judged_at name_fault bytes.now) }
 {
@@ -124,7 +124,7 @@ pub fn name_length(bytes: &[u8]) -> Result<(u32, &[u8]), Stop>
 }
 
 /// A name, which may repeat another one.
-#[tactic(auto, unfolding(crate::specs::Reading::name_at))]
+#[tactic(auto, unfolding(crate::specs::inner::Reading::name_at))]
 pub fn name(alloc: Global, bytes: &[u8]) -> Result<(Id, &[u8]), Stop>
     ensures { Gives (λ x. (x.0, x.1.now)) result (name_at bytes.now) }
 {
@@ -134,7 +134,7 @@ pub fn name(alloc: Global, bytes: &[u8]) -> Result<(Id, &[u8]), Stop>
 }
 
 /// A type.
-#[tactic(auto, unfolding(crate::specs::Reading::type_at))]
+#[tactic(auto, unfolding(crate::specs::inner::Reading::type_at))]
 pub fn external_type(bytes: &[u8]) -> Result<(ExternalType, &[u8]), Stop>
     ensures { Gives (λ x. (x.0, x.1.now)) result (type_at bytes.now) }
 {
@@ -146,7 +146,7 @@ pub fn external_type(bytes: &[u8]) -> Result<(ExternalType, &[u8]), Stop>
 }
 
 /// The place of a variable, in 4 bytes in version 1 and in 8 in version 2.
-#[tactic(auto, unfolding(crate::specs::Reading::begin_at, crate::specs::Grammar::begin_fault))]
+#[tactic(auto, unfolding(crate::specs::inner::Reading::begin_at, crate::specs::Grammar::begin_fault))]
 pub fn begin(version: u8, bytes: &[u8]) -> Result<(u64, &[u8]), Stop>
     ensures { Gives (λ x. (x.0, x.1.now)) result (begin_at version bytes.now) }
 {

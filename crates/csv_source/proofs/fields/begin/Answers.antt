@@ -1,5 +1,5 @@
 use Rattle.std.proofs.Common.{◌≡◌, ◌-◌, suc, arith, sym, ap, ◌∙◌}
-use Rattle.csv_source.specs.Held.{begin_of}
+use Rattle.csv_source.specs.inner.Held.{begin_of}
 use Rattle.csv_source.proofs.KeptFields.{begin-first, begin-later}
 use Rattle.csv_source.proofs.fields.begin.Goals as goal
 

@@ -5,7 +5,7 @@ use Rattle.std.proofs.lemmas.List.{append-nil, take_more}
 use Rattle.csv.specs.Records.{field_at, fields_of}
 use Rattle.csv.proofs.RecordFacts.{field-get, field-there}
 use Rattle.csv_source.specs.Cells.{is_cell}
-use Rattle.csv_source.specs.Held.{fields_in, total}
+use Rattle.csv_source.specs.inner.Held.{fields_in, total}
 use Rattle.csv_source.proofs.KeptFields.{total-append, total-none, total-one, total-take}
 use Rattle.csv_source.proofs.RowCauses.{bad-step, row-bad-cell, row-end, row-ragged, row-step}
 use Rattle.csv_source.proofs.read.push_row.Goals as goal

@@ -1,7 +1,7 @@
 use Rattle.std.proofs.Common.{◌≡◌, ◌+◌, ◌++◌, length, take, drop}
 use Rattle.csv.specs.Records.{fields_of}
 use Rattle.csv_source.specs.Causes.{bad_column, is_row}
-use Rattle.csv_source.specs.Held.{AreEnds, fields_in, total}
+use Rattle.csv_source.specs.inner.Held.{AreEnds, fields_in, total}
 use Rattle.csv_source.proofs.read.push_row.Given as goal
 
 -- the cells so far are pushed, and what is left decides

@@ -1,7 +1,7 @@
 use Rattle.std.proofs.Common.{rules, refl, arith, ◌≡◌, ◌∷◌, ◌+◌, true, false, length}
 use Rattle.std.proofs.lemmas.Result.{err_from_is_err_and}
 use Rattle.csv.specs.Records.{fields_of}
-use Rattle.csv_source.specs.Held.{AreEnds, fields_from, fields_in, rows_of, total_all}
+use Rattle.csv_source.specs.inner.Held.{AreEnds, fields_from, fields_in, rows_of, total_all}
 use Rattle.csv_source.proofs.Reading.{row-bad, row-more, row-room}
 use Rattle.csv_source.proofs.Rows.{rows_of-length}
 use Rattle.csv_source.proofs.read.read_rows.Goals as goal

@@ -2,8 +2,8 @@ use Rattle.std.proofs.Common.{◌≡◌, ◌≤◌, ◌*◌, ◌∷◌, length, 
 use Rattle.std.specs.List.{list_all}
 use Rattle.csv.specs.Records.{fields_of}
 use Rattle.csv_source.specs.Causes.{is_row}
-use Rattle.csv_source.specs.Held.{AreEnds, fields_in, rows_of, total_all}
-use Rattle.csv_source.specs.Standing.{Stands}
+use Rattle.csv_source.specs.inner.Held.{AreEnds, fields_in, rows_of, total_all}
+use Rattle.csv_source.specs.inner.Standing.{Stands}
 use Rattle.csv_source.proofs.read.read_rows.Given as goal
 
 -- the reader gave the header and the rows that are held, and each is a row

@@ -3,7 +3,7 @@ use Rattle.std.proofs.lemmas.Result.{err_from_is_err_and}
 use Rattle.csv.specs.Records.{fields_of}
 use Rattle.csv_source.specs.Csv.{csv_records}
 use Rattle.csv_source.specs.Header.{columns_of, repeated}
-use Rattle.csv_source.specs.Held.{fields_in}
+use Rattle.csv_source.specs.inner.Held.{fields_in}
 use Rattle.csv_source.proofs.Columns.{columns-length}
 use Rattle.csv_source.proofs.Standings.{stands-front}
 use Rattle.csv_source.proofs.TableFacts.{file-long, file-records, no-header, repeats, row-wrong, table-found, too-wide}

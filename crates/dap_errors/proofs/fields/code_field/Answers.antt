@@ -3,8 +3,8 @@ use Rattle.text_tokens.specs.Tokens.{Token, TokenAt}
 use Rattle.text_tokens.specs.Kinds.{IsKind}
 use Rattle.text_tokens.specs.declared.tokens.Kind.{Kind}
 use Rattle.dap_errors.specs.Object.{signs, bare, is_code, is_code_word, code_value, values}
-use Rattle.dap_errors.specs.Machine.{Assigned, field_of, step}
-use Rattle.dap_errors.specs.Standing.{HoldsCode}
+use Rattle.dap_errors.specs.inner.Machine.{Assigned, field_of, step}
+use Rattle.dap_errors.specs.inner.Standing.{HoldsCode}
 use Rattle.dap_errors.proofs.Names.{word_slice}
 use Rattle.dap_errors.proofs.Finding.{held_code, no_code, more_code, code_may, code_no_text, code_no_word}
 use Rattle.dap_errors.proofs.Moves.{stops_bad}

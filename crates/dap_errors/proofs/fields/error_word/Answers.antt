@@ -1,6 +1,6 @@
 use Rattle.std.proofs.Common.{◌∙◌, sym}
 use Rattle.std.proofs.lemmas.Result.{err_from_is_err_and}
-use Rattle.dap_errors.specs.Machine.{Start, Named}
+use Rattle.dap_errors.specs.inner.Machine.{Start, Named}
 use Rattle.dap_errors.proofs.Moves.{starts, moves, stops_bad, stops_end}
 use Rattle.dap_errors.proofs.Names.{start_named, start_other}
 use Rattle.dap_errors.proofs.fields.error_word.Goals as goal

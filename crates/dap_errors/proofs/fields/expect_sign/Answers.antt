@@ -1,7 +1,7 @@
 use Rattle.std.proofs.Common.{ap, subst, ◌∙◌}
 use Rattle.text_tokens.specs.Kinds.{IsKind}
 use Rattle.text_tokens.specs.declared.tokens.Kind.{Kind}
-use Rattle.dap_errors.specs.Machine.{step}
+use Rattle.dap_errors.specs.inner.Machine.{step}
 use Rattle.dap_errors.proofs.Moves.{moves}
 use Rattle.dap_errors.proofs.fields.expect_sign.Goals as goal
 

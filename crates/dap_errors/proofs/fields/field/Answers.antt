@@ -1,8 +1,8 @@
 use Rattle.std.proofs.Common.{◌≡◌, ◌∙◌, ap, sym, true, false, [], ◌∷◌, ◌++◌}
 use Rattle.std.proofs.lemmas.Result.{err_from_is_err_and}
 use Rattle.text_tokens.specs.Tokens.{word}
-use Rattle.dap_errors.specs.Machine.{Fields, Labelled, Assigned, Valued, field_of, step, may_label}
-use Rattle.dap_errors.specs.Standing.{label_kind}
+use Rattle.dap_errors.specs.inner.Machine.{Fields, Labelled, Assigned, Valued, field_of, step, may_label}
+use Rattle.dap_errors.specs.inner.Standing.{label_kind}
 use Rattle.dap_errors.proofs.Names.{word_slice}
 use Rattle.dap_errors.proofs.Live.{assigned_step}
 use Rattle.dap_errors.proofs.Finding.{labelled_step, no_label, not_false, not_true}

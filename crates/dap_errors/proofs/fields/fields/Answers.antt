@@ -4,7 +4,7 @@ use Rattle.text_tokens.specs.Tokens.{Token, Next}
 use Rattle.text_tokens.specs.Kinds.{IsKind}
 use Rattle.text_tokens.specs.declared.tokens.Kind.{Kind}
 use Rattle.dap_errors.specs.Object.{signs}
-use Rattle.dap_errors.specs.Machine.{Fields, field_of, step}
+use Rattle.dap_errors.specs.inner.Machine.{Fields, field_of, step}
 use Rattle.dap_errors.proofs.Moves.{stops_bad, stops_end}
 use Rattle.dap_errors.proofs.Ending.{ended_at}
 use Rattle.dap_errors.proofs.fields.fields.Goals as goal

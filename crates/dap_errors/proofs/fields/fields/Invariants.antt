@@ -1,7 +1,7 @@
 use Rattle.std.proofs.Common.{length, ◌-◌, ◌≤◌, List, []}
 use Rattle.dap_errors.specs.Object.{Field}
-use Rattle.dap_errors.specs.Machine.{Fields}
-use Rattle.dap_errors.specs.Standing.{StandsAt, Holds}
+use Rattle.dap_errors.specs.inner.Machine.{Fields}
+use Rattle.dap_errors.specs.inner.Standing.{StandsAt, Holds}
 use Rattle.dap_errors.proofs.fields.fields.Given as goal
 
 abbrev pub invariant-names : goal.invariant-names

@@ -4,7 +4,7 @@ use Rattle.text_tokens.specs.Tokens.{Token, TokenAt}
 use Rattle.text_tokens.specs.Kinds.{IsKind}
 use Rattle.text_tokens.specs.declared.tokens.Kind.{Kind}
 use Rattle.dap_errors.specs.Object.{signs}
-use Rattle.dap_errors.specs.Standing.{has_name}
+use Rattle.dap_errors.specs.inner.Standing.{has_name}
 use Rattle.viable.proofs.Words.{same_name}
 use Rattle.dap_errors.proofs.Names.{word_slice}
 use Rattle.dap_errors.proofs.fields.is_named.Goals as goal

@@ -5,7 +5,7 @@ use Rattle.text_tokens.specs.Tokens.{Token, quoted, TokenAt}
 use Rattle.text_tokens.specs.Kinds.{IsKind}
 use Rattle.text_tokens.specs.declared.tokens.Kind.{Kind}
 use Rattle.dap_errors.specs.Object.{signs, text}
-use Rattle.dap_errors.specs.Machine.{Assigned, step}
+use Rattle.dap_errors.specs.inner.Machine.{Assigned, step}
 use Rattle.dap_errors.proofs.Names.{quoted_slice}
 use Rattle.dap_errors.proofs.Finding.{more_message, message_may, message_no_word}
 use Rattle.dap_errors.proofs.Moves.{stops_bad}

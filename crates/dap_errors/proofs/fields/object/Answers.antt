@@ -1,6 +1,6 @@
 use Rattle.std.proofs.Common.{[]}
 use Rattle.std.proofs.lemmas.Result.{err_from_is_err_and}
-use Rattle.dap_errors.specs.Machine.{Named, Fields}
+use Rattle.dap_errors.specs.inner.Machine.{Named, Fields}
 use Rattle.dap_errors.proofs.Moves.{named_wants}
 use Rattle.dap_errors.proofs.fields.object.Goals as goal
 

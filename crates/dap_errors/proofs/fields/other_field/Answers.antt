@@ -2,7 +2,7 @@ use Rattle.std.proofs.Common.{ap, sym, subst}
 use Rattle.text_tokens.specs.Kinds.{IsKind}
 use Rattle.text_tokens.specs.declared.tokens.Kind.{Kind}
 use Rattle.dap_errors.specs.Object.{bare, text}
-use Rattle.dap_errors.specs.Machine.{Assigned, step}
+use Rattle.dap_errors.specs.inner.Machine.{Assigned, step}
 use Rattle.dap_errors.proofs.Finding.{more_other, other_may}
 use Rattle.dap_errors.proofs.Moves.{stops_bad}
 use Rattle.dap_errors.proofs.fields.other_field.Goals as goal

@@ -4,8 +4,8 @@ use Rattle.text_tokens.specs.Kinds.{IsKind}
 use Rattle.text_tokens.specs.Tokens.{Token, TokenAt, quoted}
 use Rattle.text_tokens.specs.declared.tokens.Kind.{Kind}
 use Rattle.das_text.specs.Grammar.{signs}
-use Rattle.das_text.specs.Held.{state_view}
-use Rattle.das_text.specs.Machine.{step}
+use Rattle.das_text.specs.inner.Held.{state_view}
+use Rattle.das_text.specs.inner.Machine.{step}
 use Rattle.das_text.proofs.scan.next_state.Goals as goal
 
 pub returns-in_ok-value-in-Quoted : goal.returns-in_ok-value-in-Quoted

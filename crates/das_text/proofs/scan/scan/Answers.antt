@@ -1,5 +1,5 @@
 use Rattle.std.proofs.lemmas.Result.{err_from_is_err_and}
-use Rattle.das_text.specs.Held.{state_view}
+use Rattle.das_text.specs.inner.Held.{state_view}
 use Rattle.das_text.proofs.Scanning.{goes_on, stops, stops_end, is_open}
 use Rattle.das_text.proofs.scan.scan.Goals as goal
 

@@ -1,6 +1,6 @@
 use Rattle.std.proofs.Common.{length, ◌-◌, ◌≤◌}
-use Rattle.das_text.specs.Held.{state_view}
-use Rattle.das_text.specs.Standing.{Stands}
+use Rattle.das_text.specs.inner.Held.{state_view}
+use Rattle.das_text.specs.inner.Standing.{Stands}
 use Rattle.das_text.proofs.scan.scan.Given as goal
 
 abbrev pub invariant-tokens : goal.invariant-tokens

@@ -1,5 +1,5 @@
 use Rattle.std.proofs.lemmas.Result.{err_from_is_err_and}
-use Rattle.netcdf_source.specs.Reading.{next_attribute, times}
+use Rattle.netcdf_source.specs.inner.Reading.{next_attribute, times}
 use Rattle.netcdf_source.proofs.Times.{goes_on, ends, is_done}
 use Rattle.std.proofs.Common.{[]}
 use Rattle.netcdf_source.proofs.attributes.items.Goals as goal

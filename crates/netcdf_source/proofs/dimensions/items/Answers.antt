@@ -3,7 +3,7 @@ use Rattle.std.specs.List.{list_any}
 use Rattle.std.proofs.lemmas.Result.{err_from_is_err_and}
 use Rattle.std.proofs.lemmas.List.{map_push}
 use Rattle.netcdf_source.specs.Grammar.{is_record_dimension}
-use Rattle.netcdf_source.specs.Reading.{Fails, next_dimension, times}
+use Rattle.netcdf_source.specs.inner.Reading.{Fails, next_dimension, times}
 use Rattle.netcdf_source.proofs.Lists.{list_any-push}
 use Rattle.dap_types.proofs.NameSets.{behind}
 use Rattle.netcdf_source.proofs.NewNames.{same_dimension}

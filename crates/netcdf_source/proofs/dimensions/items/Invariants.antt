@@ -2,7 +2,7 @@ use Rattle.std.proofs.Common.{◌≡◌, ◌-◌, [], map}
 use Rattle.std.specs.List.{list_any}
 use Rattle.dap_types.specs.NameSet.{AreSameNames}
 use Rattle.netcdf_source.specs.Grammar.{is_record_dimension}
-use Rattle.netcdf_source.specs.Reading.{next_dimension, times}
+use Rattle.netcdf_source.specs.inner.Reading.{next_dimension, times}
 use Rattle.netcdf_source.proofs.dimensions.items.Given as goal
 
 abbrev pub invariant-loop : goal.invariant-loop

@@ -1,6 +1,6 @@
 use Rattle.std.proofs.Common.{◌≡◌, ◌≤◌, ◌^◌, min, ◌+◌, arith}
 use Rattle.netcdf_source.specs.Parts.{part}
-use Rattle.netcdf_source.specs.Sound.{HasSize}
+use Rattle.netcdf_source.specs.inner.Sound.{HasSize}
 use Rattle.netcdf_source.proofs.extents.part_of.Goals as goal
 
 pub returns-clause-part : goal.returns-clause-part

@@ -1,6 +1,6 @@
 use Rattle.std.proofs.Common.{◌≡◌, [], length, ◌==◌, Ok}
 use Rattle.std.proofs.lemmas.Result.{err_from_is_err_and}
-use Rattle.netcdf_source.specs.Reading.{Fails, next_id, times}
+use Rattle.netcdf_source.specs.inner.Reading.{Fails, next_id, times}
 use Rattle.netcdf_source.proofs.Times.{goes_on, ends, is_done}
 use Rattle.netcdf_source.proofs.variables.dimension_items.Goals as goal
 

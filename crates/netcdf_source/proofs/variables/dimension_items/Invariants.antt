@@ -1,5 +1,5 @@
 use Rattle.std.proofs.Common.{◌≡◌, ◌-◌, []}
-use Rattle.netcdf_source.specs.Reading.{next_id, times}
+use Rattle.netcdf_source.specs.inner.Reading.{next_id, times}
 use Rattle.netcdf_source.proofs.variables.dimension_items.Given as goal
 
 abbrev pub invariant-loop : goal.invariant-loop

@@ -2,7 +2,7 @@ use Rattle.std.proofs.Common.{◌≡◌, [], rules, Ok, map, subst, sym, ◌∙�
 use Rattle.std.proofs.lemmas.Result.{err_from_is_err_and}
 use Rattle.std.proofs.lemmas.List.{map_push}
 use Rattle.netcdf_source.specs.Parts.{shares}
-use Rattle.netcdf_source.specs.Reading.{Fails, next_variable, times}
+use Rattle.netcdf_source.specs.inner.Reading.{Fails, next_variable, times}
 use Rattle.netcdf_source.proofs.Lists.{shares-push}
 use Rattle.dap_types.proofs.NameSets.{behind}
 use Rattle.netcdf_source.proofs.NewNames.{same_variable}

@@ -1,7 +1,7 @@
 use Rattle.std.proofs.Common.{◌≡◌, ◌-◌, ◌≤◌, ◌^◌, [], map}
 use Rattle.dap_types.specs.NameSet.{AreSameNames}
 use Rattle.netcdf_source.specs.Parts.{shares}
-use Rattle.netcdf_source.specs.Reading.{next_variable, times}
+use Rattle.netcdf_source.specs.inner.Reading.{next_variable, times}
 use Rattle.netcdf_source.proofs.variables.items.Given as goal
 
 abbrev pub invariant-loop : goal.invariant-loop

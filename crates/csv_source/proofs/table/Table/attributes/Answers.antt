@@ -1,5 +1,5 @@
 use Rattle.std.proofs.Common.{ap, ◌∙◌}
-use Rattle.csv_source.specs.Held.{fields_in, held_rows}
+use Rattle.csv_source.specs.inner.Held.{fields_in, held_rows}
 use Rattle.csv_source.specs.Names.{sequence_name}
 use Rattle.csv_source.proofs.Datasets.{table-attributes}
 use Rattle.csv_source.proofs.table.Table.attributes.Goals as goal

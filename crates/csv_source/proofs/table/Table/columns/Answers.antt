@@ -1,4 +1,4 @@
-use Rattle.csv_source.specs.Held.{fields_in}
+use Rattle.csv_source.specs.inner.Held.{fields_in}
 use Rattle.csv_source.proofs.Rows.{held-long}
 use Rattle.csv_source.proofs.table.Table.columns.Goals as goal
 

@@ -1,7 +1,7 @@
 use Rattle.std.proofs.Common.{ap, ◌∙◌}
 use Rattle.dap_types.proofs.Rules.{well_formed_without_fault}
 use Rattle.file_names.specs.Names.{dataset_name}
-use Rattle.csv_source.specs.Held.{fields_in, held_rows}
+use Rattle.csv_source.specs.inner.Held.{fields_in, held_rows}
 use Rattle.csv_source.specs.Names.{sequence_name}
 use Rattle.csv_source.proofs.Datasets.{table-dataset}
 use Rattle.csv_source.proofs.Formed.{no-fault}

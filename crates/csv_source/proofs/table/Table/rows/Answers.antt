@@ -1,5 +1,5 @@
 use Rattle.std.proofs.Common.{sym}
-use Rattle.csv_source.specs.Held.{fields_in}
+use Rattle.csv_source.specs.inner.Held.{fields_in}
 use Rattle.csv_source.proofs.Rows.{held-count}
 use Rattle.csv_source.proofs.table.Table.rows.Goals as goal
 

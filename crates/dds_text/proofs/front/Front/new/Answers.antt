@@ -1,5 +1,5 @@
 use Rattle.std.proofs.Common.{refl, ap, [], ◌++◌}
-use Rattle.dds_text.specs.States.{begun}
+use Rattle.dds_text.specs.inner.States.{begun}
 use Rattle.dds_text.proofs.front.Front.new.Goals as goal
 
 pub returns : goal.returns

@@ -1,7 +1,7 @@
 use Rattle.std.proofs.Common.{◌+◌, ◌++◌, [], List, ℕ, take, drop, sym, subst, ◌∙◌, arith}
 use Rattle.dds_text.proofs.Stops.{more_of_word, text_whole, place_in, next_byte, ended_in, whole_piece}
 use Rattle.dap_types.specs.View.{dataset_view}
-use Rattle.dds_text.specs.Standing.{StopsAt}
+use Rattle.dds_text.specs.inner.Standing.{StopsAt}
 use Rattle.dds_text.proofs.front.Front.read.Goals as goal
 
 pub loop-i-preserved-then-is_plain : goal.loop-i-preserved-then-is_plain

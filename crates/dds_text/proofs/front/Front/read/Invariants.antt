@@ -1,5 +1,5 @@
 use Rattle.std.proofs.Common.{◌≡◌, ℕ, ◌≤◌, List, ◌++◌, take, slice_range}
-use Rattle.dds_text.specs.Standing.{IsRead, IsReadTo}
+use Rattle.dds_text.specs.inner.Standing.{IsRead, IsReadTo}
 use Rattle.dds_text.proofs.front.Front.read.Given as goal
 
 abbrev pub invariant-loop-i : goal.invariant-loop-i

@@ -1,7 +1,7 @@
 use Rattle.std.proofs.Common.{List, sym, subst}
 use Rattle.dap_types.specs.declared.declarations.Column.{Column}
-use Rattle.dds_text.specs.Held.{NamesAre}
-use Rattle.dds_text.specs.States.{is_name_of_column}
+use Rattle.dds_text.specs.inner.Held.{NamesAre}
+use Rattle.dds_text.specs.inner.States.{is_name_of_column}
 use Rattle.dds_text.proofs.Named.{column_named}
 use Rattle.dds_text.proofs.level.Columns.add.Goals as goal
 

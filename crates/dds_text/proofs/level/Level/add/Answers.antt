@@ -3,8 +3,8 @@ use Rattle.dap_types.specs.Model.{Member, name_of}
 use Rattle.dap_types.specs.NameSet.{HasAlso}
 use Rattle.dap_types.specs.View.{member_view}
 use Rattle.dap_types.proofs.Views.{members-push}
-use Rattle.dds_text.specs.Held.{NamesAre}
-use Rattle.dds_text.specs.States.{is_name_of}
+use Rattle.dds_text.specs.inner.Held.{NamesAre}
+use Rattle.dds_text.specs.inner.States.{is_name_of}
 use Rattle.dds_text.proofs.Named.{member_named}
 use Rattle.dds_text.proofs.level.Level.add.Goals as goal
 

@@ -1,6 +1,6 @@
 use Rattle.dap_types.specs.View.{member_view}
 use Rattle.dds_text.proofs.OpenLevels.{nested-add}
-use Rattle.dds_text.specs.Held.{AllNamed}
+use Rattle.dds_text.specs.inner.Held.{AllNamed}
 use Rattle.dds_text.proofs.level.Levels.add.Goals as goal
 
 pub returns-clause-added : goal.returns-clause-added

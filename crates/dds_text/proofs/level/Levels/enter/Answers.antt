@@ -1,6 +1,6 @@
 use Rattle.std.proofs.Common.{sym, subst}
 use Rattle.dds_text.proofs.OpenLevels.{entered_view, all_pushed}
-use Rattle.dds_text.specs.Held.{HasNames, AllNamed}
+use Rattle.dds_text.specs.inner.Held.{HasNames, AllNamed}
 use Rattle.dds_text.proofs.level.Levels.enter.Goals as goal
 
 pub returns-clause-entered : goal.returns-clause-entered

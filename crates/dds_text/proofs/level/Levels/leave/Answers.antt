@@ -1,6 +1,6 @@
 use Rattle.std.proofs.Common.{All, sym, subst, arith}
 use Rattle.dds_text.proofs.OpenLevels.{left_view, all_popped, none_around, last_view}
-use Rattle.dds_text.specs.Held.{HasNames, AllNamed}
+use Rattle.dds_text.specs.inner.Held.{HasNames, AllNamed}
 use Rattle.dds_text.proofs.level.Levels.leave.Goals as goal
 
 pub returns-in-Some-clause-left : goal.returns-in-Some-clause-left

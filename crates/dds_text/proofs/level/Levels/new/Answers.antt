@@ -1,7 +1,7 @@
 use Rattle.std.proofs.Common.{All, ap, sym, subst, ◌∙◌, arith}
 use Rattle.dds_text.proofs.OpenLevels.{nested-none}
-use Rattle.dds_text.specs.Held.{nested, HasNames, AllNamed}
-use Rattle.dds_text.specs.States.{top}
+use Rattle.dds_text.specs.inner.Held.{nested, HasNames, AllNamed}
+use Rattle.dds_text.specs.inner.States.{top}
 use Rattle.dds_text.proofs.level.Levels.new.Goals as goal
 
 pub returns-clause-empty : goal.returns-clause-empty

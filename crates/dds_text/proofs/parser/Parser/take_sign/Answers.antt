@@ -1,9 +1,9 @@
 use Rattle.std.proofs.Common.{◌≡◌, sym, ap, ◌∙◌}
 use Rattle.dap_types.specs.View.{dataset_view}
 use Rattle.dap_model.specs.Tokens.{sign}
-use Rattle.dds_text.specs.Held.{state_view}
-use Rattle.dds_text.specs.States.{dataset_called}
-use Rattle.dds_text.specs.Standing.{Holds}
+use Rattle.dds_text.specs.inner.Held.{state_view}
+use Rattle.dds_text.specs.inner.States.{dataset_called}
+use Rattle.dds_text.specs.inner.Standing.{Holds}
 use Rattle.dds_text.proofs.Parsed.{not_last, moved_on}
 use Rattle.dds_text.proofs.parser.Parser.take_sign.Goals as goal
 

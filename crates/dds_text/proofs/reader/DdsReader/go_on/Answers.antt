@@ -1,7 +1,7 @@
 use Rattle.std.proofs.Common.{refl, subst, List, ℕ, ◌-◌, take, drop, take-append-drop}
 use Rattle.dds_text.specs.After.{StandsAfter, IsSpent, Answers}
 use Rattle.dds_text.specs.Reading.{limit}
-use Rattle.dds_text.specs.Standing.{IsFound}
+use Rattle.dds_text.specs.inner.Standing.{IsFound}
 use Rattle.dds_text.proofs.Pushed.{clipped_at}
 use Rattle.dds_text.proofs.reader.DdsReader.go_on.Goals as goal
 

@@ -4,7 +4,7 @@ use Rattle.dap_types.specs.WellFormed.{IsWellFormed}
 use Rattle.dap_types.specs.declared.declarations.Dataset.{Dataset}
 use Rattle.dap_types.specs.declared.memory.Memory.{Memory}
 use Rattle.netcdf_source.specs.Mapping.{dataset_of}
-use Rattle.netcdf_source.specs.Sound.{IsSound}
+use Rattle.netcdf_source.specs.inner.Sound.{IsSound}
 use Rattle.netcdf_source.specs.declared.header.Contents.{Contents}
 use Rattle.netcdf_source.proofs.WellFormed.{dataset_well_formed}
 use Rattle.netcdf_source.proofs.file.Header.dataset.Goals as goal

@@ -2,10 +2,10 @@
 use Rattle.std.specs.Prelude.{◌≡◌, ℕ, ℤ, Bool, false, List, [], ◌∷◌, IsTrue, Option, Some, None, if◌then◌else◌}
 use Rattle.std.specs.Str.{str_eq_ignore_ascii_case}
 use Rattle.viable.specs.Quoted.{Piece, quoted_value}
-use Rattle.text_tokens.specs.Machines as machines
+use Rattle.text_tokens.specs.inner.Machines as machines
 use Rattle.text_tokens.specs.Tokens.{Token, sign, word, quoted}
 use Rattle.dap_errors.specs.Object.{signs, Value, bare, text, Field, is_code, is_message, is_code_word, code_value, values}
-use Rattle.dap_errors.specs.Machine.{State, Start, step, IsOpenState}
+use Rattle.dap_errors.specs.inner.Machine.{State, Start, step, IsOpenState}
 use Rattle.dap_errors.specs.declared.object.ErrorObject.{ErrorObject}
 use Rattle.dap_errors.specs.declared.object.Stop.{Stop}
 use Rattle.dap_errors.specs.declared.object.Stop.TheVariants as stops

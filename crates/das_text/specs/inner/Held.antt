@@ -1,6 +1,6 @@
 -- What the values of the reader stand for.
 use Rattle.std.specs.Prelude.{List, map, reverse}
-use Rattle.das_text.specs.Machine.{Around, State, begun, headed, inside, worded, named, valued, parted, ended}
+use Rattle.das_text.specs.inner.Machine.{Around, State, begun, headed, inside, worded, named, valued, parted, ended}
 use Rattle.das_text.specs.Model.{Entry}
 use Rattle.das_text.specs.View.{attributes_view, entry_view}
 use Rattle.das_text.specs.declared.levels.Around as code_around

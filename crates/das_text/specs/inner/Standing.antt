@@ -2,7 +2,7 @@
 use Rattle.std.specs.Prelude.{ℕ, List}
 use Rattle.text_tokens.specs.inner.Machines.{StandsAt, StopsBad, StopsOpen}
 use Rattle.das_text.specs.Grammar.{signs}
-use Rattle.das_text.specs.Machine.{State, start, step, IsOpenState}
+use Rattle.das_text.specs.inner.Machine.{State, start, step, IsOpenState}
 use Rattle.das_text.specs.declared.state.Stop.{Stop}
 use Rattle.das_text.specs.declared.state.Stop.TheVariants.{Bad, End, Memory}
 

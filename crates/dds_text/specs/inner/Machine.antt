@@ -13,7 +13,7 @@ use Rattle.dap_model.specs.Dds.{type_word}
 use Rattle.dap_model.specs.Grammar.{Slot, keyword, sign, spells, is_other}
 use Rattle.dap_model.specs.Tokens.{Token}
 use Rattle.dap_model.specs.Tokens as token
-use Rattle.dds_text.specs.States.{Levels, top, Role, variable, column, grid_array, grid_map, Stage, typed, named, bracketed, worded, equated, measured, Kind, structures, sequences, grids, GridStage, entered, arrayed, ready, filled, mapping, whole_sequence, whole_grid, State, begun, headed, inside, declaring, opening, in_sequence, in_grid, in_maps, closed, called, dataset_closed, dataset_called, ended, depth_of, next_number, members_in, add, is_name_of, repeats, is_past, wanted_size, is_out, may_have_dims, most_dims, with_dim, declared, behind_declaration, behind_brace, behind_level, with_name}
+use Rattle.dds_text.specs.inner.States.{Levels, top, Role, variable, column, grid_array, grid_map, Stage, typed, named, bracketed, worded, equated, measured, Kind, structures, sequences, grids, GridStage, entered, arrayed, ready, filled, mapping, whole_sequence, whole_grid, State, begun, headed, inside, declaring, opening, in_sequence, in_grid, in_maps, closed, called, dataset_closed, dataset_called, ended, depth_of, next_number, members_in, add, is_name_of, repeats, is_past, wanted_size, is_out, may_have_dims, most_dims, with_dim, declared, behind_declaration, behind_brace, behind_level, with_name}
 
 -- the state behind a token, which may break a rule
 pub record Moved : Type 0 where

@@ -6,9 +6,9 @@ use Rattle.std.specs.Str.{bytes_eq}
 use Rattle.dap_types.specs.Model.{Member, count}
 use Rattle.dap_types.specs.View.{dataset_view, member_view}
 use Rattle.dap_model.specs.Tokens.{Token}
-use Rattle.dds_text.specs.Machine.{Moved, step}
-use Rattle.dds_text.specs.States.{Levels, top, within, Role, variable, column, grid_array, grid_map, Stage, typed, named, bracketed, worded, equated, measured, GridStage, entered, arrayed, ready, filled, mapping, Whole, whole_structure, whole_sequence, whole_grid, State, begun, headed, inside, declaring, opening, in_sequence, in_grid, in_maps, closed, called, dataset_closed, dataset_called, next_number, depth_of, is_some, wanted_size, is_name_of, is_name_of_column, with_name}
-use Rattle.dds_text.specs.States as model
+use Rattle.dds_text.specs.inner.Machine.{Moved, step}
+use Rattle.dds_text.specs.inner.States.{Levels, top, within, Role, variable, column, grid_array, grid_map, Stage, typed, named, bracketed, worded, equated, measured, GridStage, entered, arrayed, ready, filled, mapping, Whole, whole_structure, whole_sequence, whole_grid, State, begun, headed, inside, declaring, opening, in_sequence, in_grid, in_maps, closed, called, dataset_closed, dataset_called, next_number, depth_of, is_some, wanted_size, is_name_of, is_name_of_column, with_name}
+use Rattle.dds_text.specs.inner.States as model
 use Rattle.dds_text.specs.declared.level.Level.{Level}
 use Rattle.dds_text.specs.declared.level.Levels as code_levels
 use Rattle.dds_text.specs.declared.level.Columns.{Columns}

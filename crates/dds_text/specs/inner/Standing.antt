@@ -4,10 +4,10 @@ use Rattle.std.specs.Option.{option_and_then}
 use Rattle.dap_types.specs.Model.{Dataset}
 use Rattle.dap_types.specs.View.{dataset_view}
 use Rattle.dap_model.specs.Tokens.{Token, sign, word, Placed, is_sign, whole_tokens, tokens_of}
-use Rattle.dds_text.specs.Held.{IsSound, go, state_view}
+use Rattle.dds_text.specs.inner.Held.{IsSound, go, state_view}
 use Rattle.dds_text.specs.Reading.{limit}
-use Rattle.dds_text.specs.States.{State, begun, ended, IsOpenState}
-use Rattle.dds_text.specs.Words.{left}
+use Rattle.dds_text.specs.inner.States.{State, begun, ended, IsOpenState}
+use Rattle.dds_text.specs.inner.Words.{left}
 use Rattle.dds_text.specs.declared.parser.Parser.{Parser}
 use Rattle.dds_text.specs.declared.parser.Taken.{Taken}
 use Rattle.dds_text.specs.declared.parser.Taken.TheVariants.{Next, Bad, Done}

@@ -1,0 +1,5 @@
+pub mod Held
+pub mod Machine
+pub mod Standing
+pub mod States
+pub mod Words
