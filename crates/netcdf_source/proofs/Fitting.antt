@@ -17,7 +17,7 @@ use Rattle.dap_types.specs.declared.values.Value.{Value}
 use Rattle.dap_model.specs.Cutting.{Nested, array_tree}
 use Rattle.dap_model.specs.Fits.{IsOf, FitsArray, Fits, FitsAll}
 use Rattle.netcdf_source.specs.Header.{IsHeader}
-use Rattle.netcdf_source.specs.Laws.{HasHeader, ValuesFit, ValuesArePlaced}
+use Rattle.netcdf_source.specs.Laws.{ValuesFit, ValuesArePlaced}
 use Rattle.netcdf_source.specs.Layouts.{slice, element_sizes, element_at, AreWithin, layout_of, place, IsPlaced}
 use Rattle.netcdf_source.specs.Mapping.{base_of, size_at, is_char_type, is_char, element_dimensions, element_size, is_offered, is_empty, is_grid, column_of, array_of, maps_of, member_of, leaf_in, leaves_from, leaf_variable}
 use Rattle.netcdf_source.specs.Parts.{past_end}
@@ -84,7 +84,7 @@ same_indexed {X} (n ∷ ns) at at' h =
 
 -- ---- variables
 
-file_bytes : (file : List ℕ) → All (λ b. b < 256) file → IsBytes file
+pub file_bytes : (file : List ℕ) → All (λ b. b < 256) file → IsBytes file
 file_bytes file h i = elim (cases_lt i (length file)) [
   | inl lt ↦ h i 0 lt
   | inr le ↦ rw (get_or_past file i 0 le) (omega arith)

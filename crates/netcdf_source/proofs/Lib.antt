@@ -25,3 +25,5 @@ pub mod Zeros
 pub mod AttributeValues
 pub mod NewNames
 pub mod Counted
+pub mod OneVerdict
+pub mod HeaderNames

@@ -48,7 +48,7 @@ judged_err : (c : Contents) (r : HeaderRefusal) (o : Option ℕ) → option_map_
 judged_err c r None e = absurd cc
 judged_err c r (Some k) e = (k, refl, cc)
 
-standing : (version : ℕ) (body front : List ℕ) (p : FlatHeader) (end : Result (List ℕ) Failure) → Front version body front → Ends (header_fields (header_of version p)) body end → Stands (header_of version p) front end
+pub standing : (version : ℕ) (body front : List ℕ) (p : FlatHeader) (end : Result (List ℕ) Failure) → Front version body front → Ends (header_fields (header_of version p)) body end → Stands (header_of version p) front end
 standing version body front p end f h = record { body = body; version = f.version_is; begins = f.begins; ends = h }
 
 pub is_header : (version : ℕ) (body front : List ℕ) (file_len : ℕ) (r : Result Header HeaderRefusal) → IsBytes body → Front version body front → Answers r (verdict version body (length front) file_len)
@@ -95,7 +95,7 @@ is_first version body front file_len (Err e) fits f (inr a) =
 
 -- ---- nothing else is answered
 
-read_along : (h : HeaderTree) (version : ℕ) (body front : List ℕ) (end : Result (List ℕ) Failure) → Front version body front → Stands h front end → contents_at version body ≡ with_value (contents h) end
+pub read_along : (h : HeaderTree) (version : ℕ) (body front : List ℕ) (end : Result (List ℕ) Failure) → Front version body front → Stands h front end → contents_at version body ≡ with_value (contents h) end
 read_along h version body front end f s =
     let same = same_version h.version version s.body body (sym s.begins ∙ f.begins) in
     ap (λ (v : ℕ). contents_at v body) (sym same.0) ∙ ap (contents_at h.version) (sym same.1) ∙ (header_again h).at s.body end s.ends
@@ -120,7 +120,7 @@ only_header version body front file_len r f a c is =
     go (Err x) (inl memory) e = memory
     go (Err x) (inr b) e = absurd (no_err x (sym e ∙ b))
 
-first_verdict : (first : HeaderRefusal) (version : ℕ) (body front : List ℕ) (file_len : ℕ) → Front version body front → IsFirst first front file_len → judgement (contents_at version body) (length front) file_len ≡ Err first
+pub first_verdict : (first : HeaderRefusal) (version : ℕ) (body front : List ℕ) (file_len : ℕ) → Front version body front → IsFirst first front file_len → judgement (contents_at version body) (length front) file_len ≡ Err first
 unfolding refusal_of HasNoMagic
 first_verdict refusals.NotCdf version body front file_len f none = absurd (none version body f.version_is f.begins)
 first_verdict refusals.HeaderCut version body front file_len f is = rw (read_along is.0 version body front (Err Cut) f is.1, le-ltb _ _ is.2) refl

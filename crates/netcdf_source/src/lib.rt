@@ -27,13 +27,16 @@ mod variables;
 mod words;
 
 pub use das::without_zeros;
-pub use external_type::ExternalType;
+use external_type::ExternalType;
 pub use file::Header;
-pub use header::{Attribute, Dimension, Variable};
-pub use laws::{leaves_agree, values_are_placed, values_fit, zeros_are_cut};
+use header::{Attribute, Dimension, Variable};
+pub use laws::{
+    dataset_has_words, each_has_verdict, leaves_agree, one_verdict, values_are_placed, values_fit,
+    zeros_are_cut,
+};
 pub use read::read_header;
 pub use refusal::HeaderRefusal;
-pub use shape::Shape;
+use shape::Shape;
 
 #[cfg(test)]
 mod tests;
