@@ -61,6 +61,13 @@ fn next_state(
     }
 }
 
+/// Why the reading stops at a token: it is bad at its first byte.
+fn bad_token(token: &Token) -> Stop
+    ensures { result ≡ Stop.Bad token.now.place }
+{
+    Stop::Bad(token.place)
+}
+
 /// The DAS at the front of a text, and the place behind it.
 pub fn scan(alloc: Global, text: &[u8]) -> Result<(Attributes, usize), Stop>
     ensures within { IfOk result (λ r. r.1 ≤ length text.now) }
@@ -79,7 +86,7 @@ pub fn scan(alloc: Global, text: &[u8]) -> Result<(Attributes, usize), Stop>
                 state = next;
                 at = token.behind;
             }
-            None => return Err(Stop::Bad(token.place)),
+            None => return Err(bad_token(&token)),
         }
     }
 }

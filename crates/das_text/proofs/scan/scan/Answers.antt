@@ -25,5 +25,5 @@ returns-in-None c = record {
   within = tt;
   stands =
       let (t, k, n) = c.in_ok-token.ensures.token in
-      stops c.args.text.now c.tokens.at c.in_ok-token.token.place c.in_ok-token.token.behind t (state_view c.tokens.levels c.tokens.state) c.next_state.new.levels c.in_ok-next.field-0 c.tokens.invariant.stands (is_open c.tokens.levels c.tokens.state c.in_default.not-Ended) n (c.in_ok-next.ensures t k n.token_at) c.in-None.is;
+      rw c.bad_token.ensures (stops c.args.text.now c.tokens.at c.in_ok-token.token.place c.in_ok-token.token.behind t (state_view c.tokens.levels c.tokens.state) c.next_state.new.levels c.in_ok-next.field-0 c.tokens.invariant.stands (is_open c.tokens.levels c.tokens.state c.in_default.not-Ended) n (c.in_ok-next.ensures t k n.token_at) c.in-None.is);
 }
