@@ -1,0 +1,6 @@
+mod RowFacts
+mod Orders
+mod Owned
+mod Parents
+mod NoneLost
+mod TableRows

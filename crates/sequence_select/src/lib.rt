@@ -1,0 +1,16 @@
+//! The rows of a table that a constraint keeps (DAP 2.0, constraint expressions: selections). A table
+//! and a constraint that was resolved on its dataset come in; a truth value for each row goes out, by
+//! `kept` of `dap_model` and the constraint's `selections`, which stand in `specs/Selections`.
+#![tactic(auto)]
+
+mod clauses;
+mod constants;
+pub mod laws;
+mod rows;
+#[cfg(test)]
+mod tests;
+mod workers;
+
+pub use clauses::Tests;
+pub use rows::keep;
+pub use workers::mask;
