@@ -22,8 +22,8 @@ struct Case {
     tests: Tests,
 }
 
-fn read_case(alloc: Global, bytes: &[u8], text: &[u8]) -> Result<Case, Fail> {
-    let table = read_table(alloc, bytes, b"sea/buoys.csv")?;
+fn read_case(alloc: Global, file_name: &[u8], bytes: &[u8], text: &[u8]) -> Result<Case, Fail> {
+    let table = read_table(alloc, bytes, file_name)?;
     let dataset = table.dataset(alloc)?;
     let index = Index::new(alloc, &dataset)?;
     let constraint = parse(alloc, text)?;
@@ -39,7 +39,7 @@ fn expect_kept<R: Threads + Abort + Sync>(
     text: &[u8],
     expected: &[bool; 5],
 ) -> Result<(), Fail> {
-    let Case { table, tests } = read_case(alloc, BUOYS, text)?;
+    let Case { table, tests } = read_case(alloc, b"sea/buoys.csv", BUOYS, text)?;
     assert!(rt; table.rows() == 5);
     crosses(&tests);
     for row in 0..5u32 {
@@ -173,9 +173,48 @@ fn one_of_the_values_and_all_of_the_clauses(rt: HostRuntime) -> Result<(), Fail>
     )
 }
 
+/// The first two rows of a table, kept or not.
+fn first_two<R: Abort>(
+    rt: &R,
+    alloc: Global,
+    text: &[u8],
+    expected: (bool, bool),
+) -> Result<(), Fail> {
+    let bytes = b"station,depth:Int32\nA1,5\nB22,-7\n";
+    let Case { table, tests } = read_case(alloc, b"buoys.csv", bytes, text)?;
+    assert!(rt; table.rows() == 2);
+    assert_eq!(rt;
+        (keep(&table, &tests, 0), keep(&table, &tests, 1)),
+        expected
+    );
+    Ok(())
+}
+
+#[test]
+fn small_tables(rt: HostRuntime) -> Result<(), Fail> {
+    let alloc = rt.alloc();
+    first_two(&rt, alloc, b"buoys.depth&buoys.depth<0", (false, true))?;
+    first_two(
+        &rt,
+        alloc,
+        b"buoys.station&buoys.depth={5,9}",
+        (true, false),
+    )?;
+    let text = b"k.n&k.u>=\"x\"&k.n!=7";
+    let Case { table, tests } = read_case(alloc, b"k.csv", b"n:UInt16,u:Url\n 7 ,x\n", text)?;
+    assert!(rt; table.rows() == 1);
+    assert!(rt; !keep(&table, &tests, 0));
+    Ok(())
+}
+
 #[test]
 fn no_rows(rt: HostRuntime) -> Result<(), Fail> {
-    let Case { table, tests } = read_case(rt.alloc(), b"depth:Int32\n", b"&buoys.depth>5")?;
+    let Case { table, tests } = read_case(
+        rt.alloc(),
+        b"buoys.csv",
+        b"depth:Int32\n",
+        b"&buoys.depth>5",
+    )?;
     assert!(rt; table.rows() == 0);
     let mut out = [];
     mask(&rt, &table, &tests, &mut out, 3, &NoGate);
@@ -221,7 +260,7 @@ impl Gate for Meeting {
 /// The machine has to give the process a second thread.
 #[test]
 fn two_workers_meet(rt: HostRuntime) -> Result<(), Fail> {
-    let Case { table, tests } = read_case(rt.alloc(), BUOYS, b"&buoys.depth=5")?;
+    let Case { table, tests } = read_case(rt.alloc(), b"buoys.csv", BUOYS, b"&buoys.depth=5")?;
     assert!(rt; table.rows() == 5);
     let mut met = false;
     for _ in 0..8 {
@@ -253,7 +292,7 @@ impl Gate for Seen {
 /// Four workers for five rows: two get two each and one gets one, and they are numbered from 0.
 #[test]
 fn numbers_of_workers(rt: HostRuntime) -> Result<(), Fail> {
-    let Case { table, tests } = read_case(rt.alloc(), BUOYS, b"&buoys.depth=5")?;
+    let Case { table, tests } = read_case(rt.alloc(), b"buoys.csv", BUOYS, b"&buoys.depth=5")?;
     assert!(rt; table.rows() == 5);
     let seen = Seen {
         came: [
