@@ -75,10 +75,24 @@ message_text OutOfMemory = codes "out of memory"
 
 -- 400 but for what the client is not to blame for, or what has a status of its own (RFC 9110, RFC 6585)
 abbrev pub http_status : Cause → ℕ
+http_status (Syntax place) = 400
+http_status (UnknownName spot) = 400
+http_status (NotArray spot) = 400
+http_status (SlabCount spot) = 400
+http_status (BadSlab spot) = 400
+http_status (TwoSlabs spot) = 400
+http_status (TooMany spot) = 400
+http_status (NotColumn spot) = 400
+http_status (TypeMismatch spot) = 400
+http_status (FloatCompared spot) = 400
+http_status (Unsupported spot) = 400
+http_status (BigNumber spot) = 400
+http_status (TooLarge leaf) = 400
+http_status BadTarget = 400
 http_status NoFile = 404
 http_status BadMethod = 405
+http_status BadRequest = 400
 http_status HeadTooLong = 431
 http_status (Damaged cause) = 500
 http_status ReadFailed = 500
 http_status OutOfMemory = 503
-http_status _ = 400
