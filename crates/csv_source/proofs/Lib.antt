@@ -2,6 +2,7 @@ mod CellFacts
 mod Columns
 mod Datasets
 mod Digits
+mod FieldBytes
 mod FirstCauses
 pub mod Fitting
 pub mod Formed
@@ -15,6 +16,7 @@ mod Rows
 mod Sizes
 mod Standings
 mod TableFacts
+mod TableNames
 mod Tabled
 mod Wholes
 mod Within

@@ -1,14 +1,17 @@
 -- What the definitions of this crate promise, to one another and to those of `dap_model`, each as a
 -- statement over all files.
-use Rattle.std.specs.Prelude.{◌≡◌, ◌↔◌, ℕ, List, Ok, Err, MatchResult}
+use Rattle.std.specs.Prelude.{◌≡◌, ◌≢◌, ◌<◌, ◌↔◌, ℕ, List, [], All, codes, Ok, Err, MatchResult}
 use Rattle.dap_model.specs.Fits.{FitsAll}
+use Rattle.dap_model.specs.Grammar.{HasWords}
 use Rattle.dap_types.specs.WellFormed.{IsWellFormed}
 use Rattle.dap_types.specs.declared.declarations.BaseType.{BaseType}
+use Rattle.file_names.specs.Names.{segment}
 use Rattle.csv_source.specs.Causes.{table_of}
 use Rattle.csv_source.specs.Dataset.{table_dataset, table_trees}
 use Rattle.csv_source.specs.FirstCause.{IsFirstCause, IsTableOf}
 use Rattle.csv_source.specs.Header.{typed}
 use Rattle.csv_source.specs.LastColon.{IsNameAndType}
+use Rattle.csv_source.specs.Names.{without_suffix}
 use Rattle.csv_source.specs.Table.{CsvTable}
 use Rattle.csv_source.specs.declared.refusal.TableRefusal.{TableRefusal}
 
@@ -33,3 +36,9 @@ TableIsWellFormed = (file_name bytes : List ℕ) (t : CsvTable) → table_of fil
 -- the values of a table are values of its dataset
 abbrev pub TableFits : Type 0
 TableFits = (file_name bytes : List ℕ) (t : CsvTable) → table_of file_name bytes ≡ Ok t → FitsAll (table_dataset t).members (table_trees t)
+
+-- the names in the dataset of a table are words: its own, the Sequence's and those of the columns. What
+-- stands behind the last `/` of the file's name is not `.csv` alone or nothing, which leave the Sequence none
+abbrev pub TableHasWords : Type 0
+TableHasWords = (file_name bytes : List ℕ) (t : CsvTable) → All (λ b. b < 256) file_name → All (λ b. b < 256) bytes
+    → without_suffix (codes ".csv") (segment file_name) ≢ [] → table_of file_name bytes ≡ Ok t → HasWords (table_dataset t)

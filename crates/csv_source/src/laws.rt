@@ -1,4 +1,4 @@
-ghost use Rattle.csv_source.specs.Laws.{OneAnswer, TableFits, TableIsWellFormed, TableOrCause, TypedByLastColon};
+ghost use Rattle.csv_source.specs.Laws.{OneAnswer, TableFits, TableHasWords, TableIsWellFormed, TableOrCause, TypedByLastColon};
 
 /// The type of a header's field is the word behind its last `:`.
 pub fn typed_by_last_colon()
@@ -23,4 +23,10 @@ pub fn table_is_well_formed()
 /// The values of a table are values of its dataset.
 pub fn table_fits()
     ensures law { TableFits }
+{}
+
+/// The names in the dataset of a table are words, where something of the file's name is left without
+/// its directories and its `.csv`.
+pub fn table_has_words()
+    ensures law { TableHasWords }
 {}
