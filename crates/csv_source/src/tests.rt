@@ -55,7 +55,7 @@ fn first_cell(alloc: Global, bytes: &[u8], expected: Cell<'_>) -> bool {
 
 #[test]
 fn each_type_has_its_cells(rt: HostRuntime) {
-    let files: [(&[u8], Cell<'_>); 26] = [
+    let files: [(&[u8], Cell<'_>); 27] = [
         (b"n:Byte\n0\n", Cell::Whole(0)),
         (b"n:Byte\n255\n", Cell::Whole(255)),
         (b"n:Int16\n32767\n", Cell::Whole(32_767)),
@@ -88,6 +88,7 @@ fn each_type_has_its_cells(rt: HostRuntime) {
         (b"a:String:Int32\n7\n", Cell::Whole(7)),
         (b":Int32\n7\n", Cell::Whole(7)),
         (b"\xef\xbb\xbf\xef\xbb\xbfa:Int32\r\n7", Cell::Whole(7)),
+        (b"s\r\n\"a,\r\n\"\"b\"\"\"\r\n", Cell::Text(b"a,\r\n\"b\"")),
     ];
     for (i, (bytes, cell)) in files.iter().enumerate() {
         assert!(rt; first_cell(rt.alloc(), bytes, *cell), "at {i}");
