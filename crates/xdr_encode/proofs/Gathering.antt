@@ -48,6 +48,8 @@ use Rattle.xdr_encode.specs.Sent.{IsInside, leaf_cost, leaf_xdr, leaves_cost, le
 use Rattle.xdr_encode.specs.Costs.{own_slabs, slot_cost, slots_cost, variable_cost}
 use Rattle.xdr_encode.specs.Wanted.{Gathered, IsFound, IsLarge, IsMarkedLeaf, IsUnmarked, IsWanted, AreSuited}
 use Rattle.xdr_encode.specs.declared.leaf.Leaf.{Leaf}
+use Rattle.xdr_encode.specs.declared.refusal.BodyRefusal.{BodyRefusal}
+use Rattle.xdr_encode.specs.declared.refusal.BodyRefusal.TheVariants.{TooLarge}
 
 -- ---- what a plan asks of a marked leaf
 
@@ -100,8 +102,8 @@ wanted_ready c file_len marks n layout base slabs w suited =
       one_each = omega arith;
       strided = strides slabs (element_sizes c w.variable) within;
       below = All-picked_places (λ at. at < 2 ^ 63) slabs (element_sizes c w.variable) layout.steps layout.base within (omega arith)
-          (all-placed (λ at. at < 2 ^ 63) (element_sizes c w.variable) layout.steps layout.base (omega arith)
-          (λ is inside. let fits = (w.placed (zeros file_len) is (long file_len) inside).0 in omega (arith, fits, w.below, some)));
+      (all-placed (λ at. at < 2 ^ 63) (element_sizes c w.variable) layout.steps layout.base (omega arith)
+      (λ is inside. let fits = (w.placed (zeros file_len) is (long file_len) inside).0 in omega (arith, fits, w.below, some)));
       sized = some;
       small = w.shaped.few;
       typed = λ e.
@@ -149,22 +151,22 @@ wanted_is c file_len marks n layout base marked_by slabs marked layout_found sho
     own-shape : IsShaped c placed.0 layout
     own-shape = subst (λ v. IsShaped c v layout) (same_variable shaped.0 placed.0 (sym shaped.1 ∙ placed.1)) shaped.2
 
-pub large_is : (c : Contents) (file_len : ℕ) (marks : Marks) (n : ℕ) (layout : Layout) (base : BaseType) (slabs : List Slab) (count : ℕ) → IsWanted c file_len marks n layout base slabs → AreSuited c marks
-    → count ≡ min (count_of slabs) 2147483648 → 2147483647 < count → IsLarge c marks n
-large_is c file_len marks n layout base slabs count w suited is many = record {
+pub large_is : (c : Contents) (file_len : ℕ) (marks : Marks) (n : ℕ) (layout : Layout) (base : BaseType) (slabs : List Slab) → IsWanted c file_len marks n layout base slabs → AreSuited c marks
+    → 2147483647 < count_of slabs → IsLarge c marks n
+large_is c file_len marks n layout base slabs w suited many = record {
   variable = w.variable;
   is = w.is;
   marked_by = w.marked_by;
   marked = w.marked;
   within = wanted_within c file_len marks n layout base slabs w suited;
-  many = subst (λ ss. 2147483647 < count_of ss) w.slabs_are (omega arith);
+  many = subst (λ ss. 2147483647 < count_of ss) w.slabs_are many;
 }
 
-pub marked_is : (c : Contents) (file_len : ℕ) (marks : Marks) (n : ℕ) (layout : Layout) (base : BaseType) (slabs : List Slab) (count : ℕ) (leaf : Leaf) → IsWanted c file_len marks n layout base slabs → AreSuited c marks
-    → count ≡ min (count_of slabs) 2147483648 → count ≤ 2147483647
+pub marked_is : (c : Contents) (file_len : ℕ) (marks : Marks) (n : ℕ) (layout : Layout) (base : BaseType) (slabs : List Slab) (leaf : Leaf) → IsWanted c file_len marks n layout base slabs → AreSuited c marks
+    → count_of slabs ≤ 2147483647
     → base_in leaf.plan ≡ base → size_in leaf.plan ≡ layout.size → places leaf.plan ≡ picked slabs layout.steps layout.base → leaf.kind ≡ kind_of (length layout.steps) → leaf_cost leaf ≤ cost_of slabs layout.size
     → IsMarkedLeaf c file_len marks n leaf
-marked_is c file_len marks n layout base slabs count leaf w suited is few base_is size_is places_are kind_is cost_is = record {
+marked_is c file_len marks n layout base slabs leaf w suited few base_is size_is places_are kind_is cost_is = record {
   variable = w.variable;
   is = w.is;
   marked_by = w.marked_by;
@@ -180,7 +182,7 @@ marked_is c file_len marks n layout base slabs count leaf w suited is few base_i
   };
   placed = subst (IsPlaced c file_len w.variable) w.layout_is w.placed;
   cost = subst (λ ss. leaf_cost leaf ≤ cost_of ss (element_size c w.variable)) w.slabs_are (subst (λ l. leaf_cost leaf ≤ cost_of slabs l.size) w.layout_is cost_is);
-  few = subst (λ ss. count_of ss ≤ 2147483647) w.slabs_are (omega arith);
+  few = subst (λ ss. count_of ss ≤ 2147483647) w.slabs_are few;
 }
 
 -- ---- one member more
@@ -304,6 +306,10 @@ same_err {E = E} x y e = ap Err (go x y e)
     go : {T : Type 0} (x y : E) → ◌≡◌ {A = Result T E} (Err x) (Err y) → x ≡ y
     go x y q = cc
 
+-- the leaf that a refusal names
+pub too_large_as : {T : Type 0} (refusal : BodyRefusal) (number leaf : ℕ) → refusal ≡ TooLarge number → ◌≡◌ {A = Result T BodyRefusal} (Err refusal) (Err (TooLarge leaf)) → leaf ≡ number
+too_large_as refusal number leaf is e = cc
+
 drop-all : {X : Type 0} (xs : List X) (k : ℕ) → length xs ≤ k → drop k xs ≡ []
 drop-all [] zero le = refl
 drop-all [] (suc k) le = refl
@@ -376,10 +382,10 @@ module _ (c : Contents) (file_len : ℕ) (marks : Marks) (leaves : List Leaf) (k
         ap (λ bs. bs ++ bytes_of (slots_sent c file marks (k + 1 + 1) (drop (k + 1) (leaves_from c 0 c.variables)))) (flat_map-append (λ l. leaf_xdr l file) leaves (option_to_list found))
         ∙ append_assoc (leaves_xdr leaves file) (leaves_xdr (option_to_list found) file) (bytes_of (slots_sent c file marks (k + 1 + 1) (drop (k + 1) (leaves_from c 0 c.variables))))
         ∙ ap (λ bs. leaves_xdr leaves file ++ (bs ++ bytes_of (slots_sent c file marks (k + 1 + 1) (drop (k + 1) (leaves_from c 0 c.variables)))))
-        (sent-of c file_len file marks (k + 1) found h is ∙ ap (λ o. bytes_of (option_map_or (variable_sent c file marks (k + 1)) o [])) is-slot)
+          (sent-of c file_len file marks (k + 1) found h is ∙ ap (λ o. bytes_of (option_map_or (variable_sent c file marks (k + 1)) o [])) is-slot)
         ∙ ap (λ bs. leaves_xdr leaves file ++ bs)
-        (sym (flat_map-append _ (slot_sent c file marks (k + 1) (get_or (leaves_from c 0 c.variables) k None)) (slots_sent c file marks (k + 1 + 1) (drop (k + 1) (leaves_from c 0 c.variables))))
-        ∙ sym (ap (λ slots. bytes_of (slots_sent c file marks (k + 1) slots)) front))
+          (sym (flat_map-append _ (slot_sent c file marks (k + 1) (get_or (leaves_from c 0 c.variables) k None)) (slots_sent c file marks (k + 1 + 1) (drop (k + 1) (leaves_from c 0 c.variables))))
+          ∙ sym (ap (λ slots. bytes_of (slots_sent c file marks (k + 1) slots)) front))
         ∙ so_far.text file h;
     inside = All-append (IsInside file_len) leaves (option_to_list found) so_far.inside (inside-of c file_len marks (k + 1) found is);
     cost =

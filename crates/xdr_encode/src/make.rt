@@ -1,6 +1,6 @@
 //! Bodies, out of a header or a table and the marks of a constraint.
 
-ghost use Rattle.std.specs.Prelude.{◌≡◌, ◌<◌, ◌≤◌, ◌++◌, ◌^◌, ℕ, List, [], All, codes, length, map, Bool, Err, IfOk, IsOk, None, Option, Some, is_some, vec_len};
+ghost use Rattle.std.specs.Prelude.{◌≡◌, ◌<◌, ◌≤◌, ◌++◌, ◌^◌, ℕ, List, [], All, codes, length, map, Bool, Err, IfOk, IsOk, MatchResult, None, Option, Some, is_some, vec_len};
 ghost use Rattle.std.specs.List.{list_any, range_with_len};
 ghost use Rattle.csv_source.specs.Dataset.{table_dataset, table_trees};
 ghost use Rattle.dap_model.specs.Body.{body, too_large};
@@ -37,6 +37,25 @@ const DDS_MAX: usize = 16777216;
 /// The bytes of a batch.
 const ROOM: usize = 65536;
 
+/// The DDS of what the marks leave of a dataset, of any length.
+fn left_text(alloc: Global, dataset: &Dataset, marks: &Marks) -> Result<Bytes, Memory>
+    requires { IsWellFormed (dataset_view dataset.now) }
+    ensures { IfOk result (λ text. text ≡ dds (constrained (marks_in marks.now) (dataset_view dataset.now))) }
+{
+    let left = marks.constrained(alloc, dataset)?;
+    print(alloc, &left)
+}
+
+/// Whether a DDS is short enough. Nothing else is a reason to refuse it.
+fn check_dds(text: &[u8]) -> Result<(), BodyRefusal>
+    ensures { MatchResult result (λ _. length text.now ≤ 16777216) (λ refusal. (refusal ≡ BodyRefusal.TooLarge 0) × (16777216 < length text.now)) }
+{
+    if text.len() > DDS_MAX {
+        return Err(BodyRefusal::TooLarge { leaf: 0 });
+    }
+    Ok(())
+}
+
 /// The DDS of what the marks leave of a dataset.
 fn left_dds(alloc: Global, dataset: &Dataset, marks: &Marks) -> Result<Bytes, BodyRefusal>
     requires { IsWellFormed (dataset_view dataset.now) }
@@ -44,18 +63,14 @@ fn left_dds(alloc: Global, dataset: &Dataset, marks: &Marks) -> Result<Bytes, Bo
     ensures short { IfOk result (λ text. length text ≤ 16777216) }
     ensures refused { (leaf : ℕ) → result ≡ Err (BodyRefusal.TooLarge leaf) → (leaf ≡ 0) × (16777216 < length (dds (constrained (marks_in marks.now) (dataset_view dataset.now)))) }
 {
-    let left = match marks.constrained(alloc, dataset) {
-        Ok(left) => left,
-        Err(Memory) => return Err(BodyRefusal::Memory),
-    };
-    let text = match print(alloc, &left) {
+    let text = match left_text(alloc, dataset, marks) {
         Ok(text) => text,
         Err(Memory) => return Err(BodyRefusal::Memory),
     };
-    if text.bytes().len() > DDS_MAX {
-        return Err(BodyRefusal::TooLarge { leaf: 0 });
+    match check_dds(text.bytes()) {
+        Ok(()) => Ok(text),
+        Err(refusal) => Err(refusal),
     }
-    Ok(text)
 }
 
 /// The DDS and the line `Data:`.

@@ -1,6 +1,6 @@
 //! The marked leaves of a netCDF file, out of its header and the marks.
 
-ghost use Rattle.std.specs.Prelude.{◌≡◌, ◌<◌, ◌≤◌, ◌++◌, ◌==◌, ℕ, List, [], All, Err, IfOk, IsOk, MatchOption, None, OnOk, Some, if◌then◌else◌, length, min};
+ghost use Rattle.std.specs.Prelude.{◌≡◌, ◌<◌, ◌≤◌, ◌++◌, ◌==◌, ℕ, List, [], All, Err, IfOk, IsOk, MatchOption, MatchResult, None, OnOk, Some, if◌then◌else◌, length, min};
 ghost use Rattle.std.specs.Option.{option_to_list};
 ghost use Rattle.grid_projection.specs.Resolved.{marks_in};
 ghost use Rattle.hyperslab_plan.specs.Picked.{count_of};
@@ -78,6 +78,17 @@ fn count_within(slabs: &[Slab]) -> u64
     total
 }
 
+/// Whether leaf `number` of those that are sent has few enough elements. Nothing else is a reason to
+/// refuse it.
+fn check_count(slabs: &[Slab], number: u32) -> Result<(), BodyRefusal>
+    ensures { MatchResult result (λ _. count_of slabs.now ≤ 2147483647) (λ refusal. (refusal ≡ BodyRefusal.TooLarge number) × (2147483647 < count_of slabs.now)) }
+{
+    if count_within(slabs) > MOST {
+        return Err(BodyRefusal::TooLarge { leaf: number });
+    }
+    Ok(())
+}
+
 /// What is sent of the member with this number, which is the leaf `number` of those that are sent, if
 /// it is one.
 fn leaf_at(
@@ -94,8 +105,9 @@ fn leaf_at(
     let Some(wanted) = wanted(header, marks, member) else {
         return Ok(None);
     };
-    if count_within(wanted.slabs) > MOST {
-        return Err(BodyRefusal::TooLarge { leaf: number });
+    match check_count(wanted.slabs, number) {
+        Ok(()) => {}
+        Err(refusal) => return Err(refusal),
     }
     let leaf = leaf_of(alloc, wanted.layout, wanted.base, wanted.slabs)?;
     Ok(Some(leaf))
