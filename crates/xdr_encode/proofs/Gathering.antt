@@ -102,8 +102,8 @@ wanted_ready c file_len marks n layout base slabs w suited =
       one_each = omega arith;
       strided = strides slabs (element_sizes c w.variable) within;
       below = All-picked_places (λ at. at < 2 ^ 63) slabs (element_sizes c w.variable) layout.steps layout.base within (omega arith)
-      (all-placed (λ at. at < 2 ^ 63) (element_sizes c w.variable) layout.steps layout.base (omega arith)
-      (λ is inside. let fits = (w.placed (zeros file_len) is (long file_len) inside).0 in omega (arith, fits, w.below, some)));
+          (all-placed (λ at. at < 2 ^ 63) (element_sizes c w.variable) layout.steps layout.base (omega arith)
+          (λ is inside. let fits = (w.placed (zeros file_len) is (long file_len) inside).0 in omega (arith, fits, w.below, some)));
       sized = some;
       small = w.shaped.few;
       typed = λ e.
@@ -382,10 +382,10 @@ module _ (c : Contents) (file_len : ℕ) (marks : Marks) (leaves : List Leaf) (k
         ap (λ bs. bs ++ bytes_of (slots_sent c file marks (k + 1 + 1) (drop (k + 1) (leaves_from c 0 c.variables)))) (flat_map-append (λ l. leaf_xdr l file) leaves (option_to_list found))
         ∙ append_assoc (leaves_xdr leaves file) (leaves_xdr (option_to_list found) file) (bytes_of (slots_sent c file marks (k + 1 + 1) (drop (k + 1) (leaves_from c 0 c.variables))))
         ∙ ap (λ bs. leaves_xdr leaves file ++ (bs ++ bytes_of (slots_sent c file marks (k + 1 + 1) (drop (k + 1) (leaves_from c 0 c.variables)))))
-          (sent-of c file_len file marks (k + 1) found h is ∙ ap (λ o. bytes_of (option_map_or (variable_sent c file marks (k + 1)) o [])) is-slot)
+        (sent-of c file_len file marks (k + 1) found h is ∙ ap (λ o. bytes_of (option_map_or (variable_sent c file marks (k + 1)) o [])) is-slot)
         ∙ ap (λ bs. leaves_xdr leaves file ++ bs)
-          (sym (flat_map-append _ (slot_sent c file marks (k + 1) (get_or (leaves_from c 0 c.variables) k None)) (slots_sent c file marks (k + 1 + 1) (drop (k + 1) (leaves_from c 0 c.variables))))
-          ∙ sym (ap (λ slots. bytes_of (slots_sent c file marks (k + 1) slots)) front))
+        (sym (flat_map-append _ (slot_sent c file marks (k + 1) (get_or (leaves_from c 0 c.variables) k None)) (slots_sent c file marks (k + 1 + 1) (drop (k + 1) (leaves_from c 0 c.variables))))
+        ∙ sym (ap (λ slots. bytes_of (slots_sent c file marks (k + 1) slots)) front))
         ∙ so_far.text file h;
     inside = All-append (IsInside file_len) leaves (option_to_list found) so_far.inside (inside-of c file_len marks (k + 1) found is);
     cost =

@@ -5,8 +5,7 @@ use Rattle.xdr_encode.proofs.wanted.leaf_at.Goals as goal
 
 pub returns-in-Err-clause-refused : goal.returns-in-Err-clause-refused
 returns-in-Err-clause-refused c = λ leaf e.
-    let large = c.in-Err.ensures in
-    (
+    let large = c.in-Err.ensures in (
       too_large_as c.in-Err.refusal c.args.number leaf large.0 e,
       large_is c.args.header.now.contents c.args.header.now.length (marks_in c.args.marks.now) c.args.member c.in-Some.wanted.layout.now c.in-Some.wanted.base c.in-Some.wanted.slabs.now c.in-Some.ensures c.requires large.1,
     )
