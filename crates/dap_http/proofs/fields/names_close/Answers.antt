@@ -1,0 +1,15 @@
+use Rattle.std.proofs.Common.{◌≡◌, ◌∙◌, sym, rules, tests, ℕ, List, codes, eqb}
+use Rattle.std.specs.List.{list_any, slice_split}
+use Rattle.std.specs.Str.{str_eq_ignore_ascii_case}
+use Rattle.std.proofs.lemmas.Iterator.Search.{any_from_yields_List}
+use Rattle.std.proofs.lemmas.Iterator.Splits.{YieldsList-from_slice_split}
+use Rattle.httparse.specs.Grammar.{trim_ows}
+use Rattle.dap_http.proofs.FieldTests.{any-map}
+use Rattle.dap_http.proofs.fields.names_close.Goals as goal
+
+pub returns : goal.returns
+returns c =
+    any_from_yields_List (λ (part : List ℕ). str_eq_ignore_ascii_case (trim_ows part) (codes "close")) _ _ _ c.any.ensures.ran
+    (YieldsList-from_slice_split _ (λ (b : ℕ). eqb b 44) c.args.value.now c.split.ensures.rest c.split.ensures.done c.split.ensures.closure (λ x b q. search (rules, tests)))
+    (λ x b q k. search (rules, tests))
+    ∙ sym (any-map (λ (part : List ℕ). str_eq_ignore_ascii_case part (codes "close")) trim_ows (slice_split (λ (b : ℕ). eqb b 44) c.args.value.now))

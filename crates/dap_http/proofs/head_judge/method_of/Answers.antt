@@ -1,0 +1,5 @@
+use Rattle.std.proofs.Common.{◌∙◌, ap, Err}
+use Rattle.dap_http.proofs.head_judge.method_of.Goals as goal
+
+pub unreachable-requires : goal.unreachable-requires
+unreachable-requires c = c.from_bytes.ensures.invalid.0 (c.in-Err-Invalid.is ∙ ap Err c.in-Err-Invalid.field-0-is) c.requires

@@ -1,0 +1,11 @@
+use Rattle.std.proofs.Common.{[]}
+use Rattle.std.proofs.KnownBytes.{Consumes-nil}
+use Rattle.dap_http.proofs.HeadReading.{bad-request, first-request}
+use Rattle.dap_http.proofs.head_reader.HeadReader.turn.Goals as goal
+
+pub returns-in-Whole-clause-reads : goal.returns-in-Whole-clause-reads
+returns-in-Whole-clause-reads g c =
+    ([], Consumes-nil _, first-request c.args.self.now.kept.items c.skip.new.kept.items c.in-Whole.head c.in-Whole.len (rw c.as_slice.ensures.value at c.in-Whole.ensures) c.skip.ensures.items c.args.self.now.few)
+
+pub returns-in-Bad-clause-reads : goal.returns-in-Bad-clause-reads
+returns-in-Bad-clause-reads g c = ([], Consumes-nil _, bad-request c.args.self.now.kept.items (rw c.as_slice.ensures.value at c.in-Bad.ensures))

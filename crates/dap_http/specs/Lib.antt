@@ -1,0 +1,14 @@
+pub mod After
+pub mod Carried
+pub mod Chunks
+pub mod Codings
+pub mod Fields
+pub mod Frames
+pub mod Framings
+pub mod Reading
+pub mod Replies
+pub mod Requests
+pub mod Targets
+pub mod Texts
+pub mod Urls
+pub mod inner

@@ -1,0 +1,6 @@
+mod framing;
+mod heads;
+mod replies;
+mod targets;
+mod texts;
+mod unframing;
