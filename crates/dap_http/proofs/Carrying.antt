@@ -104,14 +104,23 @@ fields-printed o d t len b close a k allowed kinds =
 allow-is : (status : ℕ) → flat_map print_field (allow_fields (status == 405)) ≡ allow_line status
 allow-is status = allow-printed (status == 405)
 
+-- nested to the right
+right-of-five : (a b c d e : List ℕ) → (((a ++ b) ++ c) ++ d) ++ e ≡ a ++ (b ++ (c ++ (d ++ e)))
+right-of-five a b c d e = append_assoc ((a ++ b) ++ c) d e ∙ append_assoc (a ++ b) c (d ++ e) ∙ append_assoc a b (c ++ (d ++ e))
+
+right-of-seven : (a b c d e f g : List ℕ) → (((((a ++ b) ++ c) ++ d) ++ e) ++ f) ++ g ≡ a ++ (b ++ (c ++ (d ++ (e ++ (f ++ g)))))
+right-of-seven a b c d e f g =
+    append_assoc ((((a ++ b) ++ c) ++ d) ++ e) f g ∙ append_assoc (((a ++ b) ++ c) ++ d) e (f ++ g) ∙ right-of-five a b c d (e ++ (f ++ g))
+
 kind-is : (d : List ℕ) → flat_map print_field (kind_fields d (content_type d)) ≡ description_lines d
-kind-is d = kind-printed d (content_type d)
+kind-is d =
+    kind-printed d (content_type d)
+    ∙ sym (right-of-five (codes "Content-Description: ") d (codes "\r\nContent-Type: ") (content_type d) (codes "\r\n"))
 
 pub head-printed : (status : ℕ) (description : List ℕ) (len : Option ℕ) (in_chunks close : Bool)
     → head_text status description len in_chunks close ≡ print_response (head_of status description len in_chunks close)
 unfolding head_text print_response
 head-printed status description len in_chunks close =
-    let phrase = unwrap_or (reason_phrase status) [] in
     let a = allow_line status in
     let k = description_lines description in
     let l = length_line len in_chunks in
@@ -119,8 +128,7 @@ head-printed status description len in_chunks close =
     let fs = fields_of (status == 405) description (content_type description) len in_chunks close in
     let printed : flat_map print_field fs ≡ server_lines ++ (a ++ (k ++ (l ++ c))) = fields-printed (status == 405) description (content_type description) len in_chunks close a k (allow-is status) (kind-is description) in
     let section : print_section fs crlf ≡ server_lines ++ (a ++ (k ++ (l ++ (c ++ crlf_bytes)))) = ap (λ t. t ++ crlf_bytes) printed ∙ five server_lines a k l c crlf_bytes in
-    ap (λ t. codes "HTTP/1.1 " ++ (code_digits status ++ (32 ∷ t))) (append_assoc phrase crlf_bytes (server_lines ++ (a ++ (k ++ (l ++ (c ++ crlf_bytes))))))
-    ∙ sym (ap (λ t. codes "HTTP/1.1 " ++ (code_digits status ++ (32 ∷ (phrase ++ (crlf_bytes ++ t))))) section)
+    right-of-seven (status_line status) server_lines a k l c crlf_bytes ∙ ap (λ t. status_line status ++ t) (sym section)
 
 -- ---- it is a head
 

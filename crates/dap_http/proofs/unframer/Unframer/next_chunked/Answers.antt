@@ -24,6 +24,7 @@ returns-in_default c =
       lands = λ k t.
           let (all, tracks, same) = whole-piece c.args.piece.now c.read_lines-used.result c.read_lines-used.new.self k c.read_lines-used.ensures.within c.read_lines-used.ensures.stopped non (c.read_lines-used.ensures.tracks k t) in
           (tracks, same, opens);
+      within = omega arith;
       used = omega (arith, c.read_lines-used.ensures.used, all-used (length c.args.piece.now) c.read_lines-used.result c.read_lines-used.new.self.at c.read_lines-used.ensures.within c.read_lines-used.ensures.stopped non);
       coding = c.read_lines-used.ensures.coding;
     }
