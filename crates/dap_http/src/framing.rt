@@ -9,7 +9,9 @@ use dap_outside::{Failed, Sink};
 use http_server::Log;
 
 /// A sink of the bytes of a body, which puts them framed to another. Its last parameter is always
-/// `Gathered`; it lets contracts speak of the other sink behind `end`.
+/// `Gathered`; it lets contracts speak of the other sink behind `end`. One that is let go without `end`
+/// leaves the body open.
+#[derive(Drop)]
 pub struct Framing<'a, O: Sink, F> {
     out: &'a mut O,
     began: Log<O, u8>,

@@ -159,8 +159,7 @@ fn heads_of_replies_have_128_fields(rt: HostRuntime) -> Result<(), Fail> {
 
 #[test]
 fn heads_cut_behind_any_byte_are_cut(rt: HostRuntime) -> Result<(), Fail> {
-    let whole =
-        b"HTTP/1.1 100\r\n\r\nHTTP/1.1 200 OK\r\nContent-Length: 3\r\n\r\n".as_slice();
+    let whole = b"HTTP/1.1 100\r\n\r\nHTTP/1.1 200 OK\r\nContent-Length: 3\r\n\r\n".as_slice();
     for end in 0..whole.len() {
         if let Some(part) = whole.get(..end) {
             match first(rt.alloc(), part, 4_096)? {

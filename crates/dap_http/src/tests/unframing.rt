@@ -100,9 +100,10 @@ fn chunks_are_read_in_any_two_pieces(rt: HostRuntime) -> Result<(), Fail> {
 fn a_body_cut_behind_any_byte_is_cut(rt: HostRuntime) -> Result<(), Fail> {
     let whole = b"3\r\nabc\r\n0\r\n\r\n".as_slice();
     for end in 0..whole.len() {
-        if let (Some(part), Some(body)) =
-            (whole.get(..end), b"abc".get(..end.saturating_sub(3).min(3)))
-        {
+        if let (Some(part), Some(body)) = (
+            whole.get(..end),
+            b"abc".get(..end.saturating_sub(3).min(3)),
+        ) {
             let fault = Some((Bad::Cut, body.len() as u64));
             for cut in 0..end + 1 {
                 let row = (part, body, fault, 0);
