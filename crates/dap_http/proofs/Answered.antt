@@ -1,17 +1,14 @@
 -- What the parts of an unframer answer is right, and it stands after the used bytes.
-use Rattle.std.proofs.Common.{◌≡◌, ℕ, ◌+◌, ◌-◌, ◌<◌, ◌≤◌, ◌⊎◌, Bool, true, false, List, [], ◌∷◌, ◌++◌, length, take, drop, refl, sym, ap, ◌∙◌, arith, append_assoc, append-nil, length-append, length-drop, inl, inr, subst}
+use Rattle.std.proofs.Common.{◌≡◌, ℕ, ◌+◌, ◌-◌, ◌<◌, ◌≤◌, true, false, List, [], ◌++◌, length, take, drop, refl, sym, ap, ◌∙◌, arith, append-nil, length-append, length-drop, inl, inr, subst}
 use Rattle.std.specs.Prelude.{IsTrue}
-use Rattle.std.specs.Borrow.{Bor}
 use Rattle.std.proofs.Math.Seq.{take-add, take-length}
 use Rattle.std.proofs.lemmas.Bool.{true≢false, cases_lt}
 use Rattle.std.proofs.lemmas.List.{length-take-le, take-append-drop}
 use Rattle.dap_http.specs.After.{StandsAfter, used_of}
-use Rattle.dap_http.specs.inner.Tracking.{Counts, IsRight, Lands, Passes, StandsIn, Tracks, wrong_at}
-use Rattle.dap_http.specs.Chunks.{GoesOn, IsFaulty, IsWhole}
+use Rattle.dap_http.specs.inner.Tracking.{Counts, IsRight, Lands, Passes, Tracks}
 use Rattle.dap_http.specs.inner.Steps.{Known, is_open, run, start, stops}
 use Rattle.dap_http.specs.declared.chunk_step.At.{At}
 use Rattle.dap_http.specs.declared.chunk_step.At.TheVariants.{Data, Done, Bad}
-use Rattle.dap_http.specs.declared.coding.Coding.{Coding}
 use Rattle.dap_http.specs.declared.coding.Coding.TheVariants.{Chunked, Length, ToEnd}
 use Rattle.dap_http.specs.declared.unframer.Unframed.{Unframed}
 use Rattle.dap_http.specs.declared.unframer.Unframed.TheVariants.{Part, More, End, Refused}

@@ -1,5 +1,5 @@
 -- A framed body is a whole coded body, and carries that body.
-use Rattle.std.proofs.Common.{◌≡◌, ℕ, zero, suc, ◌+◌, ◌-◌, ◌*◌, ◌/◌, ◌%◌, ◌^◌, ◌<◌, ◌≤◌, Bool, true, false, eqb, None, List, [], ◌∷◌, ◌++◌, length, take, drop, refl, sym, ap, ◌∙◌, subst, arith, append_assoc, append-nil, length-append, length-drop, inl, inr}
+use Rattle.std.proofs.Common.{◌≡◌, ℕ, zero, suc, ◌+◌, ◌*◌, ◌/◌, ◌%◌, ◌^◌, ◌<◌, ◌≤◌, true, false, eqb, None, List, [], ◌∷◌, ◌++◌, length, take, drop, refl, sym, ap, ◌∙◌, subst, arith, append_assoc, append-nil, length-append, length-drop, inl, inr}
 use Rattle.std.specs.Prelude.{All}
 use Rattle.std.specs.List.{flat_map}
 use Rattle.std.specs.Char.{digit_value, is_ascii_hexdigit}
@@ -11,7 +11,7 @@ use Rattle.std.proofs.lemmas.Int.Digits.{digits_value_push}
 use Rattle.std.proofs.lemmas.List.{length-take, take-append-drop}
 use Rattle.std.proofs.lemmas.List.Elements.{All-cons, All-nil, All-push}
 use Rattle.httparse.specs.Ascii.{crlf_bytes}
-use Rattle.httparse.specs.Grammar.{AllPass, ChunkLine, IsChunkLine, chunk_size, print_chunk_line}
+use Rattle.httparse.specs.Grammar.{AllPass, ChunkLine, chunk_size, print_chunk_line}
 use Rattle.dap_http.specs.Chunks.{Chunk, IsChunk, IsInLine, IsSizeLine, IsTrailer, IsWhole, bodies, print_chunks}
 use Rattle.dap_http.specs.Frames.{chunk, chunked, first_pieces, last_chunk, piece_size}
 use Rattle.dap_http.proofs.Hex.{last-digit, one-digit}

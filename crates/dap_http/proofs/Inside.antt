@@ -1,18 +1,18 @@
 -- What a state says of the bytes behind a stage, byte by byte.
-use Rattle.std.proofs.Common.{◌≡◌, ℕ, ◌+◌, ◌-◌, ◌*◌, ◌<◌, ◌≤◌, ◌⊎◌, Bool, true, false, not, List, [], ◌∷◌, ◌++◌, length, replicate, refl, sym, ap, ◌∙◌, arith, append_assoc, append-nil, length-append, inl, inr, Option, Some, None}
-use Rattle.std.specs.Prelude.{if◌then◌else◌, ◌==◌, ◌||◌, nat_lt, nat_le, All, IsTrue}
+use Rattle.std.proofs.Common.{◌≡◌, ℕ, ◌+◌, ◌-◌, ◌*◌, ◌<◌, ◌≤◌, ◌⊎◌, Bool, true, false, List, [], ◌∷◌, ◌++◌, length, replicate, refl, sym, ap, ◌∙◌, arith, append_assoc, append-nil, length-append, inl, inr, Option, Some, None}
+use Rattle.std.specs.Prelude.{if◌then◌else◌, ◌==◌, nat_lt, nat_le, IsTrue}
 use Rattle.std.specs.Char.{is_ascii_hexdigit, digit_value}
 use Rattle.std.specs.Str.Parse.{digits_value}
-use Rattle.std.proofs.lemmas.Bool.{eqb-true, eqb-false, leb-true, leb-false, ltb-true, ltb-false, or_parts, true≢false, ne_eqb}
+use Rattle.std.proofs.lemmas.Bool.{eqb-true, leb-true, leb-false, ltb-true, ltb-false, true≢false}
 use Rattle.std.proofs.lemmas.Int.Digits.{digits_value_push}
 use Rattle.std.proofs.lemmas.List.Elements.{All-nil, All-push}
 use Rattle.httparse.specs.Ascii.{crlf_bytes}
-use Rattle.httparse.specs.Grammar.{AllPass, ChunkLine, IsChunkLine, IsExtension, chunk_size, crlf, is_extension_byte, is_ows, print_chunk_line, print_end, print_extension}
+use Rattle.httparse.specs.Grammar.{AllPass, ChunkLine, IsExtension, chunk_size, is_extension_byte, is_ows, print_chunk_line, print_extension}
 use Rattle.dap_http.specs.declared.chunk_step.At.{At}
 use Rattle.dap_http.specs.declared.chunk_step.At.TheVariants.{Line, Digits, Blanks, Extension, LineFeed, Data, EndCr, EndLf, Fresh, Trailer, EmptyCr, TrailerCr, Done, Bad}
-use Rattle.dap_http.specs.Chunks.{Fits, IsInLine, IsSizeLine, IsStage, MayFit, Stage, at_bytes, at_end, at_line, at_trailer, print_trailers}
+use Rattle.dap_http.specs.Chunks.{Fits, IsInLine, IsSizeLine, MayFit, Stage, at_bytes, at_end, at_line, at_trailer, print_trailers}
 use Rattle.std.proofs.lemmas.List.{length-replicate}
-use Rattle.dap_http.specs.inner.Steps.{behind_line, is_data, is_done, is_open, is_start, step, step_blanks, step_trailer}
+use Rattle.dap_http.specs.inner.Steps.{is_data, is_done, is_open, is_start, step, step_blanks, step_trailer}
 use Rattle.dap_http.proofs.Lines.{line-parts}
 use Rattle.dap_http.proofs.Runs.{truth}
 use Rattle.dap_http.proofs.Seams.{in-line-nil, in-line-push, in-line-front, one-more, snoc-same}

@@ -1,14 +1,12 @@
 -- What an unframer of a chunked body answers is right.
-use Rattle.std.proofs.Common.{◌≡◌, ℕ, ◌+◌, ◌-◌, ◌<◌, ◌≤◌, ◌⊎◌, Bool, true, false, List, [], ◌∷◌, ◌++◌, length, take, drop, refl, sym, ap, ◌∙◌, arith, append_assoc, append-nil, length-append, inl, inr, subst}
-use Rattle.std.specs.Prelude.{IsTrue}
-use Rattle.std.specs.Borrow.{Bor}
+use Rattle.std.proofs.Common.{◌≡◌, ℕ, ◌+◌, ◌<◌, ◌≤◌, true, List, ◌++◌, length, take, drop, refl, sym, ap, ◌∙◌, arith, length-append, inl, inr, subst}
 use Rattle.std.proofs.lemmas.Bool.{true≢false, cases_lt}
 use Rattle.std.proofs.lemmas.List.{length-take-le, take-append-drop}
 use Rattle.xdr_decode.specs.declared.bad.BadField.{BadField}
 use Rattle.xdr_decode.specs.declared.bad.Bad as kinds
 use Rattle.xdr_decode.specs.declared.bad.Bad.TheVariants.{BadChunk}
-use Rattle.dap_http.specs.After.{StandsAfter, used_of}
-use Rattle.dap_http.specs.inner.Tracking.{IsRight, Lands, Says, Tracks, wrong_at}
+use Rattle.dap_http.specs.After.{used_of}
+use Rattle.dap_http.specs.inner.Tracking.{IsRight, Lands, wrong_at}
 use Rattle.dap_http.specs.Chunks.{GoesOn, IsFaulty, IsWhole}
 use Rattle.dap_http.specs.inner.Steps.{Known, is_open, run, start}
 use Rattle.dap_http.specs.declared.chunk_step.At.TheVariants.{Done, Bad}

@@ -1,8 +1,8 @@
 -- Bytes of a chunk that are lent at once.
-use Rattle.std.proofs.Common.{◌≡◌, ℕ, ◌+◌, ◌-◌, ◌<◌, ◌≤◌, List, [], ◌∷◌, ◌++◌, length, refl, sym, ap, ◌∙◌, arith, append_assoc, append-nil, length-append, subst}
+use Rattle.std.proofs.Common.{◌≡◌, ℕ, ◌+◌, ◌-◌, ◌<◌, List, [], ◌∷◌, ◌++◌, length, refl, sym, ap, ◌∙◌, arith, append_assoc, length-append, subst}
 use Rattle.dap_http.specs.After.{StandsAfter}
 use Rattle.dap_http.specs.inner.Tracking.{StandsIn, Tracks}
-use Rattle.dap_http.specs.inner.Steps.{Known, run, start}
+use Rattle.dap_http.specs.inner.Steps.{Known, run}
 use Rattle.dap_http.specs.declared.chunk_step.At.TheVariants.{Line, Data, EndCr}
 use Rattle.dap_http.specs.declared.coding.Coding.{Coding}
 use Rattle.dap_http.specs.declared.coding.Coding.TheVariants.{Chunked, Length, ToEnd}

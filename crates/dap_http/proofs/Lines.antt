@@ -1,17 +1,17 @@
 -- A line that fits is run over, byte by byte, to what comes behind it.
-use Rattle.std.proofs.Common.{◌≡◌, ◌≢◌, ℕ, suc, ◌+◌, ◌*◌, ◌<◌, ◌≤◌, ◌⊎◌, Bool, true, false, not, List, [], ◌∷◌, ◌++◌, length, refl, sym, ap, ◌∙◌, arith, append_assoc, append-nil, length-append, inl, inr, Option, Some, None}
-use Rattle.std.specs.Prelude.{if◌then◌else◌, ◌==◌, ◌||◌, nat_lt, nat_le, IsTrue}
+use Rattle.std.proofs.Common.{◌≡◌, ℕ, ◌+◌, ◌*◌, ◌<◌, ◌≤◌, Bool, true, false, not, List, [], ◌∷◌, ◌++◌, length, refl, sym, ap, ◌∙◌, arith, append_assoc, length-append, inl, inr, Option, Some, None}
+use Rattle.std.specs.Prelude.{if◌then◌else◌, ◌==◌, ◌||◌, nat_lt, IsTrue}
 use Rattle.std.specs.Char.{is_ascii_hexdigit, digit_value}
 use Rattle.std.specs.Str.Parse.{digits_value, digits_value_after}
-use Rattle.std.proofs.lemmas.Bool.{lt-ltb, le-ltb, le-leb, eqb-true, true≢false, or_cases, or_from, ne_eqb}
+use Rattle.std.proofs.lemmas.Bool.{lt-ltb, le-ltb, eqb-true, true≢false, or_cases}
 use Rattle.std.proofs.lemmas.List.Elements.{All-head, All-tail}
 use Rattle.httparse.specs.Ascii.{crlf_bytes}
 use Rattle.httparse.specs.Grammar.{AllPass, ChunkLine, chunk_size, IsExtension, is_extension_byte, is_ows, print_chunk_line, print_extension, print_end, crlf}
 use Rattle.dap_http.specs.declared.chunk_step.At.{At}
-use Rattle.dap_http.specs.declared.chunk_step.At.TheVariants.{Line, Digits, Blanks, Extension, LineFeed, Data, EndCr, EndLf, Fresh, Trailer, EmptyCr, TrailerCr, Done, Bad}
+use Rattle.dap_http.specs.declared.chunk_step.At.TheVariants.{Line, Digits, Blanks, Extension, LineFeed, Data, Fresh, Bad}
 use Rattle.dap_http.specs.Chunks.{IsSizeLine}
-use Rattle.dap_http.specs.inner.Steps.{Known, advance, behind_line, is_data, is_done, is_start, run, step, step_blanks, step_digits, step_text}
-use Rattle.dap_http.proofs.Runs.{begins, known, run-append, stays, truth}
+use Rattle.dap_http.specs.inner.Steps.{behind_line, is_data, is_done, is_start, run, step, step_blanks}
+use Rattle.dap_http.proofs.Runs.{begins, known, run-append, stays}
 
 -- ---- one byte
 

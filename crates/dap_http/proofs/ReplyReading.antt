@@ -1,16 +1,15 @@
 -- Heads of replies in buffers that grow.
-use Rattle.std.proofs.Common.{◌≡◌, ℕ, zero, suc, ◌+◌, ◌<◌, ◌≤◌, ◌⊎◌, Bool, true, false, not, cond, List, [], ◌∷◌, ◌++◌, length, take, drop, map, Some, Option, Result, Ok, Err, refl, sym, ap, ◌∙◌, subst, arith, append_assoc, append-nil, length-append, length-drop, inl, inr}
+use Rattle.std.proofs.Common.{◌≡◌, ℕ, ◌+◌, ◌<◌, ◌≤◌, Bool, true, false, not, List, [], ◌∷◌, ◌++◌, length, take, drop, map, Some, Option, Result, Ok, Err, refl, sym, ap, ◌∙◌, subst, arith, append-nil, length-append, length-drop, inl, inr}
 use Rattle.std.proofs.lemmas.Bool.{cases_lt, false≢true}
 use Rattle.std.proofs.lemmas.List.{drop-append-le, drop-drop, length-map, length-take}
 use Rattle.std.proofs.lemmas.List.Sums.{count_by-le-length}
 use Rattle.std.specs.Prelude.{IsTrue, ◌==◌, nat_le, nat_lt, ◌&&◌}
-use Rattle.httparse.specs.Grammar.{HasNoResponse, NeverHasResponse, ReadsResponse, ResponseHead, print_response, print_section, status_code}
+use Rattle.httparse.specs.Grammar.{HasNoResponse, NeverHasResponse, ResponseHead, print_response, print_section, status_code}
 use Rattle.httparse.specs.Spans.{IsResponseOf, IsResponseWithin, ResponseOverflows, header_bytes, name_and_value}
 use Rattle.httparse.specs.declared.spans.HeaderSpan.{HeaderSpan}
 use Rattle.httparse.specs.declared.spans.ResponseSpans.{ResponseSpans}
 use Rattle.httparse.proofs.GrammarLemmas.{ReadsResponse-append, response_unique}
 use Rattle.xdr_decode.specs.declared.bad.Bad.{Bad}
-use Rattle.xdr_decode.specs.declared.bad.Bad.TheVariants as bad
 use Rattle.dap_http.specs.Reading.{Answers, GivesFinal, IsAnswered}
 use Rattle.dap_http.specs.Replies.{AreCut, AreTooLong, HasFinal, HasNoFinal, Interim, IsNoReply, NoMoreReply, ReadsReply, coding_by, coding_in, is_interim}
 use Rattle.dap_http.specs.inner.ReplyJudging.{HasNoReplyHead, HeadOf, IsPast, IsReadOf, IsReplyJudged, as_sum}
@@ -18,7 +17,6 @@ use Rattle.dap_http.specs.Requests.{feeds}
 use Rattle.dap_http.specs.declared.coding.Coding.{Coding}
 use Rattle.dap_http.specs.declared.reply_judge.ReplyJudged.TheVariants as judged
 use Rattle.dap_http.specs.declared.reply_reader.ReplyRead.{ReplyRead}
-use Rattle.dap_http.specs.declared.reply_reader.ReplyRead.TheVariants as reply
 use Rattle.dap_http.proofs.Feeds.{feeds-append, feeds-section, no-feed}
 use Rattle.std.specs.Io.KnownBytes.{Consumes, IsAtEnd}
 use Rattle.dap_http.proofs.HeadReading.{front-of, left-behind}

@@ -1,13 +1,13 @@
 -- Whole chunks, lines and bytes are run over to what comes behind them.
-use Rattle.std.proofs.Common.{◌≡◌, ◌≢◌, ℕ, ◌+◌, ◌-◌, ◌<◌, ◌≤◌, ◌⊎◌, Bool, true, false, List, [], ◌∷◌, ◌++◌, length, refl, sym, ap, ◌∙◌, arith, append_assoc, append-nil, length-append, inl, inr}
-use Rattle.std.specs.Prelude.{if◌then◌else◌, ◌==◌, nat_lt, nat_le, All}
-use Rattle.std.proofs.lemmas.Bool.{lt-ltb, le-ltb, le-leb, lt-leb, ne_eqb, eqb-true, true≢false}
+use Rattle.std.proofs.Common.{◌≡◌, ℕ, ◌+◌, ◌-◌, ◌<◌, ◌≤◌, ◌⊎◌, true, false, List, [], ◌∷◌, ◌++◌, length, refl, sym, ap, ◌∙◌, arith, append_assoc, append-nil, length-append, inl, inr}
+use Rattle.std.specs.Prelude.{if◌then◌else◌, ◌==◌, nat_lt, All}
+use Rattle.std.proofs.lemmas.Bool.{le-ltb, le-leb, lt-leb, ne_eqb, eqb-true}
 use Rattle.std.proofs.lemmas.List.Elements.{All-head, All-tail}
 use Rattle.httparse.specs.Ascii.{crlf_bytes}
 use Rattle.httparse.specs.Grammar.{ChunkLine, chunk_size, print_chunk_line}
 use Rattle.dap_http.specs.declared.chunk_step.At.{At}
-use Rattle.dap_http.specs.declared.chunk_step.At.TheVariants.{Line, Digits, Blanks, Extension, LineFeed, Data, EndCr, EndLf, Fresh, Trailer, EmptyCr, TrailerCr, Done, Bad}
-use Rattle.dap_http.specs.Chunks.{Chunk, Fits, IsChunk, IsInLine, IsSizeLine, IsStage, IsTrailer, Stage, at_bytes, at_end, at_line, at_trailer, bodies, body_before, body_in, print_chunk, print_chunks, print_stage, print_trailers}
+use Rattle.dap_http.specs.declared.chunk_step.At.TheVariants.{Line, Data, EndCr, EndLf, Fresh, Trailer, EmptyCr, TrailerCr, Done, Bad}
+use Rattle.dap_http.specs.Chunks.{Chunk, IsChunk, IsInLine, IsSizeLine, IsStage, IsTrailer, Stage, at_bytes, at_end, at_line, at_trailer, bodies, body_before, print_chunk, print_chunks, print_stage, print_trailers}
 use Rattle.dap_http.specs.inner.Steps.{Known, advance, behind_line, is_data, is_done, is_start, run, start, step, step_trailer}
 use Rattle.dap_http.proofs.Lines.{run-line}
 use Rattle.dap_http.proofs.Runs.{begins, known, run-append, stays, truth}

@@ -1,20 +1,16 @@
 -- What is known of bytes is what they are, and whatever they are is known.
-use Rattle.std.proofs.Common.{◌≡◌, ℕ, ◌+◌, ◌-◌, ◌<◌, ◌≤◌, ◌⊎◌, Bool, true, false, List, [], ◌∷◌, ◌++◌, length, refl, sym, ap, ◌∙◌, arith, append_assoc, append-nil, length-append, inl, inr}
-use Rattle.std.specs.Prelude.{if◌then◌else◌, All}
+use Rattle.std.proofs.Common.{◌≡◌, ℕ, ◌+◌, Bool, false, List, [], ◌∷◌, ◌++◌, length, refl, sym, ap, ◌∙◌, arith, append_assoc, append-nil, length-append, inl, inr}
+use Rattle.std.specs.Prelude.{if◌then◌else◌}
 use Rattle.std.proofs.lemmas.Bool.{true≢false}
-use Rattle.std.proofs.lemmas.List.{append_cancel_left}
 use Rattle.std.proofs.lemmas.List.Elements.{All-nil}
-use Rattle.httparse.specs.Ascii.{crlf_bytes}
-use Rattle.httparse.specs.Grammar.{ChunkLine}
-use Rattle.dap_http.specs.declared.chunk_step.At.{At}
-use Rattle.dap_http.specs.declared.chunk_step.At.TheVariants.{Line, Data, EndCr, Fresh, Done, Bad}
-use Rattle.dap_http.specs.Chunks.{Chunk, Fits, GoesOn, IsChunk, IsFaulty, IsStage, IsWhole, MayFit, NeverFits, Stage, at_bytes, at_end, at_line, at_trailer, bodies, body_before, body_in, print_stage, print_trailers}
-use Rattle.dap_http.specs.inner.Steps.{Known, advance, is_data, is_done, is_open, is_start, run, start, step}
-use Rattle.dap_http.proofs.Inside.{Holds, Steps, bad-not-bytes, data-is, is_bytes, live, open-is, start-is, stepped}
-use Rattle.dap_http.proofs.Next.{NextStage, bad-never, ends, goes, next-stage, run-next, stage-not-bad}
-use Rattle.dap_http.proofs.Runs.{Same, Stuck, bad-stays, body-grows, done-stays, known, run-append, used-most}
+use Rattle.dap_http.specs.declared.chunk_step.At.TheVariants.{Done, Bad}
+use Rattle.dap_http.specs.Chunks.{IsChunk, IsFaulty, IsStage, IsWhole, Stage, at_bytes, at_end, at_line, at_trailer, bodies, body_before, body_in, print_stage}
+use Rattle.dap_http.specs.inner.Steps.{Known, advance, is_data, is_done, is_start, run, start, step}
+use Rattle.dap_http.proofs.Inside.{Holds, Steps, bad-not-bytes, data-is, is_bytes, open-is, start-is, stepped}
+use Rattle.dap_http.proofs.Next.{NextStage, bad-never, ends, goes, next-stage, run-next}
+use Rattle.dap_http.proofs.Runs.{bad-stays, done-stays, known, run-append}
 use Rattle.dap_http.proofs.Seams.{one-more}
-use Rattle.dap_http.proofs.Stages.{at_stage, behind, run-empty, run-part, run-stage}
+use Rattle.dap_http.proofs.Stages.{at_stage, behind}
 
 -- what is known behind a stage and a part of what fits there
 abbrev pub there : Stage → List ℕ → Known

@@ -1,19 +1,19 @@
 -- Whatever bytes are, a run over them shows it.
-use Rattle.std.proofs.Common.{◌≡◌, ℕ, ◌+◌, ◌-◌, ◌<◌, ◌≤◌, ◌⊎◌, Bool, true, false, List, [], ◌∷◌, ◌++◌, length, refl, sym, ap, ◌∙◌, arith, append_assoc, append-nil, length-append, inl, inr, subst}
-use Rattle.std.specs.Prelude.{if◌then◌else◌, All, IsTrue}
+use Rattle.std.proofs.Common.{◌≡◌, ℕ, ◌+◌, ◌-◌, ◌<◌, ◌⊎◌, true, false, List, [], ◌∷◌, ◌++◌, length, refl, sym, ap, ◌∙◌, arith, append_assoc, append-nil, length-append, inl, inr, subst}
+use Rattle.std.specs.Prelude.{if◌then◌else◌}
 use Rattle.std.proofs.lemmas.Bool.{true≢false}
 use Rattle.httparse.specs.Ascii.{crlf_bytes}
 use Rattle.httparse.specs.Grammar.{chunk_size}
 use Rattle.dap_http.specs.declared.chunk_step.At.{At}
-use Rattle.dap_http.specs.declared.chunk_step.At.TheVariants.{Line, Data, EndCr, Fresh, Done, Bad}
+use Rattle.dap_http.specs.declared.chunk_step.At.TheVariants.{Done, Bad}
 use Rattle.dap_http.specs.Chunks.{Fits, GoesOn, IsFaulty, IsStage, IsWhole, MayFit, NeverFits, Stage, at_bytes, at_end, at_line, at_trailer, bodies, body_before, body_in, print_stage, print_trailers}
-use Rattle.dap_http.specs.inner.Steps.{Known, advance, is_data, is_done, is_open, is_start, run, start, step}
-use Rattle.dap_http.proofs.Inside.{Holds, Steps, bad-not-bytes, data-is, is_bytes, live, open-is, stepped}
+use Rattle.dap_http.specs.inner.Steps.{Known, advance, is_open, is_start, run, start, step}
+use Rattle.dap_http.proofs.Inside.{bad-not-bytes, data-is, is_bytes, live, open-is, stepped}
 use Rattle.dap_http.proofs.Next.{NextStage, ends, goes, next-stage, run-next, stage-not-bad}
-use Rattle.dap_http.proofs.Runs.{Same, Stuck, bad-stays, body-grows, done-stays, known, run-append, truth, used-most}
+use Rattle.dap_http.proofs.Runs.{bad-stays, body-grows, done-stays, known, run-append, used-most}
 use Rattle.dap_http.proofs.Seams.{one-more}
 use Rattle.dap_http.proofs.Stages.{at_stage, behind, run-empty, run-part, run-stage}
-use Rattle.dap_http.proofs.Told.{InState, Tells, begun, going, no-bytes, over, push, tells, there, there-more, wrong}
+use Rattle.dap_http.proofs.Told.{InState, Tells, begun, going, no-bytes, over, push, tells, there, wrong}
 
 stage-not-done : (s : Stage) → ¬ (at_stage s ≡ Done)
 stage-not-done (at_line cs) e = cc

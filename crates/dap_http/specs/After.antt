@@ -1,6 +1,5 @@
 -- Which bytes an unframer stands after, and what its answers say.
-use Rattle.std.specs.Prelude.{◌≡◌, ℕ, List, length, take}
-use Rattle.std.specs.Borrow.{Bor}
+use Rattle.std.specs.Prelude.{ℕ, List, length, take}
 use Rattle.xdr_decode.specs.declared.bad.BadField.{BadField}
 use Rattle.dap_http.specs.inner.Tracking.{StandsIn}
 use Rattle.dap_http.specs.declared.coding.Coding.{Coding}

@@ -1,6 +1,6 @@
 -- The fields of a head, by name and value (RFC 9110, sections 5.1 and 5.6.1; RFC 9112, section 5).
-use Rattle.std.specs.Prelude.{◌≡◌, ℕ, ◌≤◌, ◌<◌, Bool, true, false, ◌&&◌, not, List, [], ◌∷◌, map, if◌then◌else◌, ◌==◌, codes}
-use Rattle.std.specs.List.{flat_map, list_any, slice_split}
+use Rattle.std.specs.Prelude.{ℕ, Bool, List, [], ◌∷◌, map, if◌then◌else◌, ◌==◌}
+use Rattle.std.specs.List.{flat_map, slice_split}
 use Rattle.std.specs.Str.{str_eq_ignore_ascii_case}
 use Rattle.httparse.specs.Grammar.{Field, trim_ows}
 use Rattle.httparse.specs.Spans.{name_and_value}

@@ -1,6 +1,6 @@
 -- A URL without its kind (RFC 3986, section 3; RFC 9110, section 4.2.1), in steps that are this project's
 -- profile.
-use Rattle.std.specs.Prelude.{◌≡◌, ℕ, Bool, ◌&&◌, ◌||◌, not, List, [], ◌∷◌, length, drop, if◌then◌else◌, ◌==◌, nat_le, nat_lt, nat_eq, codes, Option, Some, None}
+use Rattle.std.specs.Prelude.{ℕ, Bool, ◌&&◌, ◌||◌, not, List, [], ◌∷◌, length, drop, if◌then◌else◌, ◌==◌, nat_le, nat_lt, nat_eq, codes, Option, Some, None}
 use Rattle.std.specs.List.{before_first, list_all, position_or_len, starts_with}
 use Rattle.std.specs.Char.{is_ascii_alphanumeric, is_ascii_digit}
 use Rattle.std.specs.Str.Parse.{digits_value}

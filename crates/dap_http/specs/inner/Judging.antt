@@ -1,7 +1,7 @@
 -- What the bytes of a buffer begin with.
 use Rattle.std.specs.Prelude.{◌≡◌, ℕ, ◌≤◌, ◌⊎◌, Bool, List, length, drop, Option, Some, None}
 use Rattle.httparse.specs.Grammar.{NeverHasRequest, RequestHead}
-use Rattle.dap_http.specs.Requests.{FirstRequest, HasNoHead, IsFirstLine, MayBecomeHead, NeverHasHead, ReadsHead, feeds}
+use Rattle.dap_http.specs.Requests.{HasNoHead, IsFirstLine, MayBecomeHead, NeverHasHead, ReadsHead, feeds}
 use Rattle.dap_http.specs.Reading.{Gives, IsFound, IsHead}
 use Rattle.dap_http.specs.declared.head_judge.Judged.{Judged}
 use Rattle.dap_http.specs.declared.head_judge.Judged.TheVariants as judged

@@ -1,12 +1,12 @@
 -- What the bytes of a reply begin with.
 use Rattle.std.proofs.Common.{inl, inr}
-use Rattle.std.specs.Prelude.{◌≡◌, ℕ, ◌+◌, ◌<◌, ◌≤◌, ◌⊎◌, Bool, not, ◌&&◌, List, [], ◌++◌, length, drop, Result, Ok, Err, IsTrue}
+use Rattle.std.specs.Prelude.{◌≡◌, ℕ, ◌<◌, ◌≤◌, ◌⊎◌, Bool, not, ◌&&◌, List, [], ◌++◌, length, drop, Result, Ok, Err, IsTrue}
 use Rattle.std.specs.Str.{bytes_eq, str_eq_ignore_ascii_case}
 use Rattle.httparse.specs.Grammar.{NeverHasResponse, ResponseHead}
 use Rattle.xdr_decode.specs.declared.bad.Bad.{Bad}
 use Rattle.dap_http.specs.Fields.{is_named}
 use Rattle.dap_http.specs.Reading.{Answers, IsAnswered}
-use Rattle.dap_http.specs.Replies.{HasFinal, Interim, NoMoreReply, ReadsReply, coding_in, is_interim}
+use Rattle.dap_http.specs.Replies.{Interim, NoMoreReply, ReadsReply, coding_in, is_interim}
 use Rattle.dap_http.specs.Requests.{feeds}
 use Rattle.dap_http.specs.declared.coding.Coding.{Coding}
 use Rattle.dap_http.specs.declared.reply_judge.ReplyJudged.{ReplyJudged}

@@ -1,6 +1,5 @@
 -- What an unframer knows of the bytes that it has used, and what its answers make of it.
 use Rattle.std.specs.Prelude.{◌≡◌, ℕ, ◌+◌, ◌<◌, ◌≤◌, ◌⊎◌, List, [], ◌++◌, length, take, IsTrue}
-use Rattle.std.specs.Borrow.{Bor}
 use Rattle.xdr_decode.specs.declared.bad.BadField.{BadField}
 use Rattle.xdr_decode.specs.declared.bad.Bad.TheVariants.{BadChunk}
 use Rattle.dap_http.specs.Codings.{Ends, Fails, Goes}

@@ -1,4 +1,4 @@
-use Rattle.std.proofs.Common.{arith, sym, ◌∙◌}
+use Rattle.std.proofs.Common.{arith}
 use Rattle.dap_http.proofs.Decimal.{next-digit}
 use Rattle.dap_http.proofs.digits.number_of.Goals as goal
 

@@ -1,4 +1,4 @@
-use Rattle.std.proofs.Common.{◌≡◌, ◌∙◌, sym, ap, ◌∷◌, drop, suc, map}
+use Rattle.std.proofs.Common.{◌∙◌, sym, ap, ◌∷◌, drop, suc, map}
 use Rattle.httparse.specs.Spans.{header_bytes}
 use Rattle.dap_http.specs.Fields.{values_of}
 use Rattle.dap_http.proofs.FieldTests.{first-there}

@@ -1,6 +1,6 @@
-use Rattle.std.proofs.Common.{◌≡◌, subst, sym, ap, ◌∙◌, inl, inr, refl, arith, length, take}
+use Rattle.std.proofs.Common.{subst, sym, inr, refl}
 use Rattle.dap_http.proofs.Feeds.{exceeds-feeds, may-become}
-use Rattle.dap_http.proofs.HeadReading.{never-fits, never-head, no-head, none-now, told-head}
+use Rattle.dap_http.proofs.HeadReading.{never-fits, no-head, none-now, told-head}
 use Rattle.httparse.specs.Spans.{IsRequestOf, IsRequestWithin}
 use Rattle.httparse.specs.Grammar.{IsToken}
 use Rattle.dap_http.proofs.head_judge.judge.Goals as goal

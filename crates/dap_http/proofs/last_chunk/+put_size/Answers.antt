@@ -1,7 +1,5 @@
-use Rattle.std.proofs.Common.{◌≡◌, ◌∙◌, ◌/◌, ◌%◌, ℕ, List, [], ◌∷◌, ◌++◌, sym, ap, subst, arith, false, OnOk, OnErr}
+use Rattle.std.proofs.Common.{◌∙◌, ◌/◌, ◌%◌, [], ◌∷◌, ◌++◌, sym, ap, arith, false}
 use Rattle.std.specs.Fmt.{digit_glyph, digits}
-use Rattle.std.specs.Io.KnownBytes.{Appends}
-use Rattle.dap_outside.specs.Streams.{AppendsFront}
 use Rattle.dap_outside.proofs.Fronts.{err_front, front_of, ok_more, on_err}
 use Rattle.dap_http.proofs.Hex.{last-digit, one-digit}
 use Rattle.dap_http.proofs.last_chunk.+put_size.Goals as goal

@@ -1,4 +1,4 @@
-use Rattle.std.proofs.Common.{◌≡◌, ◌∙◌, sym, arith}
+use Rattle.std.proofs.Common.{◌∙◌, sym}
 use Rattle.dap_outside.proofs.Fronts.{err_front, front_of, ok_more, on_err}
 use Rattle.dap_http.specs.Frames.{chunk, last_chunk}
 use Rattle.dap_http.proofs.Ends.{chunked-none, chunked-rest}

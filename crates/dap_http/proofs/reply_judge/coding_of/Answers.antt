@@ -1,6 +1,5 @@
-use Rattle.std.proofs.Common.{◌≡◌, ◌∙◌, sym, ap, cond, codes, map, inl, inr}
+use Rattle.std.proofs.Common.{◌∙◌, sym, ap, cond, codes, map, inr}
 use Rattle.httparse.specs.Spans.{header_bytes}
-use Rattle.xdr_decode.specs.declared.bad.Bad.TheVariants as bad
 use Rattle.dap_http.specs.Fields.{values_of}
 use Rattle.dap_http.specs.Replies.{length_of}
 use Rattle.dap_http.specs.declared.coding.Coding.TheVariants.{Chunked}

@@ -1,4 +1,4 @@
-use Rattle.std.proofs.Common.{◌≡◌, ◌∙◌, sym, ap, inr, refl, not}
+use Rattle.std.proofs.Common.{◌∙◌, sym, ap, inr, refl, not}
 use Rattle.httparse.specs.Spans.{IsResponseOf, IsResponseWithin}
 use Rattle.dap_http.proofs.ReplyFeeds.{exceeds-feeds, may-become}
 use Rattle.dap_http.proofs.ReplyReading.{interim-is, no-head, no-room, told-reply}

@@ -1,4 +1,4 @@
-use Rattle.std.proofs.Common.{◌≡◌, ◌∙◌, sym, ap, cond, map, inl, inr}
+use Rattle.std.proofs.Common.{◌∙◌, sym, ap, cond, map, inl, inr}
 use Rattle.std.specs.Str.Parse.{digits_value}
 use Rattle.httparse.specs.Spans.{header_bytes}
 use Rattle.xdr_decode.specs.declared.bad.Bad.TheVariants as bad

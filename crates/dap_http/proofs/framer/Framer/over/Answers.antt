@@ -1,4 +1,4 @@
-use Rattle.std.proofs.Common.{◌≡◌, ◌∙◌, [], ap, refl, sym, List, ℕ, Option}
+use Rattle.std.proofs.Common.{◌≡◌, ◌∙◌, [], ap, refl, sym, List, ℕ}
 use Rattle.std.specs.Option.{option_map}
 use Rattle.dap_http.specs.Framings.{start_of}
 use Rattle.dap_http.specs.inner.Putting.{body_in, gained_by}

@@ -1,4 +1,4 @@
-use Rattle.std.proofs.Common.{◌≡◌, ◌++◌, ◌∷◌, [], List, ℕ, ap, sym, subst, length, take, arith, ◌∙◌}
+use Rattle.std.proofs.Common.{◌≡◌, List, ℕ, ap, sym, subst, length, arith, ◌∙◌}
 use Rattle.std.proofs.Math.Logic.{∥∥₁_map}
 use Rattle.std.proofs.lemmas.List.{length-take-le}
 use Rattle.dap_http.specs.inner.UnderWay.{InChunks, body_of, chunks_of, gained_of}

@@ -1,4 +1,4 @@
-use Rattle.std.proofs.Common.{◌≡◌, ◌∙◌, ap, drop, ◌++◌, List, ℕ}
+use Rattle.std.proofs.Common.{◌∙◌, ap, drop, ◌++◌, List, ℕ}
 use Rattle.dap_http.specs.Frames.{chunked}
 use Rattle.dap_http.specs.inner.Putting.{body_in, gained_by}
 use Rattle.dap_http.proofs.Ends.{all-done, err-done, ok-done}

@@ -1,4 +1,4 @@
-use Rattle.std.proofs.Common.{◌≡◌, ap, sym}
+use Rattle.std.proofs.Common.{ap, sym}
 use Rattle.dap_http.specs.Frames.{chunked}
 use Rattle.dap_http.specs.inner.Putting.{body_in, gained_by}
 use Rattle.dap_http.proofs.Ends.{err-behind, err-front, ok-behind, way-front}

@@ -1,5 +1,4 @@
-use Rattle.std.proofs.Common.{◌≡◌, ◌+◌, ◌-◌, ◌≤◌, ◌++◌, List, [], ℕ, Option, sym, subst, ap, append-nil, length, take, drop, arith, rules, length-drop, ◌∙◌}
-use Rattle.std.proofs.lemmas.Grind.{common_steps}
+use Rattle.std.proofs.Common.{◌≡◌, ◌+◌, ◌-◌, ◌≤◌, List, [], ℕ, Option, sym, subst, ap, append-nil, length, take, drop, arith, length-drop}
 use Rattle.std.proofs.Math.Logic.{∥∥₁_map}
 use Rattle.dap_http.specs.inner.UnderWay.{InChunks, body_of, chunks_of, gained_of}
 use Rattle.std.proofs.KnownBytes.{Appends-nil}

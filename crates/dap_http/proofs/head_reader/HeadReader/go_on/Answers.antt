@@ -1,6 +1,6 @@
-use Rattle.std.proofs.Common.{◌≡◌, ◌<◌, length, arith, ◌∙◌, ap, List, ℕ, ◌++◌, sym}
+use Rattle.std.proofs.Common.{length, arith, ◌∙◌, ap, ◌++◌, sym}
 use Rattle.dap_http.specs.Requests.{feeds}
-use Rattle.dap_http.proofs.HeadReading.{gone, no-request, none-still, none-within, too-long}
+use Rattle.dap_http.proofs.HeadReading.{gone, no-request, none-still, none-within}
 use Rattle.dap_http.proofs.head_reader.HeadReader.go_on.Goals as goal
 
 pub returns-then-len-ge-LONGEST-clause-found : goal.returns-then-len-ge-LONGEST-clause-found

@@ -1,6 +1,6 @@
 use Rattle.std.proofs.Common.{◌≡◌, ◌∙◌, sym, ap, subst, List, ℕ, ◌++◌, append_assoc}
 use Rattle.std.proofs.KnownBytes.{Consumes-trans}
-use Rattle.dap_http.specs.Reading.{Gives, kept_by}
+use Rattle.dap_http.specs.Reading.{kept_by}
 use Rattle.dap_http.specs.Requests.{FirstRequest}
 use Rattle.dap_http.proofs.HeadReading.{left-behind}
 use Rattle.dap_http.proofs.head_reader.HeadReader.read.Goals as goal

@@ -1,4 +1,4 @@
-use Rattle.std.proofs.Common.{◌≡◌, ◌∙◌, ap, sym, [], arith, refl, inl, inr, length, append-nil, ◌++◌}
+use Rattle.std.proofs.Common.{◌∙◌, ap, sym, [], arith, refl, inl, inr, length, append-nil}
 use Rattle.std.proofs.KnownBytes.{Consumes-nil}
 use Rattle.dap_http.specs.Requests.{feeds}
 use Rattle.dap_http.proofs.ReplyReading.{are-cut, cut-final, none-yet, past-more, too-long, too-long-final}

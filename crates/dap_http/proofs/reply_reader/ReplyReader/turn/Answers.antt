@@ -1,6 +1,5 @@
-use Rattle.std.proofs.Common.{◌≡◌, ◌∙◌, ap, sym, subst, [], ◌++◌, arith, refl, inl, inr, append-nil, List, ℕ, ◌+◌}
+use Rattle.std.proofs.Common.{sym, subst, [], ◌++◌, refl, inl, append-nil, List, ℕ, ◌+◌}
 use Rattle.std.proofs.KnownBytes.{Consumes-nil}
-use Rattle.dap_http.specs.Reading.{IsAnswered}
 use Rattle.dap_http.specs.inner.ReplyJudging.{IsPast}
 use Rattle.dap_http.proofs.ReplyReading.{answered-final, answers-final, gives-final, never-final, no-reply, past-head, same-final}
 use Rattle.dap_http.proofs.reply_reader.ReplyReader.turn.Goals as goal

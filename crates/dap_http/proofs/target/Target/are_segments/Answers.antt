@@ -1,4 +1,4 @@
-use Rattle.std.proofs.Common.{rules, tests, ℕ, eqb}
+use Rattle.std.proofs.Common.{rules, tests}
 use Rattle.std.proofs.lemmas.Iterator.Search.{all_from_yields_List}
 use Rattle.std.proofs.lemmas.Iterator.Splits.{YieldsList-from_slice_split}
 use Rattle.dap_http.specs.Targets.{is_segment, is_slash}

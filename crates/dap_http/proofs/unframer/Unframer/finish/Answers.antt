@@ -1,12 +1,12 @@
-use Rattle.std.proofs.Common.{◌≡◌, ℕ, true, false, arith, ap, sym, inl, inr, ◌∙◌, Ok, Err}
+use Rattle.std.proofs.Common.{◌≡◌, ℕ, arith, ap, sym, inr, ◌∙◌, Err}
 use Rattle.std.proofs.lemmas.Bool.{true≢false}
 use Rattle.xdr_decode.specs.declared.bad.BadField.{BadField as Wrong}
-use Rattle.xdr_decode.specs.declared.bad.Bad.TheVariants.{BadChunk, Cut}
+use Rattle.xdr_decode.specs.declared.bad.Bad.TheVariants.{Cut}
 use Rattle.dap_http.specs.inner.Tracking.{wrong_at}
 use Rattle.dap_http.specs.inner.Steps.{is_open}
 use Rattle.dap_http.specs.declared.chunk_step.At.TheVariants.{Done, Bad}
 use Rattle.dap_http.specs.declared.coding.Coding.TheVariants as coding
-use Rattle.dap_http.proofs.Answered.{counted-ends, counted-goes, finish-ends, finish-fails, finish-goes, none-stops}
+use Rattle.dap_http.proofs.Answered.{counted-ends, counted-goes, finish-ends, finish-fails, finish-goes}
 use Rattle.dap_http.proofs.unframer.Unframer.finish.Goals as goal
 
 abbrev cut_at : ℕ → Wrong

@@ -1,4 +1,4 @@
-use Rattle.std.proofs.Common.{arith, ◌≡◌, ◌<◌, ap, sym, ◌∙◌, true}
+use Rattle.std.proofs.Common.{arith, ◌<◌, ap, sym, ◌∙◌}
 use Rattle.std.proofs.lemmas.Bool.{ltb-true}
 use Rattle.dap_http.specs.inner.Steps.{is_number}
 use Rattle.dap_http.proofs.Lending.{lent-all, lent-some}

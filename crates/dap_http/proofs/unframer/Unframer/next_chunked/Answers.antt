@@ -1,4 +1,4 @@
-use Rattle.std.proofs.Common.{◌≡◌, ◌+◌, ◌-◌, length, take, drop, arith, ap, refl, ◌∙◌}
+use Rattle.std.proofs.Common.{◌≡◌, ◌+◌, ◌-◌, length, take, drop, arith, ap, refl}
 use Rattle.dap_http.proofs.Answered.{all-used, bad-lands, none-stops, part-lands, whole-piece}
 use Rattle.dap_http.proofs.unframer.Unframer.next_chunked.Goals as goal
 
