@@ -3,7 +3,6 @@ use Rattle.std.proofs.Common.{◌≡◌, ◌∙◌, ℕ, ◌<◌, ◌^◌, List,
 use Rattle.std.proofs.lemmas.List.Elements.{All-append, All-cons, All-nil}
 use Rattle.csv_source.proofs.Fitting.{fits, named}
 use Rattle.csv_source.specs.Dataset.{table_dataset, table_trees}
-use Rattle.csv_source.specs.Causes.{table_of}
 use Rattle.csv_source.specs.Table.{CsvTable}
 use Rattle.dap_model.proofs.Spelling.{xdr_spells}
 use Rattle.dap_model.specs.Body.{body}

@@ -3,3 +3,5 @@ pub mod Causes
 pub mod Pieces
 pub mod PlainNames
 pub mod Tables
+pub mod Whole
+pub mod Wide

@@ -1,5 +1,5 @@
 -- Pieces that are put one after the other.
-use Rattle.std.proofs.Common.{Bor, ◌≡◌, ℕ, ◌<◌, List, [], ◌++◌, length, take, drop, get_or, suc, Option, Result, OnOk, Ok, Err, codes, sym, ap, ◌∙◌, subst, append_assoc, drop-cons, take-append-drop}
+use Rattle.std.proofs.Common.{Bor, ◌≡◌, ℕ, ◌<◌, List, [], ◌++◌, length, take, drop, get_or, suc, Option, Result, OnOk, Ok, Err, codes, sym, ap, ◌∙◌, subst, append_assoc, append-nil, drop-cons, take-append-drop, IfSome, Some}
 use Rattle.std.proofs.lemmas.Grind.{flat_map-append}
 use Rattle.std.specs.Fmt.{decimal}
 use Rattle.std.specs.Io.KnownBytes.{Appends}
@@ -7,7 +7,7 @@ use Rattle.std.specs.List.{flat_map}
 use Rattle.dap_outside.proofs.Fronts.{front_more, front_of}
 use Rattle.dap_outside.specs.Causes.{HasCause, Rose}
 use Rattle.dap_outside.specs.Streams.{AppendsFront}
-use Rattle.dap2.specs.Lines.{bad_reply_line}
+use Rattle.dap2.specs.Lines.{IsSaid, bad_reply_line}
 use Rattle.xdr_decode.specs.Bads.{bad_name}
 use Rattle.xdr_decode.specs.declared.bad.BadField.{BadField}
 
@@ -42,3 +42,9 @@ pub whole_said : {T E : Type 0} (r : Result T E) (before now : ℕ) (old new : O
     → ¬ (Rose before now) → Appends old new line
 whole_said (Ok x) before now old new line ok cause quiet = ok
 whole_said (Err e) before now old new line ok cause quiet = absurd (quiet cause.failed)
+
+-- a line in one piece
+pub one-said : (o : Option (List ℕ)) (line bytes : List ℕ) (before now : ℕ) (old new : Option (List ℕ)) → Some line ≡ o → bytes ≡ line → IsSaid (bytes ++ []) before now old new
+    → IfSome o (λ l. IsSaid l before now old new)
+one-said o line bytes before now old new p q said =
+    subst (λ x. IfSome x (λ l. IsSaid l before now old new)) p (subst (λ l. IsSaid l before now old new) (append-nil bytes ∙ q) said)

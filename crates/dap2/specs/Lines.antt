@@ -21,11 +21,11 @@ number_of WriteFault = 8
 number_of Memory = 10
 number_of Unbuilt = 11
 
--- for standard error. Those of a damaged file and of a bad reply say what is wrong
+-- for standard error. Those of a refusal, of a damaged file and of a bad reply say what is wrong
 abbrev pub line_of : Status → Option (List ℕ)
 line_of Complete = None
 line_of Words = Some (codes "usage: dap2 answer TARGET | show\n")
-line_of Refused = Some (codes "dap2: refused: no such file\n")
+line_of Refused = None
 line_of Damaged = None
 line_of BadReply = None
 line_of ReadFault = Some (codes "dap2: read fault\n")
@@ -33,8 +33,15 @@ line_of WriteFault = Some (codes "dap2: write fault\n")
 line_of Memory = Some (codes "dap2: out of memory\n")
 line_of Unbuilt = Some (codes "dap2: not built\n")
 
+-- the line that begins so and says the message of a cause
+abbrev pub cause_line : List ℕ → List ℕ → List ℕ
+cause_line start message = start ++ (message ++ codes "\n")
+
+abbrev pub refused_line : List ℕ → List ℕ
+refused_line message = cause_line (codes "dap2: refused: ") message
+
 abbrev pub damaged_line : List ℕ → List ℕ
-damaged_line message = codes "dap2: damaged: " ++ message ++ codes "\n"
+damaged_line message = cause_line (codes "dap2: damaged: ") message
 
 abbrev pub bad_reply_line : BadField → List ℕ
 bad_reply_line bad = codes "dap2: bad reply: " ++ bad_name bad.kind ++ codes " at " ++ decimal bad.place ++ codes "\n"

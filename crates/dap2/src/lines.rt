@@ -3,7 +3,7 @@ ghost use Rattle.std.specs.Io.KnownBytes.{Appends};
 ghost use Rattle.std.specs.List.{flat_map};
 ghost use Rattle.dap_outside.specs.Causes.{HasCause};
 ghost use Rattle.dap_outside.specs.Streams.{AppendsFront};
-ghost use Rattle.dap2.specs.Lines.{IsSaid, bad_reply_line, damaged_line};
+ghost use Rattle.dap2.specs.Lines.{IsSaid, bad_reply_line, cause_line};
 
 use dap_outside::{Failed, Sink, put_all};
 use xdr_decode::BadField;
@@ -41,10 +41,10 @@ pub fn say_bad_reply<E: Sink>(err: &mut E, bad: BadField)
     say(err, &[b"dap2: bad reply: ", name, b" at ", place, b"\n"])
 }
 
-/// Says what is wrong with a damaged file, of which this is the message.
-pub fn say_damaged<E: Sink>(err: &mut E, message: &[u8])
-    ensures said { IsSaid (damaged_line message.now) (E.put_faults err.old) (E.put_faults err.new) (E.written err.old) (E.written err.new) }
+/// Says the message of a cause in a line that begins so.
+pub fn say_cause<E: Sink>(err: &mut E, start: &[u8], message: &[u8])
+    ensures said { IsSaid (cause_line start.now message.now) (E.put_faults err.old) (E.put_faults err.new) (E.written err.old) (E.written err.new) }
     ensures beside { E.beside_writing err.new ≡ E.beside_writing err.old }
 {
-    say(err, &[b"dap2: damaged: ", message, b"\n"])
+    say(err, &[start, message, b"\n"])
 }

@@ -5,6 +5,7 @@
 
 mod answer;
 mod command;
+mod file_body;
 mod folder_shelf;
 mod laws;
 mod lines;
@@ -13,6 +14,7 @@ mod run;
 mod show;
 mod status;
 mod std_streams;
+mod table_body;
 #[cfg(test)]
 mod tests;
 mod words;
@@ -24,6 +26,7 @@ use status::Status;
 use std::env;
 use std::process::ExitCode;
 use std::rt::Env;
+use std::thread::Threads;
 use std_streams::{StdSink, StdSource};
 
 /// The words after the program's name.
@@ -40,7 +43,7 @@ fn words_of<R: Env + AllocGlobal>(rt: &R) -> Result<List<Name>, Memory> {
 
 /// Does what the words after the program's name say, in the folder in which it was started and over
 /// the standard streams.
-fn status_of(rt: &HostRuntime) -> Status {
+fn status_of<T: Threads + Sync>(threads: &T, rt: &HostRuntime) -> Status {
     let Ok(words) = words_of(rt) else {
         return Status::Memory;
     };
@@ -49,6 +52,7 @@ fn status_of(rt: &HostRuntime) -> Status {
     let mut out = StdSink::new(rt.stdout());
     let mut err = StdSink::new(rt.stderr());
     run(
+        threads,
         rt.alloc(),
         words.items(),
         &mut shelf,
@@ -59,10 +63,10 @@ fn status_of(rt: &HostRuntime) -> Status {
 }
 
 /// What the program ends with.
-fn ended(rt: &HostRuntime) -> ExitCode {
-    status_of(rt).exit_code()
+fn ended<T: Threads + Sync>(threads: &T, rt: &HostRuntime) -> ExitCode {
+    status_of(threads, rt).exit_code()
 }
 
 fn main(rt: HostRuntime) -> ExitCode {
-    ended(&rt)
+    ended(&rt, &rt)
 }

@@ -3,9 +3,9 @@ ghost use Rattle.std.specs.Io.KnownBytes.{Appends, IsAtEnd};
 ghost use Rattle.dap_client.specs.Shows.{IsShownBy};
 ghost use Rattle.dap_outside.specs.Causes.{Rose};
 ghost use Rattle.dap_outside.specs.Streams.{AppendsFront};
-ghost use Rattle.dap_errors.specs.declared.cause.Cause.TheVariants as cause;
+ghost use Rattle.dap_errors.specs.declared.cause.Cause.{Cause};
 ghost use Rattle.dap_errors.specs.declared.file_cause.FileCause.{FileCause};
-ghost use Rattle.dap2.specs.Answer.{Answers, AnswersBody, Asks, IsDamaged, IsMissing, TellsDamage, error_object};
+ghost use Rattle.dap2.specs.Answer.{Answers, AnswersBody, Asks, IsDamaged, IsRefused, TellsDamage, TellsRefusal};
 ghost use Rattle.dap2.specs.Lines.{IsSaid, line_of};
 ghost use Rattle.dap2.specs.Show.{IsFor, IsRefusedBy, SaysBadReply, status_for};
 ghost use Rattle.dap2.specs.Words.{IsBuilt, IsCommand, IsShow};
@@ -19,9 +19,11 @@ use crate::status::Status;
 use dap_outside::{Shelf, Sink, Source};
 use dap_types::Name;
 use std::alloc::Global;
+use std::thread::Threads;
 
 /// Does what the words say.
-fn obey<S: Shelf, I: Source, O: Sink, E: Sink>(
+fn obey<R: Threads + Sync, S: Shelf, I: Source, O: Sink, E: Sink>(
+    rt: &R,
     alloc: Global,
     words: &[Name],
     shelf: &mut S,
@@ -32,7 +34,8 @@ fn obey<S: Shelf, I: Source, O: Sink, E: Sink>(
     ensures complete { result ≡ Status.Complete →
         Asks words.now (λ target. (text : List ℕ) × AnswersBody target (S.files shelf.old) text × Appends (O.written out.old) (O.written out.new) text)
         ⊎ IsShow words.now × IfSome (I.left input.old) (λ body. IsShownBy body (Appends (O.written out.old) (O.written out.new))) × IsAtEnd (I.left input.new) }
-    ensures refused { result ≡ Status.Refused → Asks words.now (λ target. IsMissing target (S.files shelf.old) × Appends (O.written out.old) (O.written out.new) (error_object cause.NoFile)) }
+    ensures refused { result ≡ Status.Refused → Asks words.now (λ target.
+        TellsRefusal target (S.files shelf.old) (O.written out.old) (O.written out.new) (E.put_faults err.old) (E.put_faults err.new) (E.written err.old) (E.written err.new)) }
     ensures damaged { result ≡ Status.Damaged → Asks words.now (λ target.
         TellsDamage target (S.files shelf.old) (O.written out.old) (O.written out.new) (E.put_faults err.old) (E.put_faults err.new) (E.written err.old) (E.written err.new)) }
     ensures unbuilt { result ≡ Status.Unbuilt →
@@ -59,11 +62,11 @@ fn obey<S: Shelf, I: Source, O: Sink, E: Sink>(
     ensures whole { I.whole input.new ≡ I.whole input.old }
     ensures beside_input { I.beside_reading input.new ≡ I.beside_reading input.old }
     ensures beside_out { O.beside_writing out.new ≡ O.beside_writing out.old }
-    ensures quiet { result ≢ Status.BadReply → result ≢ Status.Damaged → err.new ≡ err.old }
+    ensures quiet { result ≢ Status.BadReply → result ≢ Status.Refused → result ≢ Status.Damaged → err.new ≡ err.old }
     ensures beside_err { E.beside_writing err.new ≡ E.beside_writing err.old }
 {
     match command_of(words) {
-        Command::Answer(target) => answer(alloc, target, shelf, out, err),
+        Command::Answer(target) => answer(rt, alloc, target, shelf, out, err),
         Command::Show => show_input(alloc, input, out, err),
         Command::Other => Status::Words,
     }
@@ -73,7 +76,8 @@ fn obey<S: Shelf, I: Source, O: Sink, E: Sink>(
 /// shelf and puts its data response to `out`, or the Error object that says why there is none; `show`
 /// reads a data response from `input` and shows it on `out`. For each status but `Complete` a line
 /// goes to `err`.
-pub fn run<S: Shelf, I: Source, O: Sink, E: Sink>(
+pub fn run<R: Threads + Sync, S: Shelf, I: Source, O: Sink, E: Sink>(
+    rt: &R,
     alloc: Global,
     words: &[Name],
     shelf: &mut S,
@@ -84,7 +88,8 @@ pub fn run<S: Shelf, I: Source, O: Sink, E: Sink>(
     ensures complete { result ≡ Status.Complete →
         Asks words.now (λ target. (text : List ℕ) × AnswersBody target (S.files shelf.old) text × Appends (O.written out.old) (O.written out.new) text)
         ⊎ IsShow words.now × IfSome (I.left input.old) (λ body. IsShownBy body (Appends (O.written out.old) (O.written out.new))) × IsAtEnd (I.left input.new) }
-    ensures refused { result ≡ Status.Refused → Asks words.now (λ target. IsMissing target (S.files shelf.old) × Appends (O.written out.old) (O.written out.new) (error_object cause.NoFile)) }
+    ensures refused { result ≡ Status.Refused → Asks words.now (λ target.
+        TellsRefusal target (S.files shelf.old) (O.written out.old) (O.written out.new) (E.put_faults err.old) (E.put_faults err.new) (E.written err.old) (E.written err.new)) }
     ensures damaged { result ≡ Status.Damaged → Asks words.now (λ target.
         TellsDamage target (S.files shelf.old) (O.written out.old) (O.written out.new) (E.put_faults err.old) (E.put_faults err.new) (E.written err.old) (E.written err.new)) }
     ensures unbuilt { result ≡ Status.Unbuilt →
@@ -111,7 +116,7 @@ pub fn run<S: Shelf, I: Source, O: Sink, E: Sink>(
     ensures completes { IsSome (S.files shelf.old) → Asks words.now (λ target. (text : List ℕ) × AnswersBody target (S.files shelf.old) text)
         → ¬ (Rose (S.faults shelf.old) (S.faults shelf.new)) → ¬ (Rose (O.put_faults out.old) (O.put_faults out.new))
         → result ≢ Status.Memory → result ≡ Status.Complete }
-    ensures refuses { IsSome (S.files shelf.old) → Asks words.now (λ target. IsMissing target (S.files shelf.old))
+    ensures refuses { IsSome (S.files shelf.old) → Asks words.now (λ target. (reason : Cause) × IsRefused target (S.files shelf.old) reason)
         → ¬ (Rose (S.faults shelf.old) (S.faults shelf.new)) → ¬ (Rose (O.put_faults out.old) (O.put_faults out.new))
         → result ≢ Status.Memory → result ≡ Status.Refused }
     ensures damages { IsSome (S.files shelf.old) → Asks words.now (λ target. (reason : FileCause) × IsDamaged target (S.files shelf.old) reason)
@@ -132,7 +137,7 @@ pub fn run<S: Shelf, I: Source, O: Sink, E: Sink>(
     ensures silent { result ≡ Status.Complete → err.new ≡ err.old }
     ensures beside_err { E.beside_writing err.new ≡ E.beside_writing err.old }
 {
-    let status = obey(alloc, words, shelf, input, out, err);
+    let status = obey(rt, alloc, words, shelf, input, out, err);
     if let Some(line) = status.line() {
         say(err, &[line.as_bytes()]);
     }

@@ -11,7 +11,7 @@ pub enum Status {
     Complete,
     /// The words are no command.
     Words,
-    /// There is no such file.
+    /// There is no such file, or it is too large.
     Refused,
     /// The file has no dataset.
     Damaged,
@@ -52,15 +52,14 @@ impl Status {
         ExitCode::from(self.number())
     }
 
-    /// The line for standard error. There is none where the command is complete, and for a damaged
-    /// file and a bad reply, whose lines say what is wrong.
+    /// The line for standard error. There is none where the command is complete, and for a refusal, a
+    /// damaged file and a bad reply, whose lines say what is wrong.
     pub fn line(self) -> Option<&'static str>
         ensures { option_map (λ line. line.now) result ≡ line_of self }
     {
         match self {
-            Status::Complete | Status::Damaged | Status::BadReply => None,
+            Status::Complete | Status::Refused | Status::Damaged | Status::BadReply => None,
             Status::Words => Some("usage: dap2 answer TARGET | show\n"),
-            Status::Refused => Some("dap2: refused: no such file\n"),
             Status::ReadFault => Some("dap2: read fault\n"),
             Status::WriteFault => Some("dap2: write fault\n"),
             Status::Memory => Some("dap2: out of memory\n"),

@@ -12,6 +12,7 @@ use std::io::{self, ErrorKind, Read, Write};
 use std::os::unix::fs as unix;
 use std::process::ExitCode;
 use std::test::Fail;
+use std::thread::Threads;
 
 const BUOYS: &[u8] = b"station,depth:Int32\nA1,5\nB22,-7\n";
 
@@ -103,7 +104,12 @@ fn files(alloc: Global) -> Result<List<MemFile>, Memory> {
     Ok(files)
 }
 
-fn ran(alloc: Global, words: &[&str], outside: Outside<'_>) -> Result<Written, Memory> {
+fn ran<R: Threads + AllocGlobal + Sync>(
+    rt: &R,
+    words: &[&str],
+    outside: Outside<'_>,
+) -> Result<Written, Memory> {
+    let alloc = rt.alloc();
     let mut named = List::new(alloc);
     for word in words {
         named.push(Name::new(alloc, *word)?)?;
@@ -117,7 +123,7 @@ fn ran(alloc: Global, words: &[&str], outside: Outside<'_>) -> Result<Written, M
     let mut out = MemSink::new(alloc, outside.room, piece, out_fails)?;
     let mut err = MemSink::new(alloc, 100, 7, numbers(alloc, &[])?)?;
     let words = named.items();
-    let status = run(alloc, words, &mut shelf, &mut input, &mut out, &mut err);
+    let status = run(rt, alloc, words, &mut shelf, &mut input, &mut out, &mut err);
     Ok(Written {
         status,
         out: Bytes::new(alloc, out.bytes())?,
@@ -264,7 +270,7 @@ fn each_status_comes_from_its_cause(rt: HostRuntime) -> Result<(), Fail> {
         ),
     ];
     for (words, outside, status, out, err) in rows {
-        let found = ran(rt.alloc(), words, outside)?;
+        let found = ran(&rt, words, outside)?;
         assert_eq!(rt; found.status, status);
         assert_eq!(rt; found.out.bytes(), out);
         assert_eq!(rt; found.err.bytes(), err);
@@ -279,7 +285,7 @@ fn a_put_that_fails_leaves_a_front(rt: HostRuntime) -> Result<(), Fail> {
             out_fails: &[n],
             ..SURE
         };
-        let found = ran(rt.alloc(), &["answer", "buoys.csv.dods"], outside)?;
+        let found = ran(&rt, &["answer", "buoys.csv.dods"], outside)?;
         assert_eq!(rt; found.status, Status::WriteFault);
         assert_eq!(rt; found.out.bytes(), &BUOYS_BODY[..left]);
     }
@@ -287,7 +293,7 @@ fn a_put_that_fails_leaves_a_front(rt: HostRuntime) -> Result<(), Fail> {
         out_fails: &[4],
         ..SURE
     };
-    let found = ran(rt.alloc(), &["answer", "buoys.csv.dods"], last)?;
+    let found = ran(&rt, &["answer", "buoys.csv.dods"], last)?;
     assert_eq!(rt; found.status, Status::Complete);
     Ok(())
 }
@@ -336,7 +342,7 @@ fn a_data_response_is_shown(rt: HostRuntime) -> Result<(), Fail> {
     for (input, status, out, err) in rows {
         for take_piece in [1, 7, 1000] {
             let found = ran(
-                rt.alloc(),
+                &rt,
                 &["show"],
                 Outside {
                     input,
@@ -361,7 +367,7 @@ fn each_take_and_each_put_of_a_showing_may_fail(rt: HostRuntime) -> Result<(), F
     let mut all_read = false;
     for n in 1..100 {
         let take_fails: &[u64] = &[n];
-        let found = ran(rt.alloc(), &["show"], Outside { take_fails, ..sure })?;
+        let found = ran(&rt, &["show"], Outside { take_fails, ..sure })?;
         if found.status == Status::Complete {
             all_read = true;
             break;
@@ -373,7 +379,7 @@ fn each_take_and_each_put_of_a_showing_may_fail(rt: HostRuntime) -> Result<(), F
     let mut all_put = false;
     for n in 1..100 {
         let out_fails: &[u64] = &[n];
-        let found = ran(rt.alloc(), &["show"], Outside { out_fails, ..sure })?;
+        let found = ran(&rt, &["show"], Outside { out_fails, ..sure })?;
         if found.status == Status::Complete {
             all_put = true;
             break;
@@ -478,6 +484,7 @@ fn a_run_over_broken_streams_is_a_fault(rt: HostRuntime) -> Result<(), Fail> {
             }
         }
         let ended = run(
+            &rt,
             rt.alloc(),
             named.items(),
             &mut shelf,
@@ -493,6 +500,6 @@ fn a_run_over_broken_streams_is_a_fault(rt: HostRuntime) -> Result<(), Fail> {
 // The tests are started with no words, which are no command.
 #[test]
 fn the_program_ends_with_the_number_of_its_status(rt: HostRuntime) -> Result<(), Fail> {
-    assert_eq!(rt; crate::ended(&rt), ExitCode::from(2));
+    assert_eq!(rt; crate::ended(&rt, &rt), ExitCode::from(2));
     Ok(())
 }

@@ -1,4 +1,3 @@
-use Rattle.std.proofs.Common.{refl}
 use Rattle.dap_outside.proofs.Fronts.{either_front}
 use Rattle.dap2.proofs.Pieces.{whole_said}
 use Rattle.dap2.proofs.lines.say.Goals as goal
