@@ -15,7 +15,6 @@ pub mod CdfSending
 pub mod LeafSent
 pub mod Inside
 pub mod RowSteps
-pub mod TableBodies
 pub mod Masking
 pub mod Counting
 pub mod CdfCounting
