@@ -18,10 +18,14 @@ mod numbers;
 mod plans;
 mod put;
 mod refusal;
+#[cfg(test)]
+mod row_tests;
 mod scalar;
 mod stream;
 mod streamed;
 mod table_rows;
+#[cfg(test)]
+mod testing;
 mod texts;
 mod wanted;
 
