@@ -8,6 +8,8 @@ mod body;
 mod buffered;
 mod elements;
 mod fault;
+#[cfg(test)]
+mod fault_tests;
 mod fetch;
 mod kept;
 pub mod laws;

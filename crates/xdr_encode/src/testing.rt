@@ -26,6 +26,35 @@ pub fn file_of(alloc: Global, words: &[u32], behind: &[u8]) -> Result<Vec<u8>, M
     Ok(bytes)
 }
 
+/// The header of a file with one variable `v` of that type and of the first sizes.
+pub fn header_of(
+    alloc: Global,
+    rank: u32,
+    sizes: &[u32; 6],
+    external_type: u32,
+) -> Result<Vec<u8>, Memory>
+    requires { rank ≤ 6 }
+{
+    let mut words = Vec::new(alloc);
+    words.extend_from_slice(&[0x43444601, 0, 0x0a, rank])?;
+    for k in 0..rank {
+        words.extend_from_slice(&[1, 0x61000000 + k * 0x01000000, sizes[k as usize]])?;
+    }
+    words.extend_from_slice(&[0, 0, 0x0b, 1, 1, 0x76000000, rank])?;
+    for k in 0..rank {
+        words.push(k)?;
+    }
+    words.extend_from_slice(&[0, 0, external_type, 0, 64 + 16 * rank])?;
+    file_of(alloc, &words, b"")
+}
+
+/// Appends a byte so often.
+pub fn append_many(bytes: &mut Vec<u8>, many: usize, byte: u8) -> Result<(), Memory> {
+    let length = bytes.len().saturating_add(many);
+    bytes.resize(length, byte)?;
+    Ok(())
+}
+
 /// The file alone, under the name `f`.
 pub fn files_of(alloc: Global, bytes: &[u8]) -> Result<List<MemFile>, Memory> {
     let mut files = List::new(alloc);
