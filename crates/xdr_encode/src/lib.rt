@@ -23,6 +23,8 @@ mod refusal;
 #[cfg(test)]
 mod row_tests;
 mod scalar;
+#[cfg(test)]
+mod slab_tests;
 mod stream;
 mod streamed;
 mod table_rows;
