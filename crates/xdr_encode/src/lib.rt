@@ -6,6 +6,8 @@
 mod array;
 mod body;
 mod buffered;
+#[cfg(test)]
+mod climatology_tests;
 mod elements;
 mod fault;
 #[cfg(test)]
