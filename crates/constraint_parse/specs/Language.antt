@@ -10,6 +10,7 @@
 --   op         = "=" | "!=" | "<" | "<=" | ">" | ">=" | "=~"
 --   right      = value | "{" value ("," value)* "}"
 --   value      = quoted | word
+use Rattle.viable.specs.Characters.{byte}
 use Rattle.viable.specs.Quoted.{Piece, is_piece, spelling}
 use Rattle.viable.specs.Runs.{is_run}
 use Rattle.std.specs.Prelude.{◌≡◌, ℕ, Bool, true, ◌&&◌, ◌||◌, not, List, [], ◌∷◌, ◌++◌, ◌==◌, nat_lt, nat_le, IsTrue, codes}
@@ -17,22 +18,22 @@ use Rattle.std.specs.List.{flat_map, list_all, list_any}
 
 -- a tab or a space
 abbrev pub is_blank : ℕ → Bool
-is_blank b = b == 9 || b == 32
+is_blank b = b == byte "\t" || b == byte " "
 
 abbrev pub is_digit : ℕ → Bool
-is_digit b = nat_le 48 b && nat_le b 57
+is_digit b = nat_le (byte "0") b && nat_le b (byte "9")
 
 -- a byte of a name: no control byte, no blank and none of , & . [ ] { } ( ) < > = ! ~ " : ;
 abbrev pub is_name_byte : ℕ → Bool
-is_name_byte b = nat_lt 32 b && not (b == 127) && not (list_any (λ c. c == b) (codes ",&.[]{}()<>=!~\":;"))
+is_name_byte b = nat_lt (byte " ") b && not (b == 127) && not (list_any (λ c. c == b) (codes ",&.[]{}()<>=!~\":;"))
 
 -- a byte of an unquoted value
 abbrev pub is_word_byte : ℕ → Bool
-is_word_byte b = is_name_byte b || b == 46 || b == 58
+is_word_byte b = is_name_byte b || b == byte "." || b == byte ":"
 
 -- a byte between the parentheses of a call
 abbrev pub is_argument_byte : ℕ → Bool
-is_argument_byte b = not (b == 40 || b == 41)
+is_argument_byte b = not (b == byte "(" || b == byte ")")
 
 -- `=~` matches a regular expression
 pub data Operator : Type 0 where

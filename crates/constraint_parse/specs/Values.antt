@@ -1,5 +1,6 @@
 -- What the trees stand for.
 use Rattle.std.specs.Prelude.{◌≡◌, ℕ, ◌+◌, ◌-◌, ◌*◌, ◌^◌, pos, neg_ℤ, ◌&&◌, List, [], ◌∷◌, ◌++◌, map, ◌==◌, nat_lt, nat_le, if◌then◌else◌, Option, Some, None}
+use Rattle.viable.specs.Characters.{byte}
 use Rattle.viable.specs.Quoted.{quoted_value}
 use Rattle.dap_types.specs.Names.{constraint_id}
 use Rattle.constraint_parse.specs.Language.{Operator, equal, not_equal, less, less_equal, greater, greater_equal, matches, SlabTree, index, range, strided, StepTree, ItemTree, path, call, ValueTree, text, bare, ClauseTree, compare, among, call_clause, ItemsTree, no_items, some_items, ConstraintTree, is_digit, IsTextOf}
@@ -21,7 +22,7 @@ use Rattle.constraint_parse.specs.declared.constraint.Constraint.{Constraint}
 -- the number that digits stand for, behind the digits of a number
 abbrev pub decimal_from : ℕ → List ℕ → ℕ
 decimal_from n [] = n
-decimal_from n (digit ∷ digits) = decimal_from (n * 10 + (digit - 48)) digits
+decimal_from n (digit ∷ digits) = decimal_from (n * 10 + (digit - byte "0")) digits
 
 abbrev pub decimal : List ℕ → ℕ
 decimal digits = decimal_from 0 digits
@@ -38,8 +39,8 @@ negative_value digits = if nat_le (decimal digits) (2 ^ 127) then Small (neg_ℤ
 abbrev pub signed_value : List ℕ → Constant
 signed_value [] = constants.Other
 signed_value (sign ∷ digits) =
-    if sign == 43 && is_run is_digit digits then constants.Whole (number_value digits)
-    else if sign == 45 && is_run is_digit digits then constants.Whole (negative_value digits)
+    if sign == byte "+" && is_run is_digit digits then constants.Whole (number_value digits)
+    else if sign == byte "-" && is_run is_digit digits then constants.Whole (negative_value digits)
     else constants.Other
 
 abbrev pub word_value : List ℕ → Constant

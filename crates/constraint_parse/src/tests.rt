@@ -237,3 +237,71 @@ fn faults_are_placed(rt: HostRuntime) -> Result<(), Fail> {
     }
     Ok(())
 }
+
+/// The text between the ends, with so many copies of a part in the middle.
+fn repeated(alloc: Global, front: &[u8], part: &[u8], back: &[u8]) -> Result<Vec<u8>, AllocError> {
+    let mut text = Vec::new(alloc);
+    text.extend_from_slice(front)?;
+    for _ in 0..2000 {
+        text.extend_from_slice(part)?;
+    }
+    text.extend_from_slice(back)?;
+    Ok(text)
+}
+
+/// How many items and clauses a constraint has, and how many steps, slabs and values in them.
+fn counts(alloc: Global, text: &[u8]) -> Result<[usize; 5], ParseRefusal> {
+    let Constraint { items, clauses } = parse(alloc, text)?;
+    let mut steps = 0usize;
+    let mut slabs = 0usize;
+    for item in items.items() {
+        if let Item::Path(path) = item {
+            steps = steps.saturating_add(path.items().len());
+            for step in path.items() {
+                slabs = slabs.saturating_add(step.slabs.items().len());
+            }
+        }
+    }
+    let mut constants = 0usize;
+    for clause in clauses.items() {
+        if let Clause::Compare {
+            path,
+            op: _,
+            values,
+        } = clause
+        {
+            steps = steps.saturating_add(path.items().len());
+            constants = constants.saturating_add(values.items().len());
+        }
+    }
+    Ok([
+        items.items().len(),
+        clauses.items().len(),
+        steps,
+        slabs,
+        constants,
+    ])
+}
+
+// With ample memory no length of any part wants more.
+#[test]
+fn long_texts_are_read(rt: HostRuntime) -> Result<(), Fail> {
+    let table: [(&[u8], &[u8], &[u8], [usize; 5]); 8] = [
+        (b"v", b",s.v[0:1:9][3]", b"", [2001, 0, 4001, 4000, 0]),
+        (b"v", b"[0]", b"", [1, 0, 1, 2000, 0]),
+        (b"v", b".v", b"", [1, 0, 2001, 0, 0]),
+        (b"v", b"v", b"[7]", [1, 0, 1, 1, 0]),
+        (b"f(", b"v", b")", [1, 0, 0, 0, 0]),
+        (b"v", b"&s.v={1,\"x\",-2}", b"", [1, 2000, 4001, 0, 6000]),
+        (b"&v={1", b",1", b"}", [0, 1, 1, 0, 2001]),
+        (b"&v=\"", b"\\\"", b"\"", [0, 1, 1, 0, 1]),
+    ];
+    for (front, part, back, expected) in table {
+        let text = repeated(rt.alloc(), front, part, back)?;
+        let Ok(found) = counts(rt.alloc(), &text) else {
+            return Err(Fail::from("not read"));
+        };
+        assert_eq!(rt; found, expected);
+    }
+    Ok(())
+}

@@ -1,5 +1,5 @@
 -- The fields of the records of a file hold bytes, as the file does.
-use Rattle.std.proofs.Common.{◌≡◌, ◌<◌, ◌+◌, ℕ, zero, suc, Bool, true, false, List, [], ◌∷◌, ◌++◌, Some, None, length, All, refl, sym, subst}
+use Rattle.std.proofs.Common.{◌≡◌, ◌+◌, ℕ, zero, suc, Bool, true, false, List, [], ◌∷◌, ◌++◌, Some, None, length, All, refl, sym, subst}
 use Rattle.std.specs.Prelude.{Option, if◌then◌else◌}
 use Rattle.std.proofs.lemmas.List.Elements.{All-nil, All-cons, All-head, All-tail, All-append}
 use Rattle.csv.specs.Machine.{Read, ends_at_end, field_after, fields_after, is_end, next_record, step}
@@ -9,13 +9,8 @@ use Rattle.csv.specs.declared.parser.Action.TheVariants as act
 use Rattle.csv.specs.declared.parser.Config.{Config}
 use Rattle.csv.specs.declared.parser.State.{State}
 use Rattle.csv.specs.declared.parser.State.TheVariants as st
+use Rattle.file_names.proofs.Words.{IsByte, AreBytes}
 use Rattle.csv_source.specs.Csv.{csv_records}
-
-abbrev pub IsByte : ℕ → Type 0
-IsByte b = b < 256
-
-abbrev pub AreBytes : List ℕ → Type 0
-AreBytes bytes = All IsByte bytes
 
 -- each field does
 abbrev pub HoldBytes : List (List ℕ) → Type 0

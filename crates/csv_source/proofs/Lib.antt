@@ -20,3 +20,4 @@ mod TableNames
 mod Tabled
 mod Wholes
 mod Within
+pub mod Wide

@@ -1,85 +1,26 @@
 -- The names in the dataset of a table are words: a name that is not empty and of bytes is escaped by
 -- plain bytes, and each column has such a name.
-use Rattle.std.proofs.Common.{◌≡◌, ◌≢◌, ◌<◌, ◌+◌, ◌-◌, ◌^◌, ℕ, zero, suc, inl, inr, Bool, true, false, ◌&&◌, ◌==◌, eqb, ltb, IsTrue, List, [], ◌∷◌, ◌++◌, length, map, All, refl, sym, ap, subst, ◌∙◌, arith, length-append}
+use Rattle.std.proofs.Common.{◌≡◌, ◌≢◌, ◌<◌, ◌+◌, ◌-◌, ◌^◌, ℕ, Bool, true, false, ◌==◌, eqb, IsTrue, List, [], ◌∷◌, ◌++◌, length, map, All, refl, subst, arith}
 use Rattle.std.specs.Prelude.{not, codes, if◌then◌else◌}
 use Rattle.std.specs.Fmt.{decimal}
-use Rattle.std.specs.List.{list_all, flat_map, suffix_len}
-use Rattle.std.proofs.lemmas.Bool.{cases_lt}
+use Rattle.std.specs.List.{suffix_len}
 use Rattle.std.proofs.lemmas.Bool.Decides.{nat_tests}
 use Rattle.std.proofs.lemmas.Fmt.{IsAscii-decimal}
 use Rattle.std.proofs.lemmas.List.{get_or_default}
 use Rattle.std.proofs.lemmas.List.Elements.{All-nil, All-cons, All-head, All-tail, All-append, All-take, All-drop, All-from_recursion}
-use Rattle.std.proofs.lemmas.List.Folds.{list_all-append}
 use Rattle.dap_types.specs.Model.{scalar, sequence}
-use Rattle.dap_types.specs.Names.{escaped_byte, file_id}
 use Rattle.dap_types.specs.WellFormed.{Place, place, leaf_places}
 use Rattle.dap_types.specs.declared.declarations.BaseType.{BaseType}
 use Rattle.dap_model.specs.Grammar.{are_words}
-use Rattle.dap_model.specs.Tokens.{is_word, is_plain}
+use Rattle.dap_model.specs.Tokens.{is_word}
 use Rattle.file_names.specs.Names.{segment, dataset_name_byte}
+use Rattle.file_names.proofs.Words.{IsByte, AreBytes, IsName, dataset_spelled, file_word, word_name}
 use Rattle.csv_source.specs.Csv.{csv_records}
 use Rattle.csv_source.specs.Header.{all_types, column_name, column_of, columns_from, columns_of, type_mark, typed_by}
 use Rattle.csv_source.specs.Laws.{TableHasWords}
 use Rattle.csv_source.specs.Names.{has_suffix, before_suffix, without_suffix, sequence_name}
-use Rattle.csv_source.proofs.FieldBytes.{IsByte, AreBytes, HoldBytes, csv-bytes}
+use Rattle.csv_source.proofs.FieldBytes.{HoldBytes, csv-bytes}
 use Rattle.csv_source.proofs.Tabled.{of-file}
-
--- ---- bytes of words
-
-abbrev all_below : (ℕ → Bool) → ℕ → Bool
-all_below test zero = true
-all_below test (suc n) = test n && all_below test n
-
-both-are : (a b : Bool) → (a && b) ≡ true → (a ≡ true) × (b ≡ true)
-both-are true b e = (refl, e)
-both-are false b e = absurd cc
-
-are-both : (a b : Bool) → a ≡ true → b ≡ true → (a && b) ≡ true
-are-both true b e h = h
-are-both false b e h = absurd cc
-
-below : (test : ℕ → Bool) (n b : ℕ) → all_below test n ≡ true → b < n → test b ≡ true
-below test zero b all lt = absurd (omega arith)
-below test (suc n) b all lt =
-    let p = both-are (test n) (all_below test n) all in
-    elim (cases_lt b n) [
-      | inl less ↦ below test n b p.1 less
-      | inr more ↦ let same : n ≡ b = omega arith in ap test (sym same) ∙ p.0
-    ]
-
--- a name that is not empty and of bytes
-abbrev IsName : List ℕ → Type 0
-IsName name = (0 < length name) × AreBytes name
-
--- each byte becomes a word
-abbrev Spelled : (ℕ → List ℕ) → Type 0
-Spelled f = (b : ℕ) → b < 256 → is_word (f b) ≡ true
-
-escaped-spelled : Spelled escaped_byte
-escaped-spelled b lt = below (λ c. is_word (escaped_byte c)) 256 b refl lt
-
-dataset-spelled : Spelled dataset_name_byte
-dataset-spelled b lt = below (λ c. is_word (dataset_name_byte c)) 256 b refl lt
-
-word-length : (w : List ℕ) → is_word w ≡ true → 0 < length w
-word-length [] e = absurd cc
-word-length (b ∷ w) e = omega arith
-
-plain-name : (f : ℕ → List ℕ) (name : List ℕ) → Spelled f → AreBytes name → list_all is_plain (flat_map f name) ≡ true
-plain-name f [] spelled bytes = refl
-plain-name f (b ∷ name) spelled bytes =
-    list_all-append is_plain (f b) (flat_map f name)
-    ∙ are-both (list_all is_plain (f b)) (list_all is_plain (flat_map f name)) (both-are (ltb 0 (length (f b))) (list_all is_plain (f b)) (spelled b (All-head IsByte b name bytes))).1 (plain-name f name spelled (All-tail IsByte b name bytes))
-
-word-name : (f : ℕ → List ℕ) (name : List ℕ) → Spelled f → IsName name → is_word (flat_map f name) ≡ true
-word-name f [] spelled is = absurd (omega (arith, is.0))
-word-name f (b ∷ name) spelled is =
-    let some : 0 < length (f b) = word-length (f b) (spelled b (All-head IsByte b name is.1)) in
-    let long : 0 < length (f b ++ flat_map f name) = omega (arith, length-append (f b) (flat_map f name)) in
-    are-both (ltb 0 (length (f b ++ flat_map f name))) (list_all is_plain (f b ++ flat_map f name)) (grind (arith, nat_tests, long)) (plain-name f (b ∷ name) spelled is.1)
-
-file-word : (name : List ℕ) → IsName name → is_word (file_id name) ≡ true
-file-word name is = word-name escaped_byte name escaped-spelled is
 
 -- ---- names of columns
 
@@ -110,7 +51,7 @@ column-word : (number : ℕ) (field : List ℕ) → number < 2 ^ 64 → AreBytes
 unfolding column_of
 column-word number field lt bytes =
     let name : List ℕ = (typed_by all_types field).0 in
-    file-word (column_name number name) (named number name lt (typed-bytes all_types field bytes))
+    file_word (column_name number name) (named number name lt (typed-bytes all_types field bytes))
 
 abbrev OfWords : Place → Type 0
 OfWords p = IsTrue (are_words p.variable)
@@ -155,9 +96,9 @@ table-has-words file_name bytes t name_bytes file_bytes some is =
     let of_last : AreBytes last = segment-bytes file_name name_bytes in
     let places = leaf_places 2 [] (map scalar (columns_of of.header)) in
     let columns : All OfWords places = columns-words 1 [] of.header (omega (arith, of.few)) header in
-    let own_name : IsTrue (is_word (sequence_name file_name)) = file-word front (some-length front some, without-bytes (codes ".csv") last of_last) in
+    let own_name : IsTrue (is_word (sequence_name file_name)) = file_word front (some-length front some, without-bytes (codes ".csv") last of_last) in
     rw of.is_table (record {
-      own = word-name dataset_name_byte last dataset-spelled (some-name last some, of_last);
+      own = word_name dataset_name_byte last dataset_spelled (some-name last some, of_last);
       inside = All-cons OfWords (place 1 [] (sequence (sequence_name file_name) (columns_of of.header))) (places ++ []) own_name
           (All-append OfWords places [] columns (All-nil OfWords));
     })

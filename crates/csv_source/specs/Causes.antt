@@ -3,6 +3,7 @@
 use Rattle.std.specs.Prelude.{ℕ, ◌+◌, Bool, List, [], ◌∷◌, ◌==◌, nat_lt, length, map, if◌then◌else◌, Option, Some, None, option_map, Result, Ok, Err}
 use Rattle.std.specs.Cmp.Lexicographic.{pointwise}
 use Rattle.std.specs.Option.{option_or}
+use Rattle.dap_types.specs.Limits.{most_columns, most_table}
 use Rattle.dap_types.specs.declared.declarations.Column.{Column}
 use Rattle.dap_types.specs.declared.values.Value.{Value}
 use Rattle.csv_source.specs.Cells.{is_cell, cell_value}
@@ -50,8 +51,8 @@ unfoldable pub table_of_records : List ℕ → List (List (List ℕ)) → Result
 table_of_records file_name [] = Err NoHeader
 table_of_records file_name (header ∷ rows) =
     let columns : List Column = columns_of header in
-    if nat_lt 1024 (length header) then Err TooWide else ok_unless (table_cause columns rows) (table file_name columns (map (row_values columns) rows))
+    if nat_lt most_columns (length header) then Err TooWide else ok_unless (table_cause columns rows) (table file_name columns (map (row_values columns) rows))
 
 -- the table of a file of at most 67,108,864 bytes, or its first cause
 unfoldable pub table_of : List ℕ → List ℕ → Result CsvTable TableRefusal
-table_of file_name bytes = if nat_lt 67108864 (length bytes) then Err TooLong else table_of_records file_name (csv_records bytes)
+table_of file_name bytes = if nat_lt most_table (length bytes) then Err TooLong else table_of_records file_name (csv_records bytes)

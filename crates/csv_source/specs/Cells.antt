@@ -9,16 +9,17 @@ use Rattle.dap_types.specs.declared.declarations.BaseType.{BaseType}
 use Rattle.dap_types.specs.declared.declarations.BaseType.TheVariants.{Byte, Int16, UInt16, Int32, UInt32, Float32, Float64, Text, Url}
 use Rattle.dap_types.specs.declared.values.Value.{Value}
 use Rattle.dap_types.specs.declared.values.Value.TheVariants as values
+use Rattle.viable.specs.Characters.{byte}
 use Rattle.viable.specs.Runs.{is_run}
 
 -- without the spaces in front, and without those behind
 unfoldable pub without_front_spaces : List ℕ → List ℕ
 without_front_spaces [] = []
-without_front_spaces (b ∷ bytes) = if b == 32 then without_front_spaces bytes else b ∷ bytes
+without_front_spaces (b ∷ bytes) = if b == byte " " then without_front_spaces bytes else b ∷ bytes
 
 unfoldable pub without_end_spaces : List ℕ → List ℕ
 without_end_spaces [] = []
-without_end_spaces (b ∷ bytes) = if b == 32 && length (without_end_spaces bytes) == 0 then [] else b ∷ without_end_spaces bytes
+without_end_spaces (b ∷ bytes) = if b == byte " " && length (without_end_spaces bytes) == 0 then [] else b ∷ without_end_spaces bytes
 
 -- a cell of whole numbers may have spaces at both ends
 abbrev pub trimmed : List ℕ → List ℕ

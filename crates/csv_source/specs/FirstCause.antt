@@ -3,6 +3,7 @@
 use Rattle.std.specs.Prelude.{◌≡◌, ◌≢◌, ◌≤◌, ◌<◌, ◌+◌, ℕ, true, false, List, [], ◌∷◌, ◌++◌, length, map, take, Some, slice_get}
 use Rattle.std.specs.List.{IsDistinct, list_all, list_any}
 use Rattle.std.specs.Str.{bytes_eq}
+use Rattle.dap_types.specs.Limits.{most_columns, most_table}
 use Rattle.dap_types.specs.declared.declarations.Column.{Column}
 use Rattle.csv_source.specs.Causes.{is_row, row_values}
 use Rattle.csv_source.specs.Cells.{is_cell}
@@ -14,7 +15,7 @@ use Rattle.csv_source.specs.declared.refusal.TableRefusal.TheVariants.{TooLong, 
 
 -- the file is not too long, and its records are a header and these behind it
 pub record Begins (bytes : List ℕ) (header : List (List ℕ)) (rows : List (List (List ℕ))) : Type 0 where
-  pub short : length bytes ≤ 67108864
+  pub short : length bytes ≤ most_table
   pub parts : csv_records bytes ≡ header ∷ rows
 
 abbrev pub names : List Column → List (List ℕ)
@@ -22,7 +23,7 @@ names columns = map (λ c. c.name) columns
 
 -- a header of at most 1,024 columns whose names differ
 pub record IsHeader (header : List (List ℕ)) : Type 0 where
-  pub few : length header ≤ 1024
+  pub few : length header ≤ most_columns
   pub differ : IsDistinct bytes_eq (names (columns_of header))
 
 -- this column has the name of one before it, and the names of those differ
@@ -67,10 +68,10 @@ pub record IsFirstBadRow (columns : List Column) (rows : List (List (List ℕ)))
 
 -- this is wrong first
 abbrev pub IsFirstCause : List ℕ → TableRefusal → Type 0
-IsFirstCause bytes TooLong = 67108864 < length bytes
-IsFirstCause bytes NoHeader = (length bytes ≤ 67108864) × (csv_records bytes ≡ [])
-IsFirstCause bytes TooWide = (header : List (List ℕ)) × (rows : List (List (List ℕ))) × Begins bytes header rows × (1024 < length header)
-IsFirstCause bytes (RepeatedColumn number) = (header : List (List ℕ)) × (rows : List (List (List ℕ))) × Begins bytes header rows × (length header ≤ 1024) × IsFirstRepeat (columns_of header) number
+IsFirstCause bytes TooLong = most_table < length bytes
+IsFirstCause bytes NoHeader = (length bytes ≤ most_table) × (csv_records bytes ≡ [])
+IsFirstCause bytes TooWide = (header : List (List ℕ)) × (rows : List (List (List ℕ))) × Begins bytes header rows × (most_columns < length header)
+IsFirstCause bytes (RepeatedColumn number) = (header : List (List ℕ)) × (rows : List (List (List ℕ))) × Begins bytes header rows × (length header ≤ most_columns) × IsFirstRepeat (columns_of header) number
 IsFirstCause bytes (Ragged row) = (header : List (List ℕ)) × (rows : List (List (List ℕ))) × Begins bytes header rows × IsHeader header × IsFirstBadRow (columns_of header) rows (Ragged row)
 IsFirstCause bytes (BadCell row number) = (header : List (List ℕ)) × (rows : List (List (List ℕ))) × Begins bytes header rows × IsHeader header × IsFirstBadRow (columns_of header) rows (BadCell row number)
 IsFirstCause bytes Memory = ⊥

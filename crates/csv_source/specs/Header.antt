@@ -12,7 +12,7 @@ use Rattle.csv_source.specs.Names.{has_suffix, before_suffix}
 
 -- `:` and the word for a type
 abbrev pub type_mark : BaseType → List ℕ
-type_mark base = 58 ∷ type_word base
+type_mark base = codes ":" ++ type_word base
 
 -- the name and the type of a field that ends with the mark of one of these types, else of a String
 unfoldable pub typed_by : List BaseType → List ℕ → List ℕ × BaseType

@@ -4,11 +4,12 @@ use Rattle.std.specs.List.{list_any}
 use Rattle.dap_model.specs.Dds.{type_word}
 use Rattle.dap_types.specs.declared.declarations.BaseType.{BaseType}
 use Rattle.dap_types.specs.declared.declarations.BaseType.TheVariants.{Text}
+use Rattle.viable.specs.Characters.{byte}
 
 -- these bytes stand before the last `:` of the field, and these behind it
 pub record SplitsAtLastColon (field before behind : List ℕ) : Type 0 where
-  pub parts : field ≡ before ++ 58 ∷ behind
-  pub last : list_any (λ b. b == 58) behind ≡ false
+  pub parts : field ≡ before ++ byte ":" ∷ behind
+  pub last : list_any (λ b. b == byte ":") behind ≡ false
 
 -- behind it stands the word for this type, as it is printed
 abbrev pub HasTypeWord : List ℕ → List ℕ → BaseType → Type 0

@@ -4,4 +4,3 @@ pub mod Pieces
 pub mod PlainNames
 pub mod Tables
 pub mod Whole
-pub mod Wide

@@ -16,7 +16,7 @@ use Rattle.dap_types.specs.declared.declarations.Column.{Column}
 use Rattle.dap_types.specs.declared.slabs.Slab.{Slab}
 use Rattle.grid_projection.specs.Marks.{marks_of_items, whole}
 use Rattle.xdr_encode.specs.Masks.{all_rows, kept_table, masked}
-use Rattle.dap2.proofs.Wide.{has-column}
+use Rattle.csv_source.proofs.Wide.{has-column}
 
 -- ---- the mask
 

@@ -7,6 +7,9 @@ use std::io::{ErrorKind, Read, Seek, SeekFrom};
 use std::rt::Files;
 use std::{fs, io};
 
+#[cfg(test)]
+mod tests;
+
 /// An open file of a folder, and how many bytes it had when it was opened.
 #[derive(Drop)]
 pub struct Opened<F> {

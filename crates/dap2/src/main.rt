@@ -24,6 +24,7 @@ use folder_shelf::FolderShelf;
 use run::run;
 use status::Status;
 use std::env;
+use std::io::{Stderr, Stdin, Stdout};
 use std::process::ExitCode;
 use std::rt::Env;
 use std::thread::Threads;
@@ -48,9 +49,9 @@ fn status_of<T: Threads + Sync>(threads: &T, rt: &HostRuntime) -> Status {
         return Status::Memory;
     };
     let mut shelf = FolderShelf::new(rt);
-    let mut input = StdSource::new(rt.stdin());
-    let mut out = StdSink::new(rt.stdout());
-    let mut err = StdSink::new(rt.stderr());
+    let mut input: StdSource<Stdin> = StdSource::new(rt.stdin());
+    let mut out: StdSink<Stdout> = StdSink::new(rt.stdout());
+    let mut err: StdSink<Stderr> = StdSink::new(rt.stderr());
     run(
         threads,
         rt.alloc(),

@@ -9,6 +9,7 @@ use Rattle.std.specs.Prelude.{◌≡◌, ℕ, ℤ, pos, neg_ℤ, Bool, false, Li
 use Rattle.std.specs.List.{flat_map}
 use Rattle.std.specs.Str.{str_eq_ignore_ascii_case}
 use Rattle.std.specs.Str.Parse.{digits_value}
+use Rattle.viable.specs.Characters.{byte}
 use Rattle.viable.specs.Quoted.{Piece, quoted_value}
 use Rattle.viable.specs.Numerals.{is_numeral}
 use Rattle.text_tokens.specs.Tokens.{Token, sign, word, quoted}
@@ -30,10 +31,10 @@ value_token (bare bytes) = word bytes
 value_token (text pieces) = quoted pieces
 
 abbrev pub field_tokens : Field → List Token
-field_tokens f = word f.label ∷ sign 61 ∷ value_token f.value ∷ sign 59 ∷ []
+field_tokens f = word f.label ∷ sign (byte "=") ∷ value_token f.value ∷ sign (byte ";") ∷ []
 
 abbrev pub object_tokens : List ℕ → List Field → List Token
-object_tokens name fields = word name ∷ sign 123 ∷ (flat_map field_tokens fields ++ sign 125 ∷ [])
+object_tokens name fields = word name ∷ sign (byte "{") ∷ (flat_map field_tokens fields ++ sign (byte "}") ∷ [])
 
 unfoldable pub is_error_word : List ℕ → Bool
 is_error_word w = str_eq_ignore_ascii_case (codes "error") w
@@ -51,12 +52,12 @@ values test (f ∷ fields) = if test f.label then f.value ∷ values test fields
 
 abbrev pub has_minus : List ℕ → Bool
 has_minus [] = false
-has_minus (b ∷ bytes) = b == 45
+has_minus (b ∷ bytes) = b == byte "-"
 
 -- a word without the minus that it may begin with
 abbrev pub unsigned : List ℕ → List ℕ
 unsigned [] = []
-unsigned (b ∷ bytes) = if b == 45 then bytes else b ∷ bytes
+unsigned (b ∷ bytes) = if b == byte "-" then bytes else b ∷ bytes
 
 abbrev pub is_code_word : List ℕ → Bool
 is_code_word w = is_numeral 9 (unsigned w)

@@ -6,9 +6,11 @@ use Rattle.text_tokens.specs.Languages.{SpellsTo, BadToken, Breaks}
 use Rattle.text_tokens.specs.Tokens.{is_white}
 use Rattle.dap_errors.specs.Object.{signs, IsObject}
 use Rattle.dap_errors.specs.declared.object.ErrorObject.{ErrorObject}
+use Rattle.dap_types.specs.Limits.{most_error}
+use Rattle.viable.specs.Characters.{byte}
 
 abbrev pub limit : ℕ
-limit = 65536
+limit = most_error
 
 abbrev pub front : List ℕ → List ℕ
 front text = take limit text
@@ -17,13 +19,13 @@ front text = take limit text
 abbrev pub IsEnd : List ℕ → Type 0
 IsEnd bytes =
     IsTrue (list_all is_white bytes)
-    ⊎ ((before after : List ℕ) × IsTrue (list_all is_white before) × IsTrue (list_all is_white after) × (bytes ≡ before ++ 59 ∷ after))
+    ⊎ ((before after : List ℕ) × IsTrue (list_all is_white before) × IsTrue (list_all is_white after) × (bytes ≡ before ++ byte ";" ∷ after))
 
 -- behind the object: the first byte that may not stand there comes behind so many others
 abbrev pub IsStray : List ℕ → ℕ → Type 0
 IsStray bytes n = (trail rest : List ℕ) × (b : ℕ) × (bytes ≡ trail ++ b ∷ rest) × (n ≡ length trail) × IsTrue (not (is_white b))
-    × ((IsTrue (list_all is_white trail) × (b ≢ 59))
-    ⊎ ((before after : List ℕ) × IsTrue (list_all is_white before) × IsTrue (list_all is_white after) × (trail ≡ before ++ 59 ∷ after)))
+    × ((IsTrue (list_all is_white trail) × (b ≢ byte ";"))
+    ⊎ ((before after : List ℕ) × IsTrue (list_all is_white before) × IsTrue (list_all is_white after) × (trail ≡ before ++ byte ";" ∷ after)))
 
 -- an object of this code and message ends at a place
 abbrev pub EndsAt : List ℕ → ℕ → ErrorObject → Type 0

@@ -1,18 +1,20 @@
 -- Heads in buffers that grow.
-use Rattle.std.proofs.Common.{◌≡◌, ℕ, ◌+◌, ◌<◌, ◌≤◌, List, [], ◌∷◌, ◌++◌, length, take, drop, map, Some, None, Option, refl, sym, ap, ◌∙◌, subst, arith, append-nil, length-append}
+use Rattle.std.specs.Prelude.{Bool, codes}
+use Rattle.std.specs.Str.{bytes_eq}
+use Rattle.std.proofs.Common.{◌≡◌, ℕ, ◌+◌, ◌<◌, ◌≤◌, List, [], ◌∷◌, ◌++◌, length, take, drop, map, Some, None, Option, refl, sym, ap, ◌∙◌, subst, arith, append_assoc, append-nil, length-append, ◌⊎◌, inl, inr}
 use Rattle.std.proofs.lemmas.List.{length-map, length-take, take-append-le, take-append-drop}
 use Rattle.std.proofs.Math.Seq.{take-append_seam}
 use Rattle.std.specs.Io.KnownBytes.{Consumes}
-use Rattle.httparse.specs.Grammar.{HasNoRequest, NeverHasRequest, RequestHead, print_request}
+use Rattle.httparse.specs.Grammar.{HasNoRequest, NeverHasRequest, ReadsRequest, RequestHead, print_request}
 use Rattle.httparse.specs.Spans.{IsRequestOf, IsRequestWithin, RequestOverflows, header_bytes, name_and_value, span_bytes}
 use Rattle.httparse.specs.declared.spans.HeaderSpan.{HeaderSpan}
 use Rattle.httparse.specs.declared.spans.RequestSpans.{RequestSpans}
 use Rattle.dap_http.specs.Reading.{IsHead}
 use Rattle.dap_http.specs.declared.head_reader.Head.{Head}
 use Rattle.dap_http.specs.inner.Judging.{IsJudged}
-use Rattle.dap_http.specs.declared.head_judge.Judged.TheVariants.{Bad, Partial, Whole}
+use Rattle.dap_http.specs.declared.head_judge.Judged.TheVariants.{Bad, Memory as Wanted, Partial, Whole}
 use Rattle.dap_http.specs.Requests.{FirstRequest, HasNoHead, HasNoRequest as HasNoFirst, NeverHasHead, ReadsHead, IsBadRequest, IsTooLong, IsGone, ends_by, ends_itself, feeds}
-use Rattle.dap_http.proofs.Feeds.{no-feed, request-feed}
+use Rattle.dap_http.proofs.Feeds.{feeds-append, no-feed, request-feed}
 
 pub no-head : (bytes : List ℕ) → HasNoRequest bytes → HasNoHead bytes
 no-head bytes none head rest reads = none head rest reads.0
@@ -98,8 +100,27 @@ first-request bytes kept h len (fits, (tree, reads, told)) is few =
     let whole = append-nil bytes in
     (tree, (subst (λ (b : List ℕ). ReadsHead b tree kept) (sym whole) (subst (ReadsHead bytes tree) (sym is) reads), omega (arith, few, ap length whole)), told)
 
+-- and so it is where memory is wanted for it
+pub wanted-request : (bytes : List ℕ) (is_head : Bool) → IsJudged bytes (Wanted is_head) → length bytes ≤ 16384
+    → ((tree : RequestHead) × (rest : List ℕ) × FirstRequest (bytes ++ []) tree rest × (is_head ≡ bytes_eq tree.method (codes "HEAD"))) × (bytes ≡ bytes ++ [])
+wanted-request bytes is_head (tree, rest, reads, is) few =
+    let whole = append-nil bytes in
+    ((tree, rest, (subst (λ (b : List ℕ). ReadsHead b tree rest) (sym whole) reads, omega (arith, few, ap length whole)), is), sym whole)
+
 pub bad-request : (bytes : List ℕ) → IsJudged bytes Bad → IsBadRequest (bytes ++ []) × (bytes ≡ bytes ++ [])
 bad-request bytes (never, why) = (subst IsBadRequest (sym (append-nil bytes)) (record { never = never; why = why }), sym (append-nil bytes))
+
+-- what is refused stays so
+never-still : (bytes more : List ℕ) → NeverHasHead bytes → NeverHasHead (bytes ++ more)
+never-still bytes more never behind head rest reads =
+    never (more ++ behind) head rest (subst (λ (b : List ℕ). ReadsHead b head rest) (append_assoc bytes more behind) reads)
+
+pub bad-still : (bytes more : List ℕ) → IsBadRequest bytes → IsBadRequest (bytes ++ more)
+bad-still bytes more bad = record { never = never-still bytes more bad.never; why = go bad.why } where
+  go : NeverHasRequest bytes ⊎ ((66 ≤ feeds bytes) × HasNoHead bytes) → NeverHasRequest (bytes ++ more) ⊎ ((66 ≤ feeds (bytes ++ more)) × HasNoHead (bytes ++ more))
+  go (inl never) = inl (λ behind head rest reads.
+      never (more ++ behind) head rest (subst (λ (b : List ℕ). ReadsRequest b head rest) (append_assoc bytes more behind) reads))
+  go (inr (many, none)) = inr (omega (arith, many, feeds-append bytes more), bad.never more)
 
 -- what is too long stays so
 pub too-long-still : (bytes more rest : List ℕ) (head : RequestHead) → IsTooLong bytes → FirstRequest (bytes ++ more) head rest → ⊥
@@ -108,3 +129,7 @@ too-long-still bytes more rest head long (reads, le) =
     let whole : length (bytes ++ more) ≡ length (print_request head ++ rest) = ap length reads.0.1 in
     let part : length bytes ≡ length (print_request head ++ left) = ap length within.0.1 in
     long.none head left (within, omega (arith, le, whole, part, length-append (print_request head) rest, length-append (print_request head) left))
+
+pub long-still : (bytes more : List ℕ) → IsTooLong bytes → IsTooLong (bytes ++ more)
+long-still bytes more long =
+    record { many = omega (arith, long.many, length-append bytes more); none = λ head rest first. too-long-still bytes more rest head long first }

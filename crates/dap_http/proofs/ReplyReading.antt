@@ -50,7 +50,7 @@ told-reply bytes headers spans room within (head, at) =
 
 -- ---- heads of status 100 to 199
 
-reads-append : (bytes rest more : List ℕ) (head : ResponseHead) → ReadsReply bytes head rest → ReadsReply (bytes ++ more) head (rest ++ more)
+pub reads-append : (bytes rest more : List ℕ) (head : ResponseHead) → ReadsReply bytes head rest → ReadsReply (bytes ++ more) head (rest ++ more)
 reads-append bytes rest more head (reads, few) = (ReadsResponse-append bytes head rest more reads, few)
 
 interim-push : (hs : List ResponseHead) (bytes rest behind : List ℕ) (head : ResponseHead) → Interim hs bytes rest → ReadsReply rest head behind → IsTrue (is_interim head)
@@ -59,7 +59,7 @@ interim-push [] bytes rest behind head e reads is = (head ∷ [], (behind, subst
 interim-push (h ∷ hs) bytes rest behind head (b, r, i, more) reads is =
     let (all, m) = interim-push hs b rest behind head more reads is in (h ∷ all, (b, r, i, m))
 
-interim-append : (hs : List ResponseHead) (bytes rest more : List ℕ) → Interim hs bytes rest → Interim hs (bytes ++ more) (rest ++ more)
+pub interim-append : (hs : List ResponseHead) (bytes rest more : List ℕ) → Interim hs bytes rest → Interim hs (bytes ++ more) (rest ++ more)
 interim-append [] bytes rest more e = ap (λ t. t ++ more) e
 interim-append (h ∷ hs) bytes rest more (b, r, i, m) = (b ++ more, reads-append bytes b more h r, i, interim-append hs b rest more m)
 
@@ -78,17 +78,17 @@ past-more bytes x at past =
     let grown : Interim hs (bytes ++ x) (drop at bytes ++ x) = interim-append hs bytes (drop at bytes) x before in
     record { within = omega (arith, past.within, length-append bytes x); heads = (hs, subst (Interim hs (bytes ++ x)) (sym (drop-append-le at bytes x past.within)) grown) }
 
-reads-same : (bytes r q : List ℕ) (h k : ResponseHead) → ReadsReply bytes h r → ReadsReply bytes k q → (h ≡ k) × (r ≡ q)
+pub reads-same : (bytes r q : List ℕ) (h k : ResponseHead) → ReadsReply bytes h r → ReadsReply bytes k q → (h ≡ k) × (r ≡ q)
 reads-same bytes r q h k x y = response_unique bytes h k r q x.0 y.0
 
-clash : (h k : ResponseHead) → h ≡ k → IsTrue (is_interim h) → IsTrue (not (is_interim k)) → ⊥
+pub clash : (h k : ResponseHead) → h ≡ k → IsTrue (is_interim h) → IsTrue (not (is_interim k)) → ⊥
 clash h k e is final_one = go (is_interim k) (subst (λ (x : ResponseHead). IsTrue (is_interim x)) e is) final_one where
   go : (b : Bool) → IsTrue b → IsTrue (not b) → ⊥
   go true p q = false≢true q
   go false p q = false≢true p
 
 -- behind interim heads stands the same final one
-final-behind : (hs : List ResponseHead) (bytes behind rest : List ℕ) (head : ResponseHead) → Interim hs bytes behind → HasFinal bytes head rest → HasFinal behind head rest
+pub final-behind : (hs : List ResponseHead) (bytes behind rest : List ℕ) (head : ResponseHead) → Interim hs bytes behind → HasFinal bytes head rest → HasFinal behind head rest
 final-behind [] bytes behind rest head e f = subst (λ (b : List ℕ). HasFinal b head rest) e f
 final-behind (h ∷ hs) bytes behind rest head (b, r, i, more) f = final-behind hs b behind rest head more (go f.before f.interim) where
   go : (ks : List ResponseHead) → Interim ks bytes f.behind → HasFinal b head rest
@@ -96,22 +96,22 @@ final-behind (h ∷ hs) bytes behind rest head (b, r, i, more) f = final-behind 
   go (k ∷ ks) (b2, r2, i2, more2) =
       record { before = ks; behind = f.behind; interim = subst (λ (x : List ℕ). Interim ks x f.behind) (sym (reads-same bytes b b2 h k r r2).1) more2; reads = f.reads; is_final = f.is_final }
 
-reads-long : (bytes rest : List ℕ) (head : ResponseHead) → ReadsReply bytes head rest → length rest ≤ length bytes
+pub reads-long : (bytes rest : List ℕ) (head : ResponseHead) → ReadsReply bytes head rest → length rest ≤ length bytes
 reads-long bytes rest head ((valid, is), few) = omega (arith, ap length is, length-append (print_response head) rest)
 
-interim-long : (hs : List ResponseHead) (bytes rest : List ℕ) → Interim hs bytes rest → length rest ≤ length bytes
+pub interim-long : (hs : List ResponseHead) (bytes rest : List ℕ) → Interim hs bytes rest → length rest ≤ length bytes
 interim-long [] bytes rest e = omega (arith, ap length e)
 interim-long (h ∷ hs) bytes rest (b, r, i, more) = omega (arith, reads-long bytes b h r, interim-long hs b rest more)
 
 -- a first head, and the final one ends no sooner
-first-of : (bytes rest : List ℕ) (head : ResponseHead) → HasFinal bytes head rest → (h : ResponseHead) × (b : List ℕ) × ReadsReply bytes h b × (length rest ≤ length b)
+pub first-of : (bytes rest : List ℕ) (head : ResponseHead) → HasFinal bytes head rest → (h : ResponseHead) × (b : List ℕ) × ReadsReply bytes h b × (length rest ≤ length b)
 first-of bytes rest head f = go f.before f.interim where
   go : (ks : List ResponseHead) → Interim ks bytes f.behind → (h : ResponseHead) × (b : List ℕ) × ReadsReply bytes h b × (length rest ≤ length b)
   go [] e = (head, rest, subst (λ (x : List ℕ). ReadsReply x head rest) (sym e) f.reads, omega arith)
   go (k ∷ ks) (b, r, i, more) = (k, b, r, omega (arith, interim-long ks b f.behind more, reads-long f.behind rest head f.reads))
 
 -- a head that ends within the bytes stands in them
-within-first : (bytes more rest : List ℕ) (head : ResponseHead) → ReadsReply (bytes ++ more) head rest → length (bytes ++ more) ≤ length rest + length bytes → (left : List ℕ) × ReadsReply bytes head left
+pub within-first : (bytes more rest : List ℕ) (head : ResponseHead) → ReadsReply (bytes ++ more) head rest → length (bytes ++ more) ≤ length rest + length bytes → (left : List ℕ) × ReadsReply bytes head left
 within-first bytes more rest head ((valid, is), few) le =
     let fits : length (print_response head) ≤ length bytes = omega (arith, ap length is, length-append (print_response head) rest, le) in
     (drop (length (print_response head)) bytes, ((valid, front-of bytes more (print_response head) rest is fits), few))

@@ -2,7 +2,9 @@ pub mod After
 pub mod Carried
 pub mod Chunks
 pub mod Codings
+pub mod Delivered
 pub mod Fields
+pub mod Following
 pub mod Frames
 pub mod Framings
 pub mod Reading

@@ -1,6 +1,7 @@
 -- What the readers of heads hold and answer.
 use Rattle.std.proofs.Common.{inl, inr}
-use Rattle.std.specs.Prelude.{◌≡◌, ℕ, ◌+◌, ◌≤◌, ◌<◌, ◌⊎◌, List, length, Bool, IsTrue}
+use Rattle.std.specs.Prelude.{◌≡◌, ℕ, ◌+◌, ◌≤◌, ◌<◌, ◌⊎◌, List, length, Bool, IsTrue, codes}
+use Rattle.std.specs.Str.{bytes_eq}
 use Rattle.httparse.specs.Grammar.{RequestHead, ResponseHead}
 use Rattle.xdr_decode.specs.declared.bad.BadField.{BadField}
 use Rattle.xdr_decode.specs.declared.bad.Bad.{Bad}
@@ -38,13 +39,14 @@ Gives bytes kept ended read.Gone = IsTrue ended × IsGone bytes × (kept ≡ byt
 Gives bytes kept ended read.BadRequest = IsBadRequest bytes × (kept ≡ bytes)
 Gives bytes kept ended read.HeadTooLong = IsTooLong bytes × (kept ≡ bytes)
 Gives bytes kept ended read.ReadFault = HasNoRequest bytes × (kept ≡ bytes)
-Gives bytes kept ended read.Memory = kept ≡ bytes
+Gives bytes kept ended (read.Memory is_head) =
+    ((tree : RequestHead) × (rest : List ℕ) × FirstRequest bytes tree rest × (is_head ≡ bytes_eq tree.method (codes "HEAD"))) × (kept ≡ bytes)
 
 -- a head, or a fault or want of memory in its place
 abbrev pub IsFound : HeadRead → Type 0
 IsFound (read.Head h) = Unit {0}
 IsFound read.ReadFault = Unit {0}
-IsFound read.Memory = Unit {0}
+IsFound (read.Memory is_head) = Unit {0}
 IsFound other = ⊥
 
 -- a kind of fault at place 0

@@ -1,4 +1,5 @@
 pub mod Judging
+pub mod Parting
 pub mod Putting
 pub mod ReplyJudging
 pub mod Steps

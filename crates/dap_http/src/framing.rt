@@ -53,6 +53,15 @@ impl<'a, O: Sink> Framing<'a, O, Gathered> {
             × ((more : List ℕ) → IsFront part (framed self.now.chunked (body ++ more))) }
     {}
 
+    /// Lets the other sink go without an end. It has gained a front of what each body becomes that begins
+    /// with the bytes that were put.
+    pub fn stop(self)
+        ensures same { self.exit.0.now ≡ self.entry.out.now }
+        ensures part { (body : List ℕ) → ⟦<Framing<'a, O, Gathered> as Sink>⟧.written self.entry ≡ Some body →
+            (part : List ℕ) × Appends (start_of O.written self.entry.began.items) (O.written self.exit.0.now) part
+            × ((more : List ℕ) → IsFront part (framed self.entry.chunked (body ++ more))) }
+    {}
+
     /// Ends the body. Behind an `Ok` the other sink has gained the framed body, and else a front of it.
     pub fn end(self) -> Result<(), Failed>
         ensures ok { OnOk result ((body : List ℕ) → ⟦<Framing<'a, O, Gathered> as Sink>⟧.written self.entry ≡ Some body →

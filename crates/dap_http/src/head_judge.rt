@@ -22,7 +22,8 @@ pub enum Judged {
     Partial,
     /// No head, whatever follows.
     Bad,
-    Memory,
+    /// A head for which memory is wanted; whether its method is HEAD.
+    Memory(bool),
 }
 
 /// Says what the bytes begin with.
@@ -34,7 +35,7 @@ pub fn judge(alloc: Global, bytes: &[u8]) -> Judged
         Ok(Status::Complete(spans)) => {
             match told(alloc, bytes, &headers[..spans.headers], &spans) {
                 Ok(head) => Judged::Whole(head, spans.len),
-                Err(Memory) => Judged::Memory,
+                Err(Memory) => Judged::Memory(spans.method.of(bytes) == b"HEAD".as_slice()),
             }
         }
         Ok(Status::Partial) => Judged::Partial,

@@ -29,7 +29,8 @@ pub enum HeadRead {
     BadRequest,
     HeadTooLong,
     ReadFault,
-    Memory,
+    /// Memory was wanted for a head that came whole; whether its method is HEAD.
+    Memory { head: bool },
 }
 
 /// The bytes of the longest head.
@@ -102,7 +103,7 @@ impl HeadReader {
             }
             Judged::Partial => self.go_on(source),
             Judged::Bad => Some(HeadRead::BadRequest),
-            Judged::Memory => Some(HeadRead::Memory),
+            Judged::Memory(head) => Some(HeadRead::Memory { head }),
         }
     }
 

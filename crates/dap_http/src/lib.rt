@@ -4,6 +4,7 @@
 //! say what these are.
 #![tactic(auto)]
 
+mod body_parts;
 mod chunk_step;
 mod coding;
 mod digits;
@@ -27,6 +28,7 @@ mod texts;
 mod unframer;
 mod url;
 
+pub use body_parts::{Arrived, BodyParts};
 pub use coding::Coding;
 pub use framer::Framer;
 pub use framing::Framing;

@@ -41,3 +41,4 @@ pub mod Spaced
 pub mod Clauses
 pub mod FilteredWords
 pub mod Partly
+pub mod Parents

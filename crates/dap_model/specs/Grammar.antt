@@ -16,6 +16,7 @@ use Rattle.std.specs.List.{list_all, list_any}
 use Rattle.std.specs.Option.{option_map_or}
 use Rattle.std.specs.Str.{bytes_eq, str_eq_ignore_ascii_case}
 use Rattle.std.specs.Str.Parse.{digits_value}
+use Rattle.dap_types.specs.Limits.{most_depth, most_dimensions, most_elements, most_members}
 use Rattle.dap_types.specs.Model.{Member, scalar, array, structure, grid, sequence, Members, no_members, member, Dataset, name_of, count, sizes}
 use Rattle.dap_types.specs.WellFormed.{IsWellFormed, places_of}
 use Rattle.dap_types.specs.declared.declarations.ArrayDecl.{ArrayDecl}
@@ -39,7 +40,7 @@ abbrev pub spells : Slot → Token → Bool
 spells (keyword k) (token.word w) = str_eq_ignore_ascii_case k w
 spells (name n) (token.word w) = bytes_eq n w
 spells (size n) (token.word w) =
-    nat_le 1 (length w) && nat_le (length w) 10 && list_all is_ascii_digit w && digits_value 10 w == n && nat_le n 2147483647
+    nat_le 1 (length w) && nat_le (length w) 10 && list_all is_ascii_digit w && digits_value 10 w == n && nat_le n most_elements
 spells (sign b) (token.sign c) = b == c
 spells slot t = false
 
@@ -72,7 +73,7 @@ colon = fine (sign 58)
 
 -- the first word of member n: it may be too deep, or one member too many
 abbrev pub head : ℕ → ℕ → List ℕ → Judged
-head depth n w = record { slot = keyword w; broken = nat_lt 16 depth || nat_lt 1000000 n }
+head depth n w = record { slot = keyword w; broken = nat_lt most_depth depth || nat_lt most_members n }
 
 -- a name, behind the names before it on its level
 abbrev pub named : List (List ℕ) → List ℕ → Judged
@@ -119,13 +120,13 @@ whole_slots first parts last own = first ∷ opens ∷ parts ++ last ∷ own ∷
 abbrev mutual
   pub slots : ℕ → ℕ → List (List ℕ) → Member → List Judged
   slots depth n before (scalar c) = scalar_slots depth n before c
-  slots depth n before (array a) = array_slots 32 None (head depth n (type_word a.base)) before a
+  slots depth n before (array a) = array_slots most_dimensions None (head depth n (type_word a.base)) before a
   slots depth n before (structure own parts) =
       whole_slots (head depth n (codes "Structure")) (slots_all (depth + 1) (n + 1) [] parts) closes (named before own)
   slots depth n before (grid own a maps) =
       whole_slots (head depth n (codes "Grid"))
       (fine (keyword (codes "Array")) ∷ colon
-      ∷ array_slots 32 None (head (depth + 1) (n + 1) (type_word a.base)) [] a
+      ∷ array_slots most_dimensions None (head (depth + 1) (n + 1) (type_word a.base)) [] a
       ++ fine (keyword (codes "Maps")) ∷ colon
       ∷ map_slots (depth + 1) (n + 2) (a.name ∷ []) (sizes a) maps)
       (record { slot = sign 125; broken = nat_lt (length maps) (length a.dims) }) (named before own)

@@ -1,8 +1,9 @@
 -- What the definitions promise of one another, each as a statement over all datasets and values. They
 -- show that the definitions are not empty, and that they are not the code again.
-use Rattle.std.specs.Prelude.{◌≡◌, ℕ, ◌+◌, ◌*◌, ◌^◌, ◌<◌, ◌≤◌, ⊤, ◌≢◌, true, false, List, [], ◌∷◌, ◌++◌, All, AllPairs, length, None, codes, slice_get}
+use Rattle.std.specs.Prelude.{◌≡◌, ℕ, ◌+◌, ◌*◌, ◌^◌, ◌<◌, ◌≤◌, ◌≢◌, Bool, T, true, false, List, [], ◌∷◌, ◌++◌, All, AllPairs, length, None, codes, slice_get}
 use Rattle.std.specs.List.{AllZip, flat_map, list_any}
 use Rattle.std.specs.Option.{option_map_or}
+use Rattle.dap_types.specs.Limits.{body_limit, most_text}
 use Rattle.dap_types.specs.Model.{Dataset, Tree, kids, sizes, product}
 use Rattle.dap_types.specs.WellFormed.{IsWellFormed, fault, paths, places_of, elements_of}
 use Rattle.dap_types.specs.declared.declarations.ArrayDecl.{ArrayDecl}
@@ -59,10 +60,13 @@ abbrev pub XdrSpells : Type 0
 XdrSpells = (d : Dataset) (ts : List Tree) → All (λ p. elements_of p.variable < 2 ^ 32) (places_of d) → FitsAll d.members ts → Spells d ts (xdr d ts)
 
 -- a type of numbers
+abbrev pub is_number : BaseType → Bool
+is_number Text = false
+is_number Url = false
+is_number base = true
+
 abbrev pub IsNumber : BaseType → Type 0
-IsNumber Text = ⊥
-IsNumber Url = ⊥
-IsNumber base = ⊤
+IsNumber base = T (is_number base)
 
 -- the bytes of an element in an array of numbers
 abbrev pub element_width : BaseType → ℕ
@@ -104,7 +108,7 @@ OneText = (d d' : Dataset) → HasWords d → HasWords d' → IsWellFormed d →
 -- a body that is sent is one that is read, within the limits
 abbrev pub BodyIsRead : Type 0
 BodyIsRead = (d : Dataset) (ts : List Tree) → HasWords d → IsWellFormed d → FitsAll d.members ts → All (λ p. elements_of p.variable < 2 ^ 32) (places_of d) →
-    length (dds d) ≤ 16777216 → length (body d ts) < 2 ^ 40 → IsBody (body d ts) d ts
+    length (dds d) ≤ most_text → length (body d ts) < body_limit → IsBody (body d ts) d ts
 
 -- bytes spell at most one list of values of a dataset, and no spelling is a proper front of another
 abbrev pub OneSpelling : Type 0

@@ -1,5 +1,6 @@
 -- What the bytes of a data response promise to the one who reads them.
-use Rattle.std.specs.Prelude.{◌≡◌, ℕ, ◌<◌, ◌≤◌, ◌^◌, List, ◌++◌, All, length, None}
+use Rattle.std.specs.Prelude.{◌≡◌, ℕ, ◌<◌, ◌≤◌, List, ◌++◌, All, length, None}
+use Rattle.dap_types.specs.Limits.{body_limit, most_elements, most_text}
 use Rattle.dap_types.specs.Model.{Dataset, Tree}
 use Rattle.dap_types.specs.WellFormed.{IsWellFormed, elements_of, places_of}
 use Rattle.dap_model.specs.Body.{IsBody, IsHead, body, too_large}
@@ -20,15 +21,15 @@ OneBody = (bs : List ℕ) (d e : Dataset) (ts us : List Tree) → IsBody bs d ts
 -- elements
 abbrev pub TooLargeByLimits : Type 0
 TooLargeByLimits = (d : Dataset) →
-    (too_large d ≡ None → (length (dds d) ≤ 16777216) × All (λ p. elements_of p.variable ≤ 2147483647) (places_of d))
-    × (length (dds d) ≤ 16777216 → All (λ p. elements_of p.variable ≤ 2147483647) (places_of d) → too_large d ≡ None)
+    (too_large d ≡ None → (length (dds d) ≤ most_text) × All (λ p. elements_of p.variable ≤ most_elements) (places_of d))
+    × (length (dds d) ≤ most_text → All (λ p. elements_of p.variable ≤ most_elements) (places_of d) → too_large d ≡ None)
 
 -- what is sent of a dataset that is not too large is read back
 abbrev pub SentIsRead : Type 0
-SentIsRead = (d : Dataset) (ts : List Tree) → HasWords d → IsWellFormed d → FitsAll d.members ts → too_large d ≡ None → length (body d ts) < 2 ^ 40 → IsBody (body d ts) d ts
+SentIsRead = (d : Dataset) (ts : List Tree) → HasWords d → IsWellFormed d → FitsAll d.members ts → too_large d ≡ None → length (body d ts) < body_limit → IsBody (body d ts) d ts
 
 -- and so is what is sent of what a constraint leaves
 abbrev pub ConstrainedIsRead : Type 0
 ConstrainedIsRead = (marks : Marks) (keeps : Keeps) (d : Dataset) (ts : List Tree) → HasWords d → IsWellFormed d → SuitsAll marks 1 d.members → FitsAll d.members ts
-    → too_large (constrained marks d) ≡ None → length (body (constrained marks d) (constrained_trees marks keeps d ts)) < 2 ^ 40
+    → too_large (constrained marks d) ≡ None → length (body (constrained marks d) (constrained_trees marks keeps d ts)) < body_limit
     → IsBody (body (constrained marks d) (constrained_trees marks keeps d ts)) (constrained marks d) (constrained_trees marks keeps d ts)

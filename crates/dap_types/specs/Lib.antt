@@ -1,6 +1,7 @@
 pub mod formers
 pub mod Held
 pub mod Lends
+pub mod Limits
 pub mod Names
 pub mod NameSet
 pub mod Model

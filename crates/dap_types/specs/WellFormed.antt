@@ -6,6 +6,7 @@ use Rattle.std.specs.Cmp.Lexicographic.{pointwise}
 use Rattle.std.specs.List.{AllZip, list_all, list_any, enumerate_from, position_from}
 use Rattle.std.specs.Option.{option_or}
 use Rattle.std.specs.Str.{bytes_eq}
+use Rattle.dap_types.specs.Limits.{most_depth, most_dimensions, most_elements, most_members}
 use Rattle.dap_types.specs.Model.{Member, scalar, array, structure, grid, sequence, Members, no_members, member, Dataset, name_of, sizes, product}
 use Rattle.dap_types.specs.declared.declarations.ArrayDecl.{ArrayDecl}
 use Rattle.dap_types.specs.declared.unfit.Unfit.{Unfit}
@@ -80,7 +81,7 @@ elements_of m = 1
 
 -- an array has 1 to 32 dimensions, each of a size that is an Int32
 abbrev pub IsSized : Member → Type 0
-IsSized (array a) = (1 ≤ length a.dims) × (length a.dims ≤ 32) × All (λ n. n ≤ 2147483647) (sizes a)
+IsSized (array a) = (1 ≤ length a.dims) × (length a.dims ≤ most_dimensions) × All (λ n. n ≤ most_elements) (sizes a)
 IsSized m = ⊤
 
 -- a Grid has one map for each dimension of its array, of one dimension of that size (DAP 2.0, Grid)
@@ -91,9 +92,9 @@ HasMaps m = ⊤
 -- every rule holds of every member
 pub record IsWellFormed (d : Dataset) : Type 0 where
   -- at most 1,000,000 members
-  pub few : length (places_of d) ≤ 1000000
+  pub few : length (places_of d) ≤ most_members
   -- a top member has depth 1, and none is deeper than 16
-  pub shallow : All (λ p. p.depth ≤ 16) (places_of d)
+  pub shallow : All (λ p. p.depth ≤ most_depth) (places_of d)
   -- no member has the name of an earlier one of its level
   pub names_differ : All (λ p. ¬ Contains p.earlier (name_of p.variable)) (places_of d)
   -- arrays have their ranks and sizes, and Grids their maps
@@ -102,7 +103,7 @@ pub record IsWellFormed (d : Dataset) : Type 0 where
 
 -- The same rules as tests, for the first fault: 1 to 32 dimensions, each of a size that is an Int32
 abbrev pub is_sized : ArrayDecl → Bool
-is_sized a = nat_le 1 (length a.dims) && nat_le (length a.dims) 32 && list_all (λ n. nat_le n 2147483647) (sizes a)
+is_sized a = nat_le 1 (length a.dims) && nat_le (length a.dims) most_dimensions && list_all (λ n. nat_le n most_elements) (sizes a)
 
 abbrev pub has_sizes : Member → Bool
 has_sizes (array a) = is_sized a
@@ -116,7 +117,7 @@ has_maps m = true
 -- what is wrong with member n
 abbrev pub fault_at : ℕ → Place → Option Unfit
 fault_at n p =
-    if nat_lt 16 p.depth then Some (TooDeep n)
+    if nat_lt most_depth p.depth then Some (TooDeep n)
     else if list_any (bytes_eq (name_of p.variable)) p.earlier then Some (Repeated n)
     else if not (has_sizes p.variable) then Some (BadSize n)
     else if not (has_maps p.variable) then Some (BadGrid n)
@@ -129,4 +130,4 @@ first_fault n (p ∷ ps) = option_or (fault_at n p) (first_fault (n + 1) ps)
 
 -- the first fault of a dataset: too many members, or the first member with one
 unfoldable pub fault : Dataset → Option Unfit
-fault d = if nat_lt 1000000 (length (places_of d)) then Some TooMany else first_fault 1 (places_of d)
+fault d = if nat_lt most_members (length (places_of d)) then Some TooMany else first_fault 1 (places_of d)

@@ -4,17 +4,18 @@ use Rattle.std.specs.Prelude.{ℕ, Bool, false, true, not, List, [], ◌∷◌, 
 use Rattle.std.specs.List.{list_all}
 use Rattle.dap_model.specs.Tokens as dds
 use Rattle.text_tokens.specs.Tokens.{Token, sign, word, quoted, Placed, token_bytes}
+use Rattle.viable.specs.Characters.{byte}
 
 abbrev pub dds_signs : List ℕ
 dds_signs = codes "{}[];=,:"
 
 abbrev pub NoQuotes : List ℕ → Type 0
-NoQuotes bytes = IsTrue (list_all (λ b. not (b == 34)) bytes)
+NoQuotes bytes = IsTrue (list_all (λ b. not (b == byte "\"")) bytes)
 
 -- the text does not go on with a quote
 abbrev pub NoQuoteNext : List ℕ → Type 0
 NoQuoteNext [] = Unit {0}
-NoQuoteNext (b ∷ rest) = IsTrue (not (b == 34))
+NoQuoteNext (b ∷ rest) = IsTrue (not (b == byte "\""))
 
 abbrev pub is_quoted : Token → Bool
 is_quoted (quoted pieces) = true

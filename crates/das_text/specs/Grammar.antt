@@ -10,6 +10,7 @@ use Rattle.std.specs.Str.{str_eq_ignore_ascii_case}
 use Rattle.dap_types.specs.declared.declarations.BaseType.{BaseType}
 use Rattle.dap_types.specs.declared.declarations.BaseType.TheVariants.{Byte, Int16, UInt16, Int32, UInt32, Float32, Float64, Text, Url}
 use Rattle.dap_model.specs.Dds.{type_word}
+use Rattle.viable.specs.Characters.{byte}
 use Rattle.viable.specs.Quoted.{quoted_value}
 use Rattle.text_tokens.specs.Tokens.{Token, sign, word, quoted}
 use Rattle.das_text.specs.Model.{Attributes, Entry, attribute, container, Entries, no_entries, entry}
@@ -36,7 +37,7 @@ IsValue (sign b) v = ⊥
 -- values, each behind a comma
 abbrev pub LaterOf : List Token → List Word → Type 0
 LaterOf tokens [] = tokens ≡ []
-LaterOf tokens (v ∷ values) = (t : Token) × (later : List Token) × IsValue t v × LaterOf later values × (tokens ≡ sign 44 ∷ t ∷ later)
+LaterOf tokens (v ∷ values) = (t : Token) × (later : List Token) × IsValue t v × LaterOf later values × (tokens ≡ sign (byte ",") ∷ t ∷ later)
 
 -- values with a comma between two
 abbrev pub ValuesOf : List Token → List Word → Type 0
@@ -49,9 +50,9 @@ abbrev mutual
   pub EntryOf : ℕ → List Token → Entry → Type 0
   EntryOf depth tokens (attribute a) =
       (0 < depth) × (type : List ℕ) × (base_of_word type ≡ Some a.base)
-      × (values : List Token) × ValuesOf values a.values × (tokens ≡ word type ∷ word a.name ∷ (values ++ sign 59 ∷ []))
+      × (values : List Token) × ValuesOf values a.values × (tokens ≡ word type ∷ word a.name ∷ (values ++ sign (byte ";") ∷ []))
   EntryOf depth tokens (container name entries) =
-      (depth < most_depth) × (inner : List Token) × EntriesOf (depth + 1) inner entries × (tokens ≡ word name ∷ sign 123 ∷ (inner ++ sign 125 ∷ []))
+      (depth < most_depth) × (inner : List Token) × EntriesOf (depth + 1) inner entries × (tokens ≡ word name ∷ sign (byte "{") ∷ (inner ++ sign (byte "}") ∷ []))
 
   pub EntriesOf : ℕ → List Token → Entries → Type 0
   EntriesOf depth tokens no_entries = tokens ≡ []
@@ -60,4 +61,4 @@ abbrev mutual
 
 -- the tokens are a DAS of these attributes
 abbrev pub IsDas : List Token → Attributes → Type 0
-IsDas tokens a = (inner : List Token) × EntriesOf 0 inner a.containers × (tokens ≡ word (codes "Attributes") ∷ sign 123 ∷ (inner ++ sign 125 ∷ []))
+IsDas tokens a = (inner : List Token) × EntriesOf 0 inner a.containers × (tokens ≡ word (codes "Attributes") ∷ sign (byte "{") ∷ (inner ++ sign (byte "}") ∷ []))

@@ -6,9 +6,10 @@ use Rattle.text_tokens.specs.Languages.{SpellsTo, BadToken, Breaks}
 use Rattle.text_tokens.specs.Tokens.{is_white}
 use Rattle.das_text.specs.Grammar.{signs, IsDas}
 use Rattle.das_text.specs.Model.{Attributes}
+use Rattle.dap_types.specs.Limits.{most_text}
 
 abbrev pub limit : ℕ
-limit = 16777216
+limit = most_text
 
 abbrev pub front : List ℕ → List ℕ
 front text = take limit text

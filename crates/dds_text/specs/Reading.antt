@@ -1,6 +1,7 @@
 -- What bytes are to a reader of a DDS: the text of a dataset ends among them, they are bad at a place,
 -- or neither. A text has at most 16,777,216 bytes, this project's limit.
 use Rattle.std.specs.Prelude.{◌≡◌, ℕ, ◌<◌, ◌≤◌, ◌⊎◌, List, length, take}
+use Rattle.dap_types.specs.Limits.{most_text}
 use Rattle.dap_types.specs.Model.{Dataset}
 use Rattle.dap_model.specs.Grammar.{DdsOf, Begins, IsBad, IsBadAt}
 use Rattle.dap_model.specs.Tokens.{tokens_of}
@@ -26,7 +27,7 @@ pub record IsOpen (bytes : List ℕ) : Type 0 where
   pub unended : Unended bytes
 
 abbrev pub limit : ℕ
-limit = 16777216
+limit = most_text
 
 -- Within the limit. The text ends behind n bytes:
 abbrev pub IsDone : List ℕ → ℕ → Dataset → Type 0

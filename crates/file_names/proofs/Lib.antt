@@ -1,1 +1,2 @@
 mod Segments
+pub mod Words

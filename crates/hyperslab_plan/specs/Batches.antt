@@ -5,6 +5,7 @@ use Rattle.hyperslab_plan.specs.Plans.{total_of, width_in, size_in, per_row_in, 
 use Rattle.hyperslab_plan.specs.declared.batch.Batch.{Batch}
 use Rattle.hyperslab_plan.specs.declared.batch.Run.{Run}
 use Rattle.hyperslab_plan.specs.declared.plan.Plan.{Plan}
+use Rattle.dap_types.specs.Limits.{most_piece}
 
 -- as many whole rows as fit, each read from its first to its last element
 unfoldable pub whole_rows : Plan → ℕ → Batch
@@ -39,15 +40,15 @@ pub record IsBatch (plan : Plan) (b : Batch) : Type 0 where
 -- n elements from a position on stand in one row, and have few enough bytes to be read together
 pub record ArePart (plan : Plan) (first n : ℕ) : Type 0 where
   pub in_row : first % per_row_in plan + n ≤ per_row_in plan
-  pub raw : row_bytes plan n ≤ 65536
-  pub xdr : n * width_in plan ≤ 65536
+  pub raw : row_bytes plan n ≤ most_piece
+  pub xdr : n * width_in plan ≤ most_piece
 
 -- so many whole rows begin at a position, and have few enough bytes to be read together
 pub record AreRows (plan : Plan) (first rows : ℕ) : Type 0 where
   pub from_start : first % per_row_in plan ≡ 0
   pub left : first + rows * per_row_in plan ≤ total_of plan
-  pub raw : rows * row_bytes plan (per_row_in plan) ≤ 65536
-  pub xdr : rows * per_row_in plan * width_in plan ≤ 65536
+  pub raw : rows * row_bytes plan (per_row_in plan) ≤ most_piece
+  pub xdr : rows * per_row_in plan * width_in plan ≤ most_piece
 
 -- a batch is part of a row or whole rows, and neither a longer part nor more rows can be read together
 pub record IsLargest (plan : Plan) (b : Batch) : Type 0 where
@@ -80,8 +81,8 @@ pub record Bounded (plan : Plan) (b : Batch) : Type 0 where
   pub some : 0 < b.count
   pub within : b.first + b.count ≤ total_of plan
   pub runs : 0 < b.runs
-  pub raw : b.raw_len ≤ 65536
-  pub xdr : b.count * width_in plan ≤ 65536
+  pub raw : b.raw_len ≤ most_piece
+  pub xdr : b.count * width_in plan ≤ most_piece
   pub cost : spent plan b.first + b.raw_len ≤ spent plan (b.first + b.count)
 
 -- the runs fill the raw bytes one after the other

@@ -1,14 +1,10 @@
 -- The bytes of a number in a file (netCDF classic format, external types) and as XDR (RFC 4506; DAP 2.0
 -- packs the bytes of an array).
-use Rattle.std.specs.Prelude.{ℕ, ◌≡◌, Bool, true, false, IsTrue}
+use Rattle.std.specs.Prelude.{ℕ, ◌≡◌, IsTrue}
 use Rattle.dap_types.specs.declared.declarations.BaseType.{BaseType}
 use Rattle.dap_types.specs.declared.declarations.BaseType.TheVariants.{Byte, Int16, UInt16, Float64, Text, Url}
 use Rattle.dap_model.specs.Laws.{element_width}
-
-abbrev pub is_number : BaseType → Bool
-is_number Text = false
-is_number Url = false
-is_number base = true
+pub use Rattle.dap_model.specs.Laws.{is_number}
 
 -- the bytes of a number in a file
 abbrev pub number_size : BaseType → ℕ

@@ -11,7 +11,7 @@ use Rattle.netcdf_source.specs.Attributes.{pieces, word_of}
 use Rattle.netcdf_source.specs.Types.{size_of}
 use Rattle.netcdf_source.specs.Values.{without_zeros}
 use Rattle.netcdf_source.specs.declared.external_type.ExternalType.{ExternalType}
-use Rattle.netcdf_source.specs.declared.external_type.ExternalType.TheVariants.{Byte, Char, Short, Int, Float, Double}
+use Rattle.netcdf_source.specs.declared.external_type.ExternalType.TheVariants.{Byte, Char, Short, Int, Float, Double, UByte, UShort, UInt, Int64, UInt64}
 
 -- a piece, and what is behind it
 pub pieces-here : (n : ℕ) (front rest : List ℕ) → 0 < n → length front ≡ n → pieces n (front ++ rest) ≡ front ∷ pieces n rest
@@ -55,6 +55,11 @@ size-some Short = lit< tt
 size-some Int = lit< tt
 size-some Float = lit< tt
 size-some Double = lit< tt
+size-some UByte = lit< tt
+size-some UShort = lit< tt
+size-some UInt = lit< tt
+size-some Int64 = lit< tt
+size-some UInt64 = lit< tt
 
 -- one word more
 pub words-here : (t : ExternalType) (words new whole : List Word) (w : Word) (from front rest : List ℕ)

@@ -1,8 +1,8 @@
 -- The values of a file are values of its dataset, and stand at the places of its layouts.
-use Rattle.std.proofs.Common.{◌≡◌, ℕ, zero, suc, ◌+◌, ◌^◌, ◌<◌, ◌≤◌, inl, inr, Bool, true, false, not, ◌&&◌, cond, eqb, ltb, List, [], ◌∷◌, ◌++◌, length, map, filter, take, drop, All, Option, Some, None, refl, sym, ap, subst, ◌∙◌, append_assoc, arith}
+use Rattle.std.proofs.Common.{◌≡◌, ℕ, zero, suc, ◌+◌, ◌^◌, ◌<◌, ◌≤◌, inl, inr, Bool, true, false, ◌&&◌, cond, eqb, List, [], ◌∷◌, ◌++◌, length, map, filter, take, drop, All, Option, Some, None, refl, sym, ap, subst, ◌∙◌, append_assoc, arith}
 use Rattle.std.specs.Prelude.{slice_get, option_and_then}
 use Rattle.std.specs.List.{AllZip, range_with_len}
-use Rattle.std.proofs.lemmas.Bool.{cases_lt, ltb-false}
+use Rattle.std.proofs.lemmas.Bool.{cases_lt}
 use Rattle.std.proofs.lemmas.Bool.Decides.{nat_tests}
 use Rattle.std.proofs.lemmas.Int.{ints}
 use Rattle.std.proofs.lemmas.List.{length-map, length-take, take-append-drop, get_or_past}
@@ -19,17 +19,18 @@ use Rattle.dap_model.specs.Fits.{IsOf, FitsArray, Fits, FitsAll}
 use Rattle.netcdf_source.specs.Header.{IsHeader}
 use Rattle.netcdf_source.specs.Laws.{ValuesFit, ValuesArePlaced}
 use Rattle.netcdf_source.specs.Layouts.{slice, element_sizes, element_at, AreWithin, layout_of, place, IsPlaced}
-use Rattle.netcdf_source.specs.Mapping.{base_of, size_at, is_char_type, is_char, element_dimensions, element_size, is_offered, is_empty, is_grid, column_of, array_of, maps_of, member_of, leaf_in, leaves_from, leaf_variable}
+use Rattle.netcdf_source.specs.Mapping.{base_of, size_at, is_char_type, is_long, element_dimensions, element_size, is_offered, is_empty, is_grid, column_of, array_of, maps_of, member_of, leaf_in, leaves_from, leaf_variable}
 use Rattle.netcdf_source.specs.Parts.{past_end}
 use Rattle.netcdf_source.specs.inner.Sound.{IsSound}
 use Rattle.netcdf_source.specs.Values.{without_zeros, value_of, by_index, indexed_tree, tree_of, map_variables, member_tree}
 use Rattle.netcdf_source.specs.declared.external_type.ExternalType.{ExternalType}
-use Rattle.netcdf_source.specs.declared.external_type.ExternalType.TheVariants.{Byte, Char, Short, Int, Float, Double}
+use Rattle.netcdf_source.specs.declared.external_type.ExternalType.TheVariants.{Byte, Char, Short, Int, Float, Double, UByte, UShort, UInt, Int64, UInt64}
 use Rattle.netcdf_source.specs.declared.header.Contents.{Contents}
 use Rattle.netcdf_source.specs.declared.header.Variable.{Variable}
 use Rattle.netcdf_source.proofs.Ends.{IsBytes, later_bytes}
 use Rattle.netcdf_source.proofs.Good.{stands_sound}
-use Rattle.netcdf_source.proofs.GridMaps.{IsOwn, own_facts, own_variables, maps_are, grid_array, at_front}
+use Rattle.netcdf_source.proofs.Offered.{offered}
+use Rattle.netcdf_source.proofs.GridMaps.{IsOwn, own_offered, own_variables, maps_are, grid_array, at_front}
 use Rattle.netcdf_source.proofs.Placed.{length-slice, sound_placed}
 use Rattle.netcdf_source.proofs.Singles.{bytes-take}
 use Rattle.netcdf_source.proofs.WellFormed.{dims_sizes}
@@ -44,13 +45,18 @@ shorter (b ∷ bytes) = go (eqb b 0 && eqb (length (without_zeros bytes)) 0) (sh
     go true short = omega arith
     go false short = omega arith
 
-value_is : (t : ExternalType) (bytes : List ℕ) → IsBytes bytes → (is_char_type t ≡ true → length bytes < 2 ^ 31) → IsOf (base_of t) (value_of t bytes)
-value_is Byte bytes h short = (omega (arith, ints), omega (arith, ints, h 0))
-value_is Char bytes h short = omega (arith, shorter bytes, short refl)
-value_is Short bytes h short = (omega (arith, ints, h 0, h 1), omega (arith, ints, h 0, h 1))
-value_is Int bytes h short = (omega (arith, ints, h 0, h 1, h 2, h 3), omega (arith, ints, h 0, h 1, h 2, h 3))
-value_is Float bytes h short = omega (arith, h 0, h 1, h 2, h 3)
-value_is Double bytes h short = omega (arith, h 0, h 1, h 2, h 3, h 4, h 5, h 6, h 7)
+value_is : (t : ExternalType) (bytes : List ℕ) → IsBytes bytes → is_long t ≡ false → (is_char_type t ≡ true → length bytes < 2 ^ 31) → IsOf (base_of t) (value_of t bytes)
+value_is Byte bytes h told short = (omega (arith, ints), omega (arith, ints, h 0))
+value_is Char bytes h told short = omega (arith, shorter bytes, short refl)
+value_is Short bytes h told short = (omega (arith, ints, h 0, h 1), omega (arith, ints, h 0, h 1))
+value_is Int bytes h told short = (omega (arith, ints, h 0, h 1, h 2, h 3), omega (arith, ints, h 0, h 1, h 2, h 3))
+value_is Float bytes h told short = omega (arith, h 0, h 1, h 2, h 3)
+value_is Double bytes h told short = omega (arith, h 0, h 1, h 2, h 3, h 4, h 5, h 6, h 7)
+value_is UByte bytes h told short = (omega (arith, ints), omega (arith, ints, h 0))
+value_is UShort bytes h told short = (omega (arith, ints), omega (arith, ints, h 0, h 1))
+value_is UInt bytes h told short = (omega (arith, ints), omega (arith, ints, h 0, h 1, h 2, h 3))
+value_is Int64 bytes h told short = absurd cc
+value_is UInt64 bytes h told short = absurd cc
 
 -- ---- what stands at each index
 
@@ -93,24 +99,25 @@ file_bytes file h i = elim (cases_lt i (length file)) [
 slice_bytes : (file : List ℕ) (a w : ℕ) → IsBytes file → IsBytes (slice file a w)
 slice_bytes file a w h = bytes-take w (drop a file) (later_bytes (take a file) (drop a file) (subst IsBytes (sym (take-append-drop a file)) h))
 
-element_is : (c : Contents) (file : List ℕ) (v : Variable) → IsBytes file → IsPlaced c (length file) v (layout_of c v) → (is_char v ≡ true → element_size c v ≤ 65536)
+element_is : (c : Contents) (file : List ℕ) (v : Variable) → IsBytes file → IsPlaced c (length file) v (layout_of c v) → is_offered c v ≡ true
     → (indexes : List ℕ) → AreWithin (element_sizes c v) indexes → IsOf (base_of v.external_type) (value_of v.external_type (element_at c file v indexes))
 unfolding IsPlaced
-element_is c file v bytes placed short indexes within =
+element_is c file v bytes placed told indexes within =
     let at = place (layout_of c v) indexes in
     let p = placed file indexes refl within in
     let fits : IsBytes (element_at c file v indexes) = subst IsBytes p.1 (slice_bytes file at (element_size c v) bytes) in
     let long : length (element_at c file v indexes) ≡ element_size c v = ap length (sym p.1) ∙ length-slice file at (element_size c v) p.0 in
-    value_is v.external_type (element_at c file v indexes) fits (λ is. let few = short is in omega (arith, long, few))
+    let o = offered c v told in
+    value_is v.external_type (element_at c file v indexes) fits o.short (λ is. omega (arith, long, o.few))
 
-tree_fits : (c : Contents) (file : List ℕ) (v : Variable) → IsBytes file → IsPlaced c (length file) v (layout_of c v) → (is_char v ≡ true → element_size c v ≤ 65536)
+tree_fits : (c : Contents) (file : List ℕ) (v : Variable) → IsBytes file → IsPlaced c (length file) v (layout_of c v) → is_offered c v ≡ true
     → FitsArray (base_of v.external_type) (element_sizes c v) (tree_of c file v)
 unfolding tree_of
-tree_fits c file v bytes placed short = indexed_fits (base_of v.external_type) (element_sizes c v) (λ indexes. value_of v.external_type (element_at c file v indexes)) (element_is c file v bytes placed short)
+tree_fits c file v bytes placed told = indexed_fits (base_of v.external_type) (element_sizes c v) (λ indexes. value_of v.external_type (element_at c file v indexes)) (element_is c file v bytes placed told)
 
-array_fits : (c : Contents) (file : List ℕ) (v : Variable) → IsBytes file → IsPlaced c (length file) v (layout_of c v) → (is_char v ≡ true → element_size c v ≤ 65536)
+array_fits : (c : Contents) (file : List ℕ) (v : Variable) → IsBytes file → IsPlaced c (length file) v (layout_of c v) → is_offered c v ≡ true
     → FitsArray (array_of c v).base (sizes (array_of c v)) (tree_of c file v)
-array_fits c file v bytes placed short = rw (dims_sizes c (element_dimensions c v)) (tree_fits c file v bytes placed short)
+array_fits c file v bytes placed told = rw (dims_sizes c (element_dimensions c v)) (tree_fits c file v bytes placed told)
 
 -- ---- members
 
@@ -122,19 +129,15 @@ maps_fit : (c : Contents) (file : List ℕ) (ws : List Variable) (ids : List ℕ
 maps_fit c file [] ids bytes h past zip = tt
 maps_fit c file (w ∷ ws) [] bytes h past zip = absurd zip
 maps_fit c file (w ∷ ws) (i ∷ ids) bytes h past zip =
-    let own = zip.0 in
-    let no_text = (own_facts c w i own.1).1 in (
-      array_fits c file w bytes (sound_placed c (length file) own.0.0 w h past own.0.1) (λ is. absurd (clash (is_char w) no_text is)),
+    let own = zip.0 in (
+      array_fits c file w bytes (sound_placed c (length file) own.0.0 w h past own.0.1) (own_offered c w i own.1),
       maps_fit c file ws ids bytes h past zip.1,
     )
-  where
-    clash : (b : Bool) → b ≡ false → b ≡ true → ⊥
-    clash b p q = cc
 
-member_fits : (c : Contents) (file : List ℕ) (v : Variable) → IsBytes file → IsSound c → past_end c (length file) ≡ None → IsPlaced c (length file) v (layout_of c v) → (is_char v ≡ true → element_size c v ≤ 65536)
+member_fits : (c : Contents) (file : List ℕ) (v : Variable) → IsBytes file → IsSound c → past_end c (length file) ≡ None → IsPlaced c (length file) v (layout_of c v) → is_offered c v ≡ true
     → Fits (member_of c v) (member_tree c file v)
 unfolding member_of
-member_fits c file v bytes h past placed short = go (is_empty (element_dimensions c v)) refl (is_grid c v) refl
+member_fits c file v bytes h past placed told = go (is_empty (element_dimensions c v)) refl (is_grid c v) refl
   where
     some : (n : ℕ) → eqb (suc n) 0 ≡ true → ⊥
     some n e = grind (arith, nat_tests)
@@ -150,23 +153,16 @@ member_fits c file v bytes h past placed short = go (is_empty (element_dimension
         → Fits (cond e (scalar (column_of v)) (cond b (grid (file_id v.name) (array_of c v) (maps_of c v.dimensions)) (array (array_of c v))))
         (cond b (many (trees_of (map (tree_of c file) (v ∷ map_variables c v.dimensions)))) (tree_of c file v))
     go true p true q = let g = grid_array c v q in absurd (clash (is_empty (element_dimensions c v)) (ap is_empty g.whole ∙ g.some) p)
-    go true p false q = subst (λ ns. FitsArray (base_of v.external_type) ns (tree_of c file v)) (ap (map (size_at c)) (nothing (element_dimensions c v) p)) (tree_fits c file v bytes placed short)
+    go true p false q = subst (λ ns. FitsArray (base_of v.external_type) ns (tree_of c file v)) (ap (map (size_at c)) (nothing (element_dimensions c v) p)) (tree_fits c file v bytes placed told)
     go false p true q =
         let g = grid_array c v q in
         let zip = own_variables c v.dimensions g.coordinates in
         let ws = map_variables c v.dimensions in
         let trees : List Tree = map (tree_of c file) (v ∷ ws) in
-        let whole : AllZip FitsIts (array_of c v ∷ map (array_of c) ws) trees = (array_fits c file v bytes placed short, maps_fit c file ws v.dimensions bytes h past zip) in
+        let whole : AllZip FitsIts (array_of c v ∷ map (array_of c) ws) trees = (array_fits c file v bytes placed told, maps_fit c file ws v.dimensions bytes h past zip) in
         let told : AllZip FitsIts (array_of c v ∷ map (array_of c) ws) (items (trees_of trees)) = subst (AllZip FitsIts (array_of c v ∷ map (array_of c) ws)) (sym (items-trees_of trees)) whole in
         (tt, subst (λ maps. AllZip FitsIts (array_of c v ∷ maps) (items (trees_of trees))) (sym (maps_are c v.dimensions)) told)
-    go false p false q = array_fits c file v bytes placed short
-
-pub offered_size : (c : Contents) (v : Variable) → is_offered c v ≡ true → element_size c v ≤ 65536
-offered_size c v e = go (ltb 65536 (element_size c v)) refl e
-  where
-    go : (b : Bool) → ltb 65536 (element_size c v) ≡ b → not b ≡ true → element_size c v ≤ 65536
-    go true p q = absurd cc
-    go false p q = ltb-false _ _ p
+    go false p false q = array_fits c file v bytes placed told
 
 members_fit : (c : Contents) (file : List ℕ) (before vs : List Variable) → IsBytes file → IsSound c → past_end c (length file) ≡ None → c.variables ≡ before ++ vs
     → FitsAll (members_of (map (member_of c) (filter (is_offered c) vs))) (map (member_tree c file) (filter (is_offered c) vs))
@@ -180,7 +176,7 @@ members_fit c file before (v ∷ vs) bytes h past whole =
     go : (b : Bool) → is_offered c v ≡ b → IsPlaced c (length file) v (layout_of c v)
         → FitsAll (members_of (map (member_of c) (filter (is_offered c) vs))) (map (member_tree c file) (filter (is_offered c) vs))
         → FitsAll (members_of (map (member_of c) (cond b (v ∷ filter (is_offered c) vs) (filter (is_offered c) vs)))) (map (member_tree c file) (cond b (v ∷ filter (is_offered c) vs) (filter (is_offered c) vs)))
-    go true e placed more = (member_fits c file v bytes h past placed (λ is. offered_size c v e), more)
+    go true e placed more = (member_fits c file v bytes h past placed e, more)
     go false e placed more = more
 
 -- ---- a file with a header

@@ -8,7 +8,7 @@ use Rattle.std.specs.Str.{bytes_eq}
 use Rattle.std.proofs.lemmas.Bool.Decides.{nat_tests}
 use Rattle.std.proofs.lemmas.Slice.Eq.{bytes_eq-Decides}
 use Rattle.dap_model.proofs.Tests.{both_true}
-use Rattle.netcdf_source.specs.Mapping.{is_char, has_single_bytes, has_texts, element_dimensions, has_dimension_name, own_dimension_in, own_dimension, is_coordinate_of, coordinate_at, differ, is_empty, is_grid, coordinate_variable, array_of, maps_of}
+use Rattle.netcdf_source.specs.Mapping.{is_char, has_single_bytes, has_texts, element_dimensions, is_offered, has_dimension_name, own_dimension_in, own_dimension, is_coordinate_of, coordinate_at, differ, is_empty, is_grid, coordinate_variable, array_of, maps_of}
 use Rattle.netcdf_source.specs.Parts.{lengths}
 use Rattle.netcdf_source.specs.inner.Sound.{InTurn, IsVariable}
 use Rattle.netcdf_source.specs.Values.{map_variables}
@@ -161,23 +161,37 @@ grid_array c v e =
     none None q = refl
     none (Some i) q = absurd cc
 
--- a coordinate variable has its dimension alone, and is no text
-pub own_facts : (c : Contents) (w : Variable) (i : ℕ) → own_dimension c w ≡ Some i → (w.dimensions ≡ i ∷ []) × (is_char w ≡ false)
+-- a coordinate variable has its dimension alone, is no text, and is offered
+pub record OwnFacts (c : Contents) (w : Variable) (i : ℕ) : Type 0 where
+  pub alone : w.dimensions ≡ i ∷ []
+  pub plain : is_char w ≡ false
+  pub offered : is_offered c w ≡ true
+
+pub own_facts : (c : Contents) (w : Variable) (i : ℕ) → own_dimension c w ≡ Some i → OwnFacts c w i
 unfolding own_dimension
-own_facts c w i e = go w.dimensions e
+own_facts c w i e = go w.dimensions refl e
   where
-    no_text : (j : ℕ) (o : Option Dimension) → option_map_or (λ d. not (is_char w) && bytes_eq w.name d.name) o false ≡ true → is_char w ≡ false
-    no_text j None q = absurd cc
-    no_text j (Some d) q = no (is_char w) (both_true (not (is_char w)) (bytes_eq w.name d.name) q).0
+    told : (j : ℕ) (o : Option Dimension) → option_map_or (λ d. is_offered c w && not (is_char w) && bytes_eq w.name d.name) o false ≡ true → (is_char w ≡ false) × (is_offered c w ≡ true)
+    told j None q = absurd cc
+    told j (Some d) q =
+        let two = both_true (is_offered c w && not (is_char w)) (bytes_eq w.name d.name) q in
+        let one = both_true (is_offered c w) (not (is_char w)) two.0 in
+        (no (is_char w) one.1, one.0)
 
-    named : (j : ℕ) (b : Bool) → has_dimension_name c j w ≡ b → cond b (Some j) None ≡ Some i → (Path (List ℕ) (j ∷ []) (i ∷ [])) × (is_char w ≡ false)
-    named j true is q = (cc, no_text j (slice_get c.dimensions j) is)
-    named j false is q = absurd cc
+    named : (j : ℕ) (b : Bool) → w.dimensions ≡ j ∷ [] → has_dimension_name c j w ≡ b → cond b (Some j) None ≡ Some i → OwnFacts c w i
+    named j true alone is q =
+        let same : j ≡ i = cc in
+        let t = told j (slice_get c.dimensions j) is in
+        record { alone = alone ∙ ap (λ (k : ℕ). k ∷ []) same; plain = t.0; offered = t.1 }
+    named j false alone is q = absurd cc
 
-    go : (ids : List ℕ) → own_dimension_in c w ids ≡ Some i → (ids ≡ i ∷ []) × (is_char w ≡ false)
-    go [] q = absurd cc
-    go (j ∷ []) q = named j (has_dimension_name c j w) refl q
-    go (j ∷ k ∷ ids) q = absurd cc
+    go : (ids : List ℕ) → w.dimensions ≡ ids → own_dimension_in c w ids ≡ Some i → OwnFacts c w i
+    go [] alone q = absurd cc
+    go (j ∷ []) alone q = named j (has_dimension_name c j w) alone refl q
+    go (j ∷ k ∷ ids) alone q = absurd cc
 
 pub own_alone : (c : Contents) (w : Variable) (i : ℕ) → own_dimension c w ≡ Some i → element_dimensions c w ≡ i ∷ []
-own_alone c w i e = let g = own_facts c w i e in without_texts c w g.1 ∙ g.0
+own_alone c w i e = let g = own_facts c w i e in without_texts c w g.plain ∙ g.alone
+
+pub own_offered : (c : Contents) (w : Variable) (i : ℕ) → own_dimension c w ≡ Some i → is_offered c w ≡ true
+own_offered c w i e = (own_facts c w i e).offered

@@ -17,12 +17,15 @@ use Rattle.dap_types.specs.declared.declarations.Dim.{Dim}
 use Rattle.dap_model.specs.Grammar.{are_words}
 use Rattle.dap_model.specs.Tokens.{is_word, is_plain}
 use Rattle.file_names.specs.Names.{segment, dataset_name_byte}
-use Rattle.netcdf_source.specs.Fields.{Field, word, long, run, unread, Fault, failure, Judged, Spells, Ends}
+use Rattle.netcdf_source.specs.Fields.{Field, number, run, Fault, failure, Judged, Spells, Ends}
 use Rattle.netcdf_source.specs.Grammar.{VariableTree, HeaderTree, attribute, variable, contents, in_turn, list_fields, dimension_fields, attribute_fields, variable_fields, header_fields, name_fault}
 use Rattle.netcdf_source.specs.Header.{magic}
 use Rattle.netcdf_source.specs.Laws.{DatasetHasWords}
 use Rattle.netcdf_source.specs.Mapping.{has_texts, element_dimensions, is_offered, coordinate_at, is_empty, is_grid, name_at, dim_of, column_of, array_of, maps_of, member_of}
 use Rattle.netcdf_source.specs.inner.Sound.{InTurn, IsId, IsVariable, IsSound}
+use Rattle.netcdf_source.specs.Versions.{number_width}
+use Rattle.netcdf_source.specs.declared.version.Version.{Version}
+use Rattle.netcdf_source.specs.declared.version.Width.{Width}
 use Rattle.netcdf_source.specs.declared.header.Contents.{Contents}
 use Rattle.netcdf_source.specs.declared.header.Dimension.{Dimension}
 use Rattle.netcdf_source.specs.declared.header.Variable.{Variable}
@@ -120,10 +123,8 @@ front_bytes (b ∷ front) rest h zero = h 0
 front_bytes (b ∷ front) rest h (suc i) = front_bytes front rest (λ k. h (suc k)) i
 
 spelled_bytes : (field : Field) (bs : List ℕ) → IsBytes bs → Spells field bs → HasBytes field
-spelled_bytes (word n) bs fits s = tt
-spelled_bytes (long n) bs fits s = tt
+spelled_bytes (number width n) bs fits s = tt
 spelled_bytes (run n xs) bs fits s = front_bytes xs s.0 (subst IsBytes s.3 fits)
-spelled_bytes unread bs fits s = tt
 
 whole_ends : (js : List Judged) (bytes rest : List ℕ) → IsBytes bytes → Ends js bytes (Ok rest) → AreWhole js
 unfolding Ends
@@ -167,11 +168,11 @@ name_good [] e bytes = absurd (no (bad_if-none true 0 e))
     no q = cc
 name_good (b ∷ name) e bytes = (omega arith, bytes)
 
-dimension_named : (before : List Dimension) (d : Dimension) → AreWhole (dimension_fields before d) → IsName d.name
+dimension_named : (width : Width) (before : List Dimension) (d : Dimension) → AreWhole (dimension_fields width before d) → IsName d.name
 unfolding dimension_fields
-dimension_named before d h = name_good d.name h.0 h.2.1
+dimension_named width before d h = name_good d.name h.0 h.2.1
 
-variable_named : (version : ℕ) (dims : List Dimension) (before : List Variable) (v : VariableTree) → AreWhole (variable_fields version dims before v) → IsName v.name
+variable_named : (version : Version) (dims : List Dimension) (before : List Variable) (v : VariableTree) → AreWhole (variable_fields version dims before v) → IsName v.name
 unfolding variable_fields
 variable_named version dims before v h = name_good v.name h.0 h.2.1
 
@@ -187,16 +188,17 @@ each_same (d ∷ ds) h = (h.0, each_same ds h.1)
 header_named : (h : HeaderTree) → AreWhole (header_fields h) → AreNamed (contents h)
 unfolding header_fields
 header_named h whole =
+    let width = number_width h.version in
     let dims = h.dimensions.items in
-    let d = list_fields 10 dimension_fields (λ x. x) h.dimensions in
-    let a = list_fields 12 attribute_fields attribute h.attributes in
-    let v = list_fields 11 (variable_fields h.version dims) variable h.variables in
+    let d = list_fields width 10 (dimension_fields width) (λ x. x) h.dimensions in
+    let a = list_fields width 12 (attribute_fields h.version) attribute h.attributes in
+    let v = list_fields width 11 (variable_fields h.version dims) variable h.variables in
     let after_dims = whole_back d (more2 h.version dims h.attributes h.variables) whole.2 in
     let after_attributes = whole_back a (more3 h.version dims h.variables) after_dims in
     let of_dims = whole_front d (more2 h.version dims h.attributes h.variables) whole.2 in
     let of_variables = whole_front v [] after_attributes in
     record {
-      dimensions = each_same dims (each_item dimension_fields (λ x. x) (λ x. IsName x.name) dimension_named [] dims of_dims.2.2);
+      dimensions = each_same dims (each_item (dimension_fields width) (λ x. x) (λ x. IsName x.name) (dimension_named width) [] dims of_dims.2.2);
       variables = each_item (variable_fields h.version dims) variable (λ x. IsName x.name) (variable_named h.version dims) [] h.variables.items of_variables.2.2;
     }
 

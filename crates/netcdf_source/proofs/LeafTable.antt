@@ -1,12 +1,14 @@
 -- The variable of a leaf, by the table of the leaves.
-use Rattle.std.proofs.Common.{◌≡◌, ℕ, zero, suc, ◌<◌, length, get_or, arith, Bool, false, List, [], ◌∷◌, map, Option, Some, None, refl, sym, ap, ◌∙◌}
+use Rattle.std.proofs.Common.{◌≡◌, ℕ, zero, suc, ◌<◌, length, get_or, arith, Bool, true, false, cond, List, [], ◌∷◌, map, Option, Some, None, refl, sym, ap, ◌∙◌}
 use Rattle.std.specs.Prelude.{option_map, option_and_then, slice_get}
 use Rattle.std.specs.Option.{option_map_or}
 use Rattle.dap_types.specs.declared.slabs.Layout.{Layout}
 use Rattle.netcdf_source.specs.Layouts.{layout_of}
-use Rattle.netcdf_source.specs.Mapping.{base_of, is_char, leaf_in, leaves_from, leaf_variable}
+use Rattle.netcdf_source.specs.Mapping.{base_of, is_offered, leaf_in, leaves_from, leaf_variable}
 use Rattle.dap_types.specs.declared.declarations.BaseType.{BaseType}
+use Rattle.netcdf_source.specs.inner.Told.{no_layout, told_layout}
 use Rattle.netcdf_source.specs.declared.header.Contents.{Contents}
+use Rattle.netcdf_source.specs.declared.header.Variable.{Variable}
 
 pub slice_get-map : {X Y : Type 0} (f : X → Y) (xs : List X) (i : ℕ) → slice_get (map f xs) i ≡ option_map f (slice_get xs i)
 slice_get-map f [] i = refl
@@ -17,20 +19,32 @@ variable_is : (c : Contents) (leaves : List (Option ℕ)) (leaf : ℕ) (found : 
 unfolding leaf_variable
 variable_is c leaves leaf found e is = ap (option_and_then (slice_get c.variables)) (ap (λ ls. leaf_in ls leaf) (sym e) ∙ is)
 
-pub layout_found : (c : Contents) (leaves : List (Option ℕ)) (layouts : List Layout) (leaf number : ℕ) (r : Option Layout)
-    → leaves ≡ leaves_from c 0 c.variables → layouts ≡ map (layout_of c) c.variables → leaf_in leaves leaf ≡ Some number → r ≡ slice_get layouts number → r ≡ option_map (layout_of c) (leaf_variable c leaf)
-layout_found c leaves layouts leaf number r e l is at =
-    at ∙ ap (λ ls. slice_get ls number) l ∙ slice_get-map (layout_of c) c.variables number ∙ ap (option_map (layout_of c)) (sym (variable_is c leaves leaf (Some number) e is))
+-- a header's layout of a variable that is offered is that of the variable
+told_is : (c : Contents) (o : Option Variable) → ((v : Variable) → o ≡ Some v → is_offered c v ≡ true) → option_map (told_layout c) o ≡ option_map (layout_of c) o
+unfolding told_layout
+told_is c None told = refl
+told_is c (Some v) told = ap Some (is (is_offered c v) (told v refl))
+  where
+    is : (b : Bool) → b ≡ true → cond b (layout_of c v) no_layout ≡ layout_of c v
+    is true e = refl
+    is false e = absurd cc
+
+pub layout_found : (c : Contents) (leaves : List (Option ℕ)) (layouts : List Layout) (leaf number : ℕ) (r : Option Layout) → ((v : Variable) → slice_get c.variables number ≡ Some v → is_offered c v ≡ true)
+    → leaves ≡ leaves_from c 0 c.variables → layouts ≡ map (told_layout c) c.variables → leaf_in leaves leaf ≡ Some number → r ≡ slice_get layouts number → r ≡ option_map (layout_of c) (leaf_variable c leaf)
+layout_found c leaves layouts leaf number r told e l is at =
+    at ∙ ap (λ ls. slice_get ls number) l ∙ slice_get-map (told_layout c) c.variables number ∙ told_is c (slice_get c.variables number) told
+    ∙ ap (option_map (layout_of c)) (sym (variable_is c leaves leaf (Some number) e is))
 
 pub layout_none : (c : Contents) (leaves : List (Option ℕ)) (leaf : ℕ) → leaves ≡ leaves_from c 0 c.variables → leaf_in leaves leaf ≡ None → option_map (layout_of c) (leaf_variable c leaf) ≡ None
 layout_none c leaves leaf e is = ap (option_map (layout_of c)) (variable_is c leaves leaf None e is)
 
-pub char_found : (c : Contents) (leaves : List (Option ℕ)) (leaf number : ℕ) (r : Bool)
-    → leaves ≡ leaves_from c 0 c.variables → leaf_in leaves leaf ≡ Some number → r ≡ option_map_or is_char (slice_get c.variables number) false → r ≡ option_map_or is_char (leaf_variable c leaf) false
-char_found c leaves leaf number r e is at = at ∙ ap (λ o. option_map_or is_char o false) (sym (variable_is c leaves leaf (Some number) e is))
+-- a test of a leaf's variable
+pub test_found : (p : Variable → Bool) (c : Contents) (leaves : List (Option ℕ)) (leaf number : ℕ) (r : Bool)
+    → leaves ≡ leaves_from c 0 c.variables → leaf_in leaves leaf ≡ Some number → r ≡ option_map_or p (slice_get c.variables number) false → r ≡ option_map_or p (leaf_variable c leaf) false
+test_found p c leaves leaf number r e is at = at ∙ ap (λ o. option_map_or p o false) (sym (variable_is c leaves leaf (Some number) e is))
 
-pub char_none : (c : Contents) (leaves : List (Option ℕ)) (leaf : ℕ) → leaves ≡ leaves_from c 0 c.variables → leaf_in leaves leaf ≡ None → option_map_or is_char (leaf_variable c leaf) false ≡ false
-char_none c leaves leaf e is = ap (λ o. option_map_or is_char o false) (variable_is c leaves leaf None e is)
+pub test_none : (p : Variable → Bool) (c : Contents) (leaves : List (Option ℕ)) (leaf : ℕ) → leaves ≡ leaves_from c 0 c.variables → leaf_in leaves leaf ≡ None → option_map_or p (leaf_variable c leaf) false ≡ false
+test_none p c leaves leaf e is = ap (λ o. option_map_or p o false) (variable_is c leaves leaf None e is)
 
 pub base_found : (c : Contents) (leaves : List (Option ℕ)) (leaf number : ℕ) (r : Option BaseType)
     → leaves ≡ leaves_from c 0 c.variables → leaf_in leaves leaf ≡ Some number → r ≡ option_map (λ v. base_of v.external_type) (slice_get c.variables number) → r ≡ option_map (λ v. base_of v.external_type) (leaf_variable c leaf)

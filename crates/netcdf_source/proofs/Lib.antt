@@ -14,6 +14,7 @@ pub mod DimensionNames
 pub mod Placed
 pub mod EscapedNames
 pub mod GridMaps
+pub mod Offered
 pub mod MapNames
 pub mod WellFormed
 pub mod Members
@@ -27,3 +28,7 @@ pub mod NewNames
 pub mod Counted
 pub mod OneVerdict
 pub mod HeaderNames
+pub mod SameShapes
+pub mod Longer
+pub mod Joined
+pub mod Fronts

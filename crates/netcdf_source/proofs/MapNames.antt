@@ -6,20 +6,20 @@ use Rattle.std.specs.Str.{bytes_eq}
 use Rattle.std.proofs.lemmas.Slice.Eq.{bytes_eq-Decides}
 use Rattle.dap_types.specs.Names.{file_id}
 use Rattle.dap_model.proofs.Tests.{both_true}
-use Rattle.netcdf_source.specs.Mapping.{is_char, name_at, dimension_ids, has_dimension_name, own_dimension_in, own_dimension, coordinate_at, coordinate_variable}
+use Rattle.netcdf_source.specs.Mapping.{is_char, is_offered, name_at, dimension_ids, has_dimension_name, own_dimension_in, own_dimension, coordinate_at, coordinate_variable}
 use Rattle.netcdf_source.specs.declared.header.Contents.{Contents}
 use Rattle.netcdf_source.specs.declared.header.Dimension.{Dimension}
 use Rattle.netcdf_source.specs.declared.header.Variable.{Variable}
 use Rattle.netcdf_source.proofs.DimensionNames.{name_found}
-use Rattle.netcdf_source.proofs.GridMaps.{coordinate_found}
+use Rattle.netcdf_source.proofs.GridMaps.{coordinate_found, own_offered}
 
 own_name : (c : Contents) (w : Variable) (i : ℕ) → own_dimension c w ≡ Some i → name_at c i ≡ w.name
 unfolding own_dimension name_at
 own_name c w i e = go w.dimensions e
   where
-    found : (o : Option Dimension) → option_map_or (λ d. not (is_char w) && bytes_eq w.name d.name) o false ≡ true → option_map_or (λ d. d.name) o [] ≡ w.name
+    found : (o : Option Dimension) → option_map_or (λ d. is_offered c w && not (is_char w) && bytes_eq w.name d.name) o false ≡ true → option_map_or (λ d. d.name) o [] ≡ w.name
     found None q = absurd cc
-    found (Some d) q = sym ((bytes_eq-Decides w.name d.name).0 (both_true (not (is_char w)) (bytes_eq w.name d.name) q).1)
+    found (Some d) q = sym ((bytes_eq-Decides w.name d.name).0 (both_true (is_offered c w && not (is_char w)) (bytes_eq w.name d.name) q).1)
 
     named : (j : ℕ) (b : Bool) → has_dimension_name c j w ≡ b → cond b (Some j) None ≡ Some i → name_at c i ≡ w.name
     named j true is q =
@@ -47,5 +47,16 @@ coordinate_name c i w e = go (coordinate_at c i) refl e
 
 pub map_name : (c : Contents) (names : List (List ℕ)) (i : ℕ) (w : Variable) → names ≡ dimension_ids c → coordinate_variable c i ≡ Some w → option_map_or (λ name. name) (slice_get names i) [] ≡ file_id w.name
 map_name c names i w all e = name_found c names i all ∙ ap file_id (coordinate_name c i w e)
+
+-- and is offered
+pub map_offered : (c : Contents) (i : ℕ) (w : Variable) → coordinate_variable c i ≡ Some w → is_offered c w ≡ true
+map_offered c i w e = go (coordinate_at c i) refl e
+  where
+    go : (o : Option ℕ) → coordinate_at c i ≡ o → option_and_then (slice_get c.variables) o ≡ Some w → is_offered c w ≡ true
+    go None at q = absurd cc
+    go (Some k) at q =
+        let f = coordinate_found c i (ap is_some at) in
+        let same : f.0 ≡ w = some_same (sym f.1 ∙ e) in
+        subst (λ v. is_offered c v ≡ true) same (own_offered c f.0 i f.2.1)
 
 pub ruleset map_names = (map_name)

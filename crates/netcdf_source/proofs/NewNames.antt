@@ -12,6 +12,9 @@ use Rattle.dap_types.specs.NameSet.{AreSameNames}
 use Rattle.netcdf_source.specs.Fields.{bad_if}
 use Rattle.netcdf_source.specs.Grammar.{name_fault, repeat_fault}
 use Rattle.netcdf_source.specs.inner.Reading.{◌>>=◌, passed, judged_at, run_at, new_name_at, dimension_at, variable_at}
+use Rattle.netcdf_source.specs.Versions.{bytes_in, number_width}
+use Rattle.netcdf_source.specs.declared.version.Version.{Version}
+use Rattle.netcdf_source.specs.declared.version.Width.{Width}
 use Rattle.netcdf_source.specs.declared.header.Dimension.{Dimension}
 use Rattle.netcdf_source.specs.declared.stop.Failure.{Failure}
 
@@ -35,30 +38,31 @@ seen name (x ∷ names) =
     seen_before name x names (insert_key (λ x y. slice_cmp nat_cmp x.now y.now) names name) (slice_cmp nat_cmp name.now x.now)
     ∙ ap (λ l. match_ordering (slice_cmp nat_cmp name.now x.now) (name.now ∷ x.now ∷ map (λ k. k.now) names) (x.now ∷ map (λ k. k.now) names) (x.now ∷ l)) (seen name names)
 
-module _ (earlier others : List (List ℕ)) (same : AreSameNames earlier others) where
-  same_repeat : (name : List ℕ) → repeat_fault earlier name ≡ repeat_fault others name
+module _ (width : Width) (earlier others : List (List ℕ)) (same : AreSameNames earlier others) where
+  same_repeat : (name : List ℕ) → repeat_fault width earlier name ≡ repeat_fault width others name
   unfolding repeat_fault
-  same_repeat name = ap (λ b. bad_if b 4) (same name)
+  same_repeat name = ap (λ b. bad_if b (bytes_in width)) (same name)
 
   same_run : (n : ℕ) (bytes : List ℕ) (r : Result (List ℕ × List ℕ) Failure)
-      → (r >>= λ name. passed (repeat_fault earlier name.0) n name) ≡ (r >>= λ name. passed (repeat_fault others name.0) n name)
+      → (r >>= λ name. passed (repeat_fault width earlier name.0) n name) ≡ (r >>= λ name. passed (repeat_fault width others name.0) n name)
   same_run n bytes (Err e) = refl
   same_run n bytes (Ok name) = ap (λ f. passed f n name) (same_repeat name.0)
 
   same_length : (r : Result (ℕ × List ℕ) Failure)
-      → (r >>= λ n. run_at n.0 n.1 >>= λ name. passed (repeat_fault earlier name.0) (length n.1) name)
-      ≡ (r >>= λ n. run_at n.0 n.1 >>= λ name. passed (repeat_fault others name.0) (length n.1) name)
+      → (r >>= λ n. run_at n.0 n.1 >>= λ name. passed (repeat_fault width earlier name.0) (length n.1) name)
+      ≡ (r >>= λ n. run_at n.0 n.1 >>= λ name. passed (repeat_fault width others name.0) (length n.1) name)
   same_length (Err e) = refl
   same_length (Ok n) = same_run (length n.1) n.1 (run_at n.0 n.1)
 
-  same_name : (bytes : List ℕ) → new_name_at earlier bytes ≡ new_name_at others bytes
+  pub same_name : (bytes : List ℕ) → new_name_at width earlier bytes ≡ new_name_at width others bytes
   unfolding new_name_at
-  same_name bytes = same_length (judged_at name_fault bytes)
+  same_name bytes = same_length (judged_at width name_fault bytes)
 
-  pub same_dimension : (has_records : Bool) (bytes : List ℕ) → dimension_at earlier has_records bytes ≡ dimension_at others has_records bytes
+  pub same_dimension : (has_records : Bool) (bytes : List ℕ) → dimension_at width earlier has_records bytes ≡ dimension_at width others has_records bytes
   unfolding dimension_at
   same_dimension has_records bytes = rw (same_name bytes) refl
 
-  pub same_variable : (version : ℕ) (dims : List Dimension) (sum : ℕ) (bytes : List ℕ) → variable_at version dims earlier sum bytes ≡ variable_at version dims others sum bytes
-  unfolding variable_at
-  same_variable version dims sum bytes = rw (same_name bytes) refl
+pub same_variable : (version : Version) (earlier others : List (List ℕ)) (same : AreSameNames earlier others) (dims : List Dimension) (sum : ℕ) (bytes : List ℕ)
+    → variable_at version dims earlier sum bytes ≡ variable_at version dims others sum bytes
+unfolding variable_at
+same_variable version earlier others same dims sum bytes = rw (same_name (number_width version) earlier others same bytes) refl

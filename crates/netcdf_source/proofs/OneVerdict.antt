@@ -1,10 +1,13 @@
 -- Bytes are one header, or have one first cause.
-use Rattle.std.proofs.Common.{◌≡◌, ℕ, ◌⊎◌, inl, inr, Bool, true, false, ltb, eqb, List, [], ◌∷◌, length, Option, Some, None, Result, Ok, Err, refl, sym, ap, subst, ◌∙◌}
+use Rattle.std.proofs.Common.{◌≡◌, ℕ, ◌⊎◌, inl, inr, Bool, true, false, ltb, eqb, List, [], ◌∷◌, ◌++◌, length, Option, Some, None, Result, Ok, Err, refl, sym, ap, subst, ◌∙◌}
 use Rattle.std.proofs.lemmas.Bool.{ltb-true, ltb-false}
 use Rattle.std.proofs.lemmas.Bool.Decides.{Decides-eqb}
 use Rattle.netcdf_source.specs.Fields.{Ends}
 use Rattle.netcdf_source.specs.Grammar.{contents, header_fields}
-use Rattle.netcdf_source.specs.Header.{magic, IsVersion, version_of, HasNoMagic, judgement}
+use Rattle.netcdf_source.specs.Header.{magic, HasNoMagic}
+use Rattle.netcdf_source.specs.inner.Answering.{version_of, judgement}
+use Rattle.netcdf_source.specs.declared.version.Version.{Version}
+use Rattle.netcdf_source.specs.declared.version.Version.TheVariants.{One, Two, Five}
 use Rattle.netcdf_source.specs.Laws.{IsVerdict, OneVerdict, EachHasVerdict}
 use Rattle.netcdf_source.specs.Parts.{past_end}
 use Rattle.netcdf_source.specs.inner.Reading.{contents_at}
@@ -20,11 +23,11 @@ use Rattle.netcdf_source.proofs.Verdict.{Front, no_magic, read_along, first_verd
 
 -- ---- at most one
 
-abbrev Judgement : ℕ → List ℕ → List ℕ → ℕ → Result Contents HeaderRefusal
+abbrev Judgement : Version → List ℕ → List ℕ → ℕ → Result Contents HeaderRefusal
 Judgement version body front file_len = judgement (contents_at version body) (length front) file_len
 
 -- behind a magic a verdict is what is read
-read_verdict : (version : ℕ) (body front : List ℕ) (file_len : ℕ) → Front version body front → (r : Result Contents HeaderRefusal) → IsVerdict front file_len r → Judgement version body front file_len ≡ r
+read_verdict : (version : Version) (body front : List ℕ) (file_len : ℕ) → Front version body front → (r : Result Contents HeaderRefusal) → IsVerdict front file_len r → Judgement version body front file_len ≡ r
 read_verdict version body front file_len f (Ok c) is =
     let read = read_along is.0 version body front (Ok is.1) f is.2 in
     let none : past_end (contents is.0) file_len ≡ None = subst (λ x. past_end x file_len ≡ None) (sym is.3) is.4 in
@@ -34,19 +37,19 @@ read_verdict version body front file_len f (Err cause) is = first_verdict cause 
 -- without a magic there is one alone
 magic_alone : (front : List ℕ) (file_len : ℕ) → HasNoMagic front → (r : Result Contents HeaderRefusal) → IsVerdict front file_len r → r ≡ Err refusals.NotCdf
 unfolding HasNoMagic
-magic_alone front file_len none (Ok c) is = absurd (none is.0.version is.2.body is.2.version is.2.begins)
+magic_alone front file_len none (Ok c) is = absurd (none is.0.version is.2.body is.2.begins)
 magic_alone front file_len none (Err refusals.NotCdf) is = refl
-magic_alone front file_len none (Err refusals.HeaderCut) is = absurd (none is.0.version is.1.body is.1.version is.1.begins)
-magic_alone front file_len none (Err refusals.HeaderTooLong) is = absurd (none is.0.version is.1.body is.1.version is.1.begins)
-magic_alone front file_len none (Err refusals.Streaming) is = absurd (none is.0.version is.1.body is.1.version is.1.begins)
-magic_alone front file_len none (Err (refusals.BadField place)) is = absurd (none is.0.version is.2.body is.2.version is.2.begins)
-magic_alone front file_len none (Err (refusals.PastEnd var)) is = absurd (none is.0.version is.2.body is.2.version is.2.begins)
+magic_alone front file_len none (Err refusals.HeaderCut) is = absurd (none is.0.version is.1.body is.1.begins)
+magic_alone front file_len none (Err refusals.HeaderTooLong) is = absurd (none is.0.version is.1.body is.1.begins)
+magic_alone front file_len none (Err refusals.Streaming) is = absurd (none is.0.version is.1.body is.1.begins)
+magic_alone front file_len none (Err (refusals.BadField place)) is = absurd (none is.0.version is.2.body is.2.begins)
+magic_alone front file_len none (Err (refusals.PastEnd var)) is = absurd (none is.0.version is.2.body is.2.begins)
 magic_alone front file_len none (Err refusals.Memory) is = absurd is
 
 -- ---- the magic
 
 abbrev Split : List ℕ → Type 0
-Split front = ((version : ℕ) × (body : List ℕ) × Front version body front) ⊎ HasNoMagic front
+Split front = ((version : Version) × (body : List ℕ) × Front version body front) ⊎ HasNoMagic front
 
 -- a magic stands in front, or none does
 split : (front : List ℕ) → Split front
@@ -54,24 +57,28 @@ split [] = inr (no_magic [] refl)
 split (a ∷ []) = inr (no_magic (a ∷ []) refl)
 split (a ∷ b ∷ []) = inr (no_magic (a ∷ b ∷ []) refl)
 split (a ∷ b ∷ c ∷ []) = inr (no_magic (a ∷ b ∷ c ∷ []) refl)
-split (a ∷ b ∷ c ∷ v ∷ body) = first (eqb a 0x43) (eqb b 0x44) (eqb c 0x46) (eqb v 1) (eqb v 2) refl refl refl refl refl
+split (a ∷ b ∷ c ∷ v ∷ body) = first (eqb a 0x43) (eqb b 0x44) (eqb c 0x46) refl refl refl
   where
     same : (x y : ℕ) → eqb x y ≡ true → x ≡ y
     same x y e = (Decides-eqb x y).0 e
 
+    front_is : (n : ℕ) (version : Version) → a ≡ 0x43 → b ≡ 0x44 → c ≡ 0x46 → v ≡ n → 0x43 ∷ 0x44 ∷ 0x46 ∷ n ∷ [] ≡ magic version → Split (a ∷ b ∷ c ∷ v ∷ body)
+    front_is n version ea eb ec ev is = inl (version, body, record { begins = rw (ea, eb, ec, ev) (ap (λ (m : List ℕ). m ++ body) is) })
+
     none : version_of a b c v ≡ None → Split (a ∷ b ∷ c ∷ v ∷ body)
     none e = inr (no_magic (a ∷ b ∷ c ∷ v ∷ body) e)
 
-    front_is : (w : ℕ) → a ≡ 0x43 → b ≡ 0x44 → c ≡ 0x46 → v ≡ w → IsVersion w → Split (a ∷ b ∷ c ∷ v ∷ body)
-    front_is w ea eb ec ev is = inl (w, body, record { version_is = is; begins = rw (ea, eb, ec, ev) refl })
+    of_byte : eqb a 0x43 ≡ true → eqb b 0x44 ≡ true → eqb c 0x46 ≡ true → (one two five : Bool) → eqb v 1 ≡ one → eqb v 2 ≡ two → eqb v 5 ≡ five → Split (a ∷ b ∷ c ∷ v ∷ body)
+    of_byte ea eb ec true two five e1 e2 e5 = front_is 1 One (same _ _ ea) (same _ _ eb) (same _ _ ec) (same _ _ e1) refl
+    of_byte ea eb ec false true five e1 e2 e5 = front_is 2 Two (same _ _ ea) (same _ _ eb) (same _ _ ec) (same _ _ e2) refl
+    of_byte ea eb ec false false true e1 e2 e5 = front_is 5 Five (same _ _ ea) (same _ _ eb) (same _ _ ec) (same _ _ e5) refl
+    of_byte ea eb ec false false false e1 e2 e5 = none (rw (ea, eb, ec, e1, e2, e5) refl)
 
-    first : (ta tb tc one two : Bool) → eqb a 0x43 ≡ ta → eqb b 0x44 ≡ tb → eqb c 0x46 ≡ tc → eqb v 1 ≡ one → eqb v 2 ≡ two → Split (a ∷ b ∷ c ∷ v ∷ body)
-    first false tb tc one two ea eb ec e1 e2 = none (rw ea refl)
-    first true false tc one two ea eb ec e1 e2 = none (rw (ea, eb) refl)
-    first true true false one two ea eb ec e1 e2 = none (rw (ea, eb, ec) refl)
-    first true true true true two ea eb ec e1 e2 = front_is 1 (same _ _ ea) (same _ _ eb) (same _ _ ec) (same _ _ e1) (inl refl)
-    first true true true false true ea eb ec e1 e2 = front_is 2 (same _ _ ea) (same _ _ eb) (same _ _ ec) (same _ _ e2) (inr refl)
-    first true true true false false ea eb ec e1 e2 = none (rw (ea, eb, ec, e1, e2) refl)
+    first : (ta tb tc : Bool) → eqb a 0x43 ≡ ta → eqb b 0x44 ≡ tb → eqb c 0x46 ≡ tc → Split (a ∷ b ∷ c ∷ v ∷ body)
+    first false tb tc ea eb ec = none (rw ea refl)
+    first true false tc ea eb ec = none (rw (ea, eb) refl)
+    first true true false ea eb ec = none (rw (ea, eb, ec) refl)
+    first true true true ea eb ec = of_byte ea eb ec (eqb v 1) (eqb v 2) (eqb v 5) refl refl refl
 
 pub one_verdict : OneVerdict
 one_verdict front file_len one other is also = elim (split front) [
@@ -84,7 +91,7 @@ one_verdict front file_len one other is also = elim (split front) [
 abbrev Some-verdict : List ℕ → ℕ → Type 0
 Some-verdict front file_len = (r : Result Contents HeaderRefusal) × IsVerdict front file_len r
 
-behind_magic : (version : ℕ) (body front : List ℕ) (file_len : ℕ) → IsBytes body → Front version body front → Some-verdict front file_len
+behind_magic : (version : Version) (body front : List ℕ) (file_len : ℕ) → IsBytes body → Front version body front → Some-verdict front file_len
 behind_magic version body front file_len fits f =
     let s = (header_sound version).found body fits in
     go s.0 s.1 s.2

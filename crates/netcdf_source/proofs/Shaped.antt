@@ -11,11 +11,11 @@ use Rattle.netcdf_source.specs.Parts.{length_at, lengths, inner, part, record_si
 use Rattle.netcdf_source.specs.inner.Sound.{InTurn, IsVariable, IsSound}
 use Rattle.netcdf_source.specs.Types.{size_of}
 use Rattle.netcdf_source.specs.declared.external_type.ExternalType.{ExternalType}
-use Rattle.netcdf_source.specs.declared.external_type.ExternalType.TheVariants.{Byte, Char, Short, Int, Float, Double}
+use Rattle.netcdf_source.specs.declared.external_type.ExternalType.TheVariants.{Byte, Char, Short, Int, Float, Double, UByte, UShort, UInt, Int64, UInt64}
 use Rattle.netcdf_source.specs.declared.header.Contents.{Contents}
 use Rattle.netcdf_source.specs.declared.header.Variable.{Variable}
-use Rattle.netcdf_source.proofs.Fitting.{offered_size}
-use Rattle.netcdf_source.proofs.GridMaps.{coordinate_found, own_facts, at_front}
+use Rattle.netcdf_source.proofs.Offered.{offered_size}
+use Rattle.netcdf_source.proofs.GridMaps.{coordinate_found, own_offered, at_front}
 use Rattle.netcdf_source.proofs.Steps.{ArePositive, element_part, inner_positive, length_of_map}
 
 -- ---- steps
@@ -54,6 +54,11 @@ type_size Short = (omega arith, omega arith)
 type_size Int = (omega arith, omega arith)
 type_size Float = (omega arith, omega arith)
 type_size Double = (omega arith, omega arith)
+type_size UByte = (omega arith, omega arith)
+type_size UShort = (omega arith, omega arith)
+type_size UInt = (omega arith, omega arith)
+type_size Int64 = (omega arith, omega arith)
+type_size UInt64 = (omega arith, omega arith)
 
 product_positive : (ns : List ℕ) → ArePositive ns → 1 ≤ product ns
 product_positive [] h = omega arith
@@ -88,67 +93,77 @@ turn_size c before (w ∷ vs) zero v h at = subst (λ x. 0 < element_size c x) (
     some_is x y q = cc
 turn_size c before (w ∷ vs) (suc k) v h at = turn_size c (before ++ w ∷ []) vs k v h.1 at
 
--- ---- leaves have few bytes
+-- ---- leaves are offered
 
-abbrev IsSmall : Contents → Option ℕ → Type 0
-IsSmall c o = (k : ℕ) (v : Variable) → o ≡ Some k → slice_get c.variables k ≡ Some v → element_size c v ≤ 65536
+abbrev pub IsTold : Contents → Option ℕ → Type 0
+IsTold c o = (k : ℕ) (v : Variable) → o ≡ Some k → slice_get c.variables k ≡ Some v → is_offered c v ≡ true
 
-coordinate_small : (c : Contents) (i : ℕ) → IsSmall c (coordinate_at c i)
-coordinate_small c i k v e at =
+coordinate_told : (c : Contents) (i : ℕ) → IsTold c (coordinate_at c i)
+coordinate_told c i k v e at =
     let f = coordinate_found c i (ap is_some e) in
     let same : Path (Option Variable) (Some f.0) (Some v) = sym f.1 ∙ ap (option_and_then (slice_get c.variables)) e ∙ at in
-    let found : f.0 ≡ v = some_is f.0 v same in
-    let plain : element_size c f.0 ≡ size_of f.0.external_type = plain_size c f.0 (own_facts c f.0 i f.2.1).1 in
-    subst (λ w. element_size c w ≤ 65536) found (omega (arith, plain, (type_size f.0.external_type).1))
+    subst (λ w. is_offered c w ≡ true) (some_is f.0 v same) (own_offered c f.0 i f.2.1)
   where
     some_is : (x y : Variable) → Path (Option Variable) (Some x) (Some y) → x ≡ y
     some_is x y q = cc
 
-coordinates_small : (c : Contents) (ids : List ℕ) → AllByRecursion (IsSmall c) (map (coordinate_at c) ids)
-coordinates_small c [] = tt
-coordinates_small c (i ∷ ids) = (coordinate_small c i, coordinates_small c ids)
+coordinates_told : (c : Contents) (ids : List ℕ) → AllByRecursion (IsTold c) (map (coordinate_at c) ids)
+coordinates_told c [] = tt
+coordinates_told c (i ∷ ids) = (coordinate_told c i, coordinates_told c ids)
 
-own_small : (c : Contents) (k : ℕ) (v : Variable) → slice_get c.variables k ≡ Some v → element_size c v ≤ 65536 → IsSmall c (Some k)
-own_small c k v at few l w e at' =
+own_told : (c : Contents) (k : ℕ) (v : Variable) → slice_get c.variables k ≡ Some v → is_offered c v ≡ true → IsTold c (Some k)
+own_told c k v at told l w e at' =
     let number : k ≡ l = cc in
     let same : v ≡ w = some_is v w (sym at ∙ ap (slice_get c.variables) number ∙ at') in
-    subst (λ x. element_size c x ≤ 65536) same few
+    subst (λ x. is_offered c x ≡ true) same told
   where
     some_is : (x y : Variable) → Path (Option Variable) (Some x) (Some y) → x ≡ y
     some_is x y q = cc
 
-both_small : (c : Contents) (xs ys : List (Option ℕ)) → AllByRecursion (IsSmall c) xs → AllByRecursion (IsSmall c) ys → AllByRecursion (IsSmall c) (xs ++ ys)
-both_small c [] ys h k = k
-both_small c (x ∷ xs) ys h k = (h.0, both_small c xs ys h.1 k)
+both_told : (c : Contents) (xs ys : List (Option ℕ)) → AllByRecursion (IsTold c) xs → AllByRecursion (IsTold c) ys → AllByRecursion (IsTold c) (xs ++ ys)
+both_told c [] ys h k = k
+both_told c (x ∷ xs) ys h k = (h.0, both_told c xs ys h.1 k)
 
-none_small : (c : Contents) → IsSmall c None
-none_small c k v e at = absurd cc
+none_told : (c : Contents) → IsTold c None
+none_told c k v e at = absurd cc
 
-leaves_small : (c : Contents) (before vs : List Variable) (k : ℕ) → c.variables ≡ before ++ vs → length before ≡ k → AllByRecursion (IsSmall c) (leaves_from c k vs)
+leaves_told : (c : Contents) (before vs : List Variable) (k : ℕ) → c.variables ≡ before ++ vs → length before ≡ k → AllByRecursion (IsTold c) (leaves_from c k vs)
 unfolding leaves_from
-leaves_small c before [] k whole len = tt
-leaves_small c before (v ∷ vs) k whole len =
+leaves_told c before [] k whole len = tt
+leaves_told c before (v ∷ vs) k whole len =
     let later : c.variables ≡ (before ++ v ∷ []) ++ vs = whole ∙ sym (append_assoc before (v ∷ []) vs) in
     let next : length (before ++ v ∷ []) ≡ k + 1 = omega (arith, len, length-append before (v ∷ [])) in
     let at : slice_get c.variables k ≡ Some v = ap (λ xs. slice_get xs k) whole ∙ ap (slice_get (before ++ v ∷ vs)) (sym len) ∙ at_front before vs v in
-    both_small c (cond (is_offered c v) (leaves_of c k v) []) (leaves_from c (k + 1) vs) (here (is_offered c v) refl (is_grid c v) at) (leaves_small c (before ++ v ∷ []) vs (k + 1) later next)
+    both_told c (cond (is_offered c v) (leaves_of c k v) []) (leaves_from c (k + 1) vs) (here (is_offered c v) refl (is_grid c v) at) (leaves_told c (before ++ v ∷ []) vs (k + 1) later next)
   where
-    here : (b : Bool) → is_offered c v ≡ b → (g : Bool) → slice_get c.variables k ≡ Some v → AllByRecursion (IsSmall c) (cond b (cond g (None ∷ Some k ∷ map (coordinate_at c) v.dimensions) (Some k ∷ [])) [])
-    here true e true at = (none_small c, (own_small c k v at (offered_size c v e), coordinates_small c v.dimensions))
-    here true e false at = (own_small c k v at (offered_size c v e), tt)
+    here : (b : Bool) → is_offered c v ≡ b → (g : Bool) → slice_get c.variables k ≡ Some v → AllByRecursion (IsTold c) (cond b (cond g (None ∷ Some k ∷ map (coordinate_at c) v.dimensions) (Some k ∷ [])) [])
+    here true e true at = (none_told c, (own_told c k v at e, coordinates_told c v.dimensions))
+    here true e false at = (own_told c k v at e, tt)
     here false e g at = tt
 
-small_at : (c : Contents) (ls : List (Option ℕ)) (m : ℕ) → AllByRecursion (IsSmall c) ls → IsSmall c (option_and_then (λ leaf. leaf) (slice_get ls m))
-small_at c [] m h = none_small c
-small_at c (l ∷ ls) zero h = h.0
-small_at c (l ∷ ls) (suc m) h = small_at c ls m h.1
+told_at : (c : Contents) (ls : List (Option ℕ)) (m : ℕ) → AllByRecursion (IsTold c) ls → IsTold c (option_and_then (λ leaf. leaf) (slice_get ls m))
+told_at c [] m h = none_told c
+told_at c (l ∷ ls) zero h = h.0
+told_at c (l ∷ ls) (suc m) h = told_at c ls m h.1
 
-small_in : (c : Contents) (ls : List (Option ℕ)) (n : ℕ) → AllByRecursion (IsSmall c) ls → IsSmall c (leaf_in ls n)
-small_in c ls n h = go (eqb n 0)
+told_in : (c : Contents) (ls : List (Option ℕ)) (n : ℕ) → AllByRecursion (IsTold c) ls → IsTold c (leaf_in ls n)
+told_in c ls n h = go (eqb n 0)
   where
-    go : (b : Bool) → IsSmall c (cond b None (option_and_then (λ leaf. leaf) (slice_get ls (n - 1))))
-    go true = none_small c
-    go false = small_at c ls (n - 1) h
+    go : (b : Bool) → IsTold c (cond b None (option_and_then (λ leaf. leaf) (slice_get ls (n - 1))))
+    go true = none_told c
+    go false = told_at c ls (n - 1) h
+
+-- the variable of a leaf is offered
+pub leaf_told : (c : Contents) (leaf : ℕ) → IsTold c (leaf_in (leaves_from c 0 c.variables) leaf)
+leaf_told c leaf = told_in c (leaves_from c 0 c.variables) leaf (leaves_told c [] c.variables 0 refl refl)
+
+pub leaf_offered : (c : Contents) (leaf : ℕ) (v : Variable) → leaf_variable c leaf ≡ Some v → is_offered c v ≡ true
+unfolding leaf_variable
+leaf_offered c leaf v e = go (leaf_in (leaves_from c 0 c.variables) leaf) (leaf_told c leaf) e
+  where
+    go : (found : Option ℕ) → IsTold c found → option_and_then (slice_get c.variables) found ≡ Some v → is_offered c v ≡ true
+    go None told q = absurd cc
+    go (Some k) told q = told k v refl q
 
 -- ---- the layout of a leaf
 
@@ -162,14 +177,14 @@ shaped c k v h at few = record {
 
 pub leaf_shaped : (c : Contents) (leaf : ℕ) → IsSound c → (o : Option Layout) → o ≡ option_map (layout_of c) (leaf_variable c leaf) → LeafIsShaped c leaf o
 unfolding leaf_variable LeafIsShaped
-leaf_shaped c leaf h o is = go (leaf_in (leaves_from c 0 c.variables) leaf) refl (small_in c (leaves_from c 0 c.variables) leaf (leaves_small c [] c.variables 0 refl refl)) is
+leaf_shaped c leaf h o is = go (leaf_in (leaves_from c 0 c.variables) leaf) refl (leaf_told c leaf) is
   where
-    go : (found : Option ℕ) → leaf_in (leaves_from c 0 c.variables) leaf ≡ found → IsSmall c found → o ≡ option_map (layout_of c) (option_and_then (slice_get c.variables) found)
+    go : (found : Option ℕ) → leaf_in (leaves_from c 0 c.variables) leaf ≡ found → IsTold c found → o ≡ option_map (layout_of c) (option_and_then (slice_get c.variables) found)
         → MatchOption o (Unit {0}) (λ l. (v : Variable) × (option_and_then (slice_get c.variables) (leaf_in (leaves_from c 0 c.variables) leaf) ≡ Some v) × IsShaped c v l)
-    go None e small q = rw q tt
-    go (Some k) e small q = at (slice_get c.variables k) refl q
+    go None e told q = rw q tt
+    go (Some k) e told q = at (slice_get c.variables k) refl q
       where
         at : (x : Option Variable) → slice_get c.variables k ≡ x → o ≡ option_map (layout_of c) x
             → MatchOption o (Unit {0}) (λ l. (v : Variable) × (option_and_then (slice_get c.variables) (leaf_in (leaves_from c 0 c.variables) leaf) ≡ Some v) × IsShaped c v l)
         at None x q = rw q tt
-        at (Some v) x q = rw q (v, ap (option_and_then (slice_get c.variables)) e ∙ x, shaped c k v h x (small k v refl x))
+        at (Some v) x q = rw q (v, ap (option_and_then (slice_get c.variables)) e ∙ x, shaped c k v h x (offered_size c v (told k v refl x)))

@@ -1,15 +1,19 @@
 -- A field by itself: a number, a run, a type. What is read is the field, and what is a field is read.
-use Rattle.std.proofs.Common.{◌≡◌, ℕ, ◌<◌, ◌≤◌, inl, inr, Bool, true, false, cond, ltb, eqb, List, [], ◌∷◌, ◌++◌, length, take, drop, Option, Some, None, Result, Ok, Err, MatchOption, refl, sym, ap, ◌∙◌, append_assoc, arith}
+use Rattle.std.proofs.Common.{◌≡◌, ℕ, ◌<◌, ◌≤◌, inl, inr, Bool, true, false, ◌||◌, cond, ltb, leb, List, [], ◌∷◌, ◌++◌, length, take, drop, Option, Some, None, Result, Ok, Err, MatchOption, refl, sym, ap, ◌∙◌, append_assoc, arith}
 use Rattle.std.specs.Prelude.{unwrap_or, is_none}
 use Rattle.std.specs.Option.{option_map_or}
 use Rattle.std.specs.Int.{w32, w64, from_be_bytes}
 use Rattle.std.proofs.lemmas.Bool.{cases_lt, lt-ltb, le-ltb}
 use Rattle.std.proofs.lemmas.List.{take_at, drop_at, take-append-drop, length-append, length-take, get_or-take, get_or_past}
 use Rattle.std.proofs.lemmas.Nat.{be_bytes_4, be_bytes_8, from_be_bytes-to_be_bytes_4, from_be_bytes-to_be_bytes_8}
-use Rattle.netcdf_source.specs.Fields.{word, long, run, unread, field_len, Spells, Fault, failure, bad_if, Judged, judged, fine, Ends}
-use Rattle.netcdf_source.specs.Grammar.{type_fault, external_type, begin_fault, begin_field}
-use Rattle.netcdf_source.specs.inner.Reading.{◌>>=◌, passed, word_at, long_at, run_at, judged_at, unread_at, begin_at, type_at}
-use Rattle.netcdf_source.specs.Types.{type_of}
+use Rattle.netcdf_source.specs.Fields.{number, run, field_len, Spells, Fault, failure, bad_if, Judged, judged, fine, Ends}
+use Rattle.netcdf_source.specs.Grammar.{type_fault, external_type}
+use Rattle.netcdf_source.specs.inner.Reading.{◌>>=◌, passed, word_at, long_at, run_at, judged_at, type_at}
+use Rattle.netcdf_source.specs.Types.{type_numbered}
+use Rattle.netcdf_source.specs.Versions.{has_more_types, bytes_in}
+use Rattle.netcdf_source.specs.declared.version.Version.{Version}
+use Rattle.netcdf_source.specs.declared.version.Width.{Width}
+use Rattle.netcdf_source.specs.declared.version.Width.TheVariants.{Four, Eight}
 use Rattle.netcdf_source.specs.declared.external_type.ExternalType.{ExternalType}
 use Rattle.netcdf_source.specs.declared.external_type.ExternalType.TheVariants.{Byte}
 use Rattle.netcdf_source.specs.declared.stop.Failure.{Failure}
@@ -73,7 +77,7 @@ word_cut : (bytes : List ℕ) → length bytes < 4 → word_at bytes ≡ Err Cut
 unfolding word_at
 word_cut bytes lt = rw (lt-ltb _ _ lt) refl
 
-pub word_again : (n : ℕ) (front rest : List ℕ) → Spells (word n) front → word_at (front ++ rest) ≡ Ok (n, rest)
+pub word_again : (n : ℕ) (front rest : List ℕ) → Spells (number Four n) front → word_at (front ++ rest) ≡ Ok (n, rest)
 unfolding word_at
 word_again n front rest s =
     let len : length front ≡ 4 = ap length s.1 in
@@ -81,7 +85,7 @@ word_again n front rest s =
     let back : from_be_bytes w32 front ≡ n = ap (from_be_bytes w32) s.1 ∙ from_be_bytes-to_be_bytes_4 n s.0 in
     rw (enough, take_at front rest 4 len, drop_at front rest 4 len, back) refl
 
-word_splits : (bytes : List ℕ) → IsBytes bytes → 4 ≤ length bytes → (n : ℕ) × (front : List ℕ) × (rest : List ℕ) × (bytes ≡ front ++ rest) × Spells (word n) front
+word_splits : (bytes : List ℕ) → IsBytes bytes → 4 ≤ length bytes → (n : ℕ) × (front : List ℕ) × (rest : List ℕ) × (bytes ≡ front ++ rest) × Spells (number Four n) front
 word_splits bytes fits le =
     let front = take 4 bytes in
     let small = bytes-take 4 bytes fits in
@@ -97,7 +101,7 @@ long_cut : (bytes : List ℕ) → length bytes < 8 → long_at bytes ≡ Err Cut
 unfolding long_at
 long_cut bytes lt = rw (lt-ltb _ _ lt) refl
 
-long_again : (n : ℕ) (front rest : List ℕ) → Spells (long n) front → long_at (front ++ rest) ≡ Ok (n, rest)
+long_again : (n : ℕ) (front rest : List ℕ) → Spells (number Eight n) front → long_at (front ++ rest) ≡ Ok (n, rest)
 unfolding long_at
 long_again n front rest s =
     let len : length front ≡ 8 = ap length s.1 in
@@ -105,7 +109,7 @@ long_again n front rest s =
     let back : from_be_bytes w64 front ≡ n = ap (from_be_bytes w64) s.1 ∙ from_be_bytes-to_be_bytes_8 n s.0 in
     rw (enough, take_at front rest 8 len, drop_at front rest 8 len, back) refl
 
-long_splits : (bytes : List ℕ) → IsBytes bytes → 8 ≤ length bytes → (n : ℕ) × (front : List ℕ) × (rest : List ℕ) × (bytes ≡ front ++ rest) × Spells (long n) front
+long_splits : (bytes : List ℕ) → IsBytes bytes → 8 ≤ length bytes → (n : ℕ) × (front : List ℕ) × (rest : List ℕ) × (bytes ≡ front ++ rest) × Spells (number Eight n) front
 long_splits bytes fits le =
     let front = take 8 bytes in
     let small = bytes-take 8 bytes fits in
@@ -117,76 +121,40 @@ long_splits bytes fits le =
       (omega (arith, small 0, small 1, small 2, small 3, small 4, small 5, small 6, small 7), sym (be_bytes_8 front _ len small refl)),
     )
 
-pub number_reader : (fault : ℕ → Option Fault) → IsReader (judged fault) (λ n. n) 4 (judged_at fault)
+pub number_reader : (width : Width) (fault : ℕ → Option Fault) → IsReader (judged width fault) (λ n. n) (bytes_in width) (judged_at width fault)
 unfolding judged_at
-number_reader fault = record {
+number_reader Four fault = record {
   some = 0;
   long = λ n. refl;
   cut = λ bytes lt. rw (word_cut bytes lt) refl;
   whole = λ n front rest s. rw (word_again n front rest s) refl;
   splits = word_splits;
 }
-
-pub plain_reader : IsReader (λ n. fine (word n)) (λ n. n) 4 word_at
-plain_reader = record {
+number_reader Eight fault = record {
   some = 0;
   long = λ n. refl;
-  cut = word_cut;
-  whole = word_again;
-  splits = word_splits;
+  cut = λ bytes lt. rw (long_cut bytes lt) refl;
+  whole = λ n front rest s. rw (long_again n front rest s) refl;
+  splits = long_splits;
 }
-
-pub begin_reader : (version : ℕ) → IsReader (begin_field version) (λ n. n) (cond (eqb version 1) 4 8) (begin_at version)
-unfolding begin_at
-begin_reader version = go (eqb version 1)
-  where
-    go : (b : Bool) → IsReader (λ n. record { field = cond b (word n) (long n); fault = begin_fault n }) (λ n. n) (cond b 4 8)
-        (λ bytes. cond b (word_at bytes) (long_at bytes) >>= λ n. passed (begin_fault n.0) (length bytes) n)
-    go true = record {
-      some = 0;
-      long = λ n. refl;
-      cut = λ bytes lt. rw (word_cut bytes lt) refl;
-      whole = λ n front rest s. rw (word_again n front rest s) refl;
-      splits = word_splits;
-    }
-    go false = record {
-      some = 0;
-      long = λ n. refl;
-      cut = λ bytes lt. rw (long_cut bytes lt) refl;
-      whole = λ n front rest s. rw (long_again n front rest s) refl;
-      splits = long_splits;
-    }
-
--- nothing is read of it
-abbrev beside : List ℕ → Unit {0} × List ℕ
-beside rest = (tt, rest)
-
-pub unread_reader : (fault : Option Fault) → IsReader {T = Unit {0}} (λ _. record { field = unread; fault = fault }) (λ t. t) 4 (unread_at fault)
-unfolding unread_at word_at
-unread_reader fault = record {
-  some = tt;
-  long = λ t. refl;
-  cut = λ bytes lt. rw (word_cut bytes lt) refl;
-  whole = λ t front rest s. whole front rest s;
-  splits = λ bytes fits le. (tt, take 4 bytes, drop 4 bytes, sym (take-append-drop 4 bytes), omega (arith, length-take 4 bytes));
-}
-  where
-    whole : (front rest : List ℕ) → length front ≡ 4 → (word_at (front ++ rest) >>= λ n. passed fault (length (front ++ rest)) (beside n.1)) ≡ passed fault (length (front ++ rest)) (beside rest)
-    whole front rest len =
-        let enough : ltb (length (front ++ rest)) 4 ≡ false = le-ltb _ _ (omega (arith, length-append front rest)) in
-        rw (enough, drop_at front rest 4 len) refl
 
 typed : (o : Option ExternalType) (left : ℕ) (rest : List ℕ) → option_map_or {U = Result (ExternalType × List ℕ) Failure} (λ t. Ok (t, rest)) o (Err (Bad left)) ≡ passed (bad_if (is_none o) 0) left (unwrap_or o Byte, rest)
 typed None left rest = ap (λ (k : ℕ). Err (Bad k)) (omega arith)
 typed (Some t) left rest = refl
 
-pub type_reader : IsReader (judged type_fault) external_type 4 type_at
+-- a number that is a type of the version, or none
+typed_in : (b : Bool) (o : Option ExternalType) (left : ℕ) (rest : List ℕ)
+    → option_map_or {U = Result (ExternalType × List ℕ) Failure} (λ t. Ok (t, rest)) (cond b o None) (Err (Bad left)) ≡ passed (bad_if (is_none (cond b o None)) 0) left (unwrap_or o Byte, rest)
+typed_in true o left rest = typed o left rest
+typed_in false o left rest = ap (λ (k : ℕ). Err (Bad k)) (omega arith)
+
+pub type_reader : (version : Version) → IsReader (judged Four (type_fault version)) external_type 4 (type_at version)
 unfolding type_at type_fault
-type_reader = record {
+type_reader version = record {
   some = 0;
   long = λ n. refl;
   cut = λ bytes lt. rw (word_cut bytes lt) refl;
-  whole = λ n front rest s. rw (word_again n front rest s) (typed (type_of n) (length (front ++ rest)) rest);
+  whole = λ n front rest s. rw (word_again n front rest s) (typed_in (has_more_types version || leb n 6) (type_numbered n) (length (front ++ rest)) rest);
   splits = word_splits;
 }
 

@@ -13,7 +13,7 @@ use Rattle.netcdf_source.specs.Parts.{length_at, lengths, inner, part}
 use Rattle.netcdf_source.specs.inner.Sound.{InTurn, IsId, IsVariable, IsSound}
 use Rattle.netcdf_source.specs.Types.{size_of}
 use Rattle.netcdf_source.specs.declared.external_type.ExternalType.{ExternalType}
-use Rattle.netcdf_source.specs.declared.external_type.ExternalType.TheVariants.{Byte, Char, Short, Int, Float, Double}
+use Rattle.netcdf_source.specs.declared.external_type.ExternalType.TheVariants.{Byte, Char, Short, Int, Float, Double, UByte, UShort, UInt, Int64, UInt64}
 use Rattle.netcdf_source.specs.declared.header.Contents.{Contents}
 use Rattle.netcdf_source.specs.declared.header.Dimension.{Dimension}
 use Rattle.netcdf_source.specs.declared.header.Variable.{Variable}
@@ -136,6 +136,11 @@ char_size Short e = absurd cc
 char_size Int e = absurd cc
 char_size Float e = absurd cc
 char_size Double e = absurd cc
+char_size UByte e = absurd cc
+char_size UShort e = absurd cc
+char_size UInt e = absurd cc
+char_size Int64 e = absurd cc
+char_size UInt64 e = absurd cc
 
 pub and_yes : (a b : Bool) → (a && not b) ≡ true → (a ≡ true) × (b ≡ false)
 and_yes true true e = absurd cc

@@ -1,14 +1,18 @@
 -- Dimensions, attributes, variables and headers: what is read is a tree, and each tree is read.
 use Rattle.std.proofs.Common.{◌≡◌, ℕ, ◌*◌, List, [], ◌∷◌, ◌++◌, length, map, eqb, Ok, refl, ap, subst}
 use Rattle.std.specs.List.{list_any}
-use Rattle.netcdf_source.specs.Fields.{Judged, judged, fine, run, word}
-use Rattle.netcdf_source.specs.Grammar.{Listed, AttributeTree, attribute, external_type, in_turn, list_fields, name_fields, new_name_fields, dimension_fields, attribute_fields, id_fields, length_fault, type_fault, rank_fault, dimension_fault, is_record_dimension}
-use Rattle.netcdf_source.specs.inner.Reading.{◌>>=◌, word_at, run_at, judged_at, type_at, list_at, name_at, new_name_at, dimension_at, next_dimension, attribute_at, next_attribute, next_id, ids_at, times}
+use Rattle.netcdf_source.specs.Fields.{Judged, judged, fine, run}
+use Rattle.netcdf_source.specs.Grammar.{Listed, AttributeTree, attribute, external_type, in_turn, list_fields, name_fields, new_name_fields, dimension_fields, attribute_fields, id_fields, length_fault, type_fault, rank_fault, dimension_fault, no_fault, is_record_dimension}
+use Rattle.netcdf_source.specs.inner.Reading.{◌>>=◌, run_at, judged_at, type_at, list_at, name_at, new_name_at, dimension_at, next_dimension, attribute_at, next_attribute, next_id, ids_at, times}
 use Rattle.netcdf_source.specs.Types.{size_of}
+use Rattle.netcdf_source.specs.Versions.{bytes_in, number_width}
+use Rattle.netcdf_source.specs.declared.version.Version.{Version}
+use Rattle.netcdf_source.specs.declared.version.Width.{Width}
+use Rattle.netcdf_source.specs.declared.version.Width.TheVariants.{Four}
 use Rattle.netcdf_source.specs.declared.header.Attribute.{Attribute}
 use Rattle.netcdf_source.specs.declared.header.Dimension.{Dimension}
 use Rattle.netcdf_source.proofs.Ends.{Again, Sound, again_done, again_then, sound_done, sound_then, sound_as}
-use Rattle.netcdf_source.proofs.Singles.{again_single, sound_single, number_reader, plain_reader, type_reader, values_reader}
+use Rattle.netcdf_source.proofs.Singles.{again_single, sound_single, number_reader, type_reader, values_reader}
 use Rattle.netcdf_source.proofs.Items.{list_again, list_sound, sized_again, sized_sound, times_again, times_found, name_again, name_sound, new_name_again, new_name_sound}
 use Rattle.dap_model.specs.Xdr.{padded}
 
@@ -18,41 +22,42 @@ map-same (x ∷ xs) = ap (λ ys. x ∷ ys) (map-same xs)
 
 -- ---- dimensions
 
-pub dimension_again : (before : List Dimension) (d : Dimension) → Again (dimension_fields before d) d (next_dimension before)
+pub dimension_again : (width : Width) (before : List Dimension) (d : Dimension) → Again (dimension_fields width before d) d (next_dimension width before)
 unfolding dimension_fields dimension_at
-dimension_again before d =
+dimension_again width before d =
     let earlier = map (λ b. b.name) before in
-    let fault = length_fault (list_any is_record_dimension before) in
-    again_then (new_name_fields earlier d.name) ((judged fault d.length ∷ []) ++ []) d.name d (new_name_at earlier) (λ name. judged_at fault name.1 >>= λ n. Ok (record { name = name.0; length = n.0 }, n.1)) (new_name_again earlier d.name)
-    (again_then (judged fault d.length ∷ []) [] d.length d (judged_at fault) (λ n. Ok (record { name = d.name; length = n.0 }, n.1)) (again_single (judged fault) (λ n. n) 4 (judged_at fault) (number_reader fault) d.length)
+    let fault = length_fault width (list_any is_record_dimension before) in
+    again_then (new_name_fields width earlier d.name) ((judged width fault d.length ∷ []) ++ []) d.name d (new_name_at width earlier) (λ name. judged_at width fault name.1 >>= λ n. Ok (record { name = name.0; length = n.0 }, n.1)) (new_name_again width earlier d.name)
+    (again_then (judged width fault d.length ∷ []) [] d.length d (judged_at width fault) (λ n. Ok (record { name = d.name; length = n.0 }, n.1)) (again_single (judged width fault) (λ n. n) (bytes_in width) (judged_at width fault) (number_reader width fault) d.length)
     (again_done d))
 
 abbrev dimension_of : List ℕ × (ℕ × Unit {0}) → Dimension
 dimension_of p = record { name = p.0; length = p.1.0 }
 
-pub dimension_sound : (before : List Dimension) → Sound (dimension_fields before) (λ d. d) (next_dimension before)
+pub dimension_sound : (width : Width) (before : List Dimension) → Sound (dimension_fields width before) (λ d. d) (next_dimension width before)
 unfolding dimension_fields dimension_at
-dimension_sound before =
+dimension_sound width before =
     let earlier = map (λ b. b.name) before in
-    let fault = length_fault (list_any is_record_dimension before) in
-    sound_as {T = List ℕ × (ℕ × Unit {0})} (λ p. new_name_fields earlier p.0 ++ ((judged fault p.1.0 ∷ []) ++ [])) dimension_of (dimension_fields before) (λ d. d) (next_dimension before) dimension_of (λ p. refl) (λ p. refl)
-    (sound_then (new_name_fields earlier) (λ x. x) (new_name_at earlier) (λ name p. (judged fault p.0 ∷ []) ++ []) (λ name p. dimension_of (name, p)) (λ name. judged_at fault name.1 >>= λ n. Ok (record { name = name.0; length = n.0 }, n.1)) (new_name_sound earlier)
-    (λ name. sound_then (λ n. judged fault n ∷ []) (λ n. n) (judged_at fault) (λ n u. []) (λ n u. dimension_of (name, (n, u))) (λ n. Ok (record { name = name; length = n.0 }, n.1)) (sound_single (judged fault) (λ n. n) 4 (judged_at fault) (number_reader fault))
+    let fault = length_fault width (list_any is_record_dimension before) in
+    sound_as {T = List ℕ × (ℕ × Unit {0})} (λ p. new_name_fields width earlier p.0 ++ ((judged width fault p.1.0 ∷ []) ++ [])) dimension_of (dimension_fields width before) (λ d. d) (next_dimension width before) dimension_of (λ p. refl) (λ p. refl)
+    (sound_then (new_name_fields width earlier) (λ x. x) (new_name_at width earlier) (λ name p. (judged width fault p.0 ∷ []) ++ []) (λ name p. dimension_of (name, p)) (λ name. judged_at width fault name.1 >>= λ n. Ok (record { name = name.0; length = n.0 }, n.1)) (new_name_sound width earlier)
+    (λ name. sound_then (λ n. judged width fault n ∷ []) (λ n. n) (judged_at width fault) (λ n u. []) (λ n u. dimension_of (name, (n, u))) (λ n. Ok (record { name = name; length = n.0 }, n.1)) (sound_single (judged width fault) (λ n. n) (bytes_in width) (judged_at width fault) (number_reader width fault))
     (λ n. sound_done (record { name = name; length = n }))))
 
 -- ---- attributes
 
-attribute_again : (before : List Attribute) (a : AttributeTree) → Again (attribute_fields before a) (attribute a) (next_attribute before)
+attribute_again : (version : Version) (before : List Attribute) (a : AttributeTree) → Again (attribute_fields version before a) (attribute a) (next_attribute version before)
 unfolding attribute_fields attribute_at
-attribute_again before a =
+attribute_again version before a =
+    let width = number_width version in
     let kind = external_type a.number in
     let size = a.count * size_of kind in
-    again_then (name_fields a.name) ((judged type_fault a.number ∷ []) ++ ((fine (word a.count) ∷ []) ++ ((fine (run size a.values) ∷ []) ++ []))) a.name (attribute a) name_at
-    (λ name. type_at name.1 >>= λ kind. word_at kind.1 >>= λ count. run_at (count.0 * size_of kind.0) count.1 >>= λ values. Ok (record { name = name.0; external_type = kind.0; values = values.0 }, values.1)) (name_again a.name)
-    (again_then (judged type_fault a.number ∷ []) ((fine (word a.count) ∷ []) ++ ((fine (run size a.values) ∷ []) ++ [])) kind (attribute a) type_at
-    (λ kind. word_at kind.1 >>= λ count. run_at (count.0 * size_of kind.0) count.1 >>= λ values. Ok (record { name = a.name; external_type = kind.0; values = values.0 }, values.1)) (again_single (judged type_fault) external_type 4 type_at type_reader a.number)
-    (again_then (fine (word a.count) ∷ []) ((fine (run size a.values) ∷ []) ++ []) a.count (attribute a) word_at
-    (λ count. run_at (count.0 * size_of kind) count.1 >>= λ values. Ok (record { name = a.name; external_type = kind; values = values.0 }, values.1)) (again_single (λ n. fine (word n)) (λ n. n) 4 word_at plain_reader a.count)
+    again_then (name_fields width a.name) ((judged Four (type_fault version) a.number ∷ []) ++ ((judged width no_fault a.count ∷ []) ++ ((fine (run size a.values) ∷ []) ++ []))) a.name (attribute a) (name_at width)
+    (λ name. type_at version name.1 >>= λ kind. judged_at width no_fault kind.1 >>= λ count. run_at (count.0 * size_of kind.0) count.1 >>= λ values. Ok (record { name = name.0; external_type = kind.0; values = values.0 }, values.1)) (name_again width a.name)
+    (again_then (judged Four (type_fault version) a.number ∷ []) ((judged width no_fault a.count ∷ []) ++ ((fine (run size a.values) ∷ []) ++ [])) kind (attribute a) (type_at version)
+    (λ kind. judged_at width no_fault kind.1 >>= λ count. run_at (count.0 * size_of kind.0) count.1 >>= λ values. Ok (record { name = a.name; external_type = kind.0; values = values.0 }, values.1)) (again_single (judged Four (type_fault version)) external_type 4 (type_at version) (type_reader version) a.number)
+    (again_then (judged width no_fault a.count ∷ []) ((fine (run size a.values) ∷ []) ++ []) a.count (attribute a) (judged_at width no_fault)
+    (λ count. run_at (count.0 * size_of kind) count.1 >>= λ values. Ok (record { name = a.name; external_type = kind; values = values.0 }, values.1)) (again_single (judged width no_fault) (λ n. n) (bytes_in width) (judged_at width no_fault) (number_reader width no_fault) a.count)
     (again_then (fine (run size a.values) ∷ []) [] a.values (attribute a) (run_at size)
     (λ values. Ok (record { name = a.name; external_type = kind; values = values.0 }, values.1)) (again_single (λ x. fine (run size x)) (λ x. x) (padded size) (run_at size) (values_reader size) a.values)
     (again_done (attribute a)))))
@@ -60,50 +65,51 @@ attribute_again before a =
 abbrev attribute_of : List ℕ × (ℕ × (ℕ × (List ℕ × Unit {0}))) → AttributeTree
 attribute_of p = record { name = p.0; number = p.1.0; count = p.1.1.0; values = p.1.1.1.0 }
 
-abbrev attribute_rest : ℕ → ℕ × (List ℕ × Unit {0}) → List Judged
-attribute_rest number p = (fine (word p.0) ∷ []) ++ ((fine (run (p.0 * size_of (external_type number)) p.1.0) ∷ []) ++ [])
+abbrev attribute_rest : Version → ℕ → ℕ × (List ℕ × Unit {0}) → List Judged
+attribute_rest version number p = (judged (number_width version) no_fault p.0 ∷ []) ++ ((fine (run (p.0 * size_of (external_type number)) p.1.0) ∷ []) ++ [])
 
-attribute_sound : (before : List Attribute) → Sound (attribute_fields before) attribute (next_attribute before)
+attribute_sound : (version : Version) (before : List Attribute) → Sound (attribute_fields version before) attribute (next_attribute version before)
 unfolding attribute_fields attribute_at
-attribute_sound before =
-    sound_as {T = List ℕ × (ℕ × (ℕ × (List ℕ × Unit {0})))} (λ p. name_fields p.0 ++ ((judged type_fault p.1.0 ∷ []) ++ attribute_rest p.1.0 p.1.1)) (λ p. attribute (attribute_of p)) (attribute_fields before) attribute (next_attribute before) attribute_of (λ p. refl) (λ p. refl)
-    (sound_then name_fields (λ x. x) name_at (λ name p. (judged type_fault p.0 ∷ []) ++ attribute_rest p.0 p.1) (λ name p. attribute (attribute_of (name, p)))
-    (λ name. type_at name.1 >>= λ kind. word_at kind.1 >>= λ count. run_at (count.0 * size_of kind.0) count.1 >>= λ values. Ok (record { name = name.0; external_type = kind.0; values = values.0 }, values.1)) name_sound
-    (λ name. sound_then (λ n. judged type_fault n ∷ []) external_type type_at (λ n p. attribute_rest n p) (λ n p. attribute (attribute_of (name, (n, p))))
-    (λ kind. word_at kind.1 >>= λ count. run_at (count.0 * size_of kind.0) count.1 >>= λ values. Ok (record { name = name; external_type = kind.0; values = values.0 }, values.1)) (sound_single (judged type_fault) external_type 4 type_at type_reader)
-    (λ n. sound_then (λ count. fine (word count) ∷ []) (λ count. count) word_at (λ count p. (fine (run (count * size_of (external_type n)) p.0) ∷ []) ++ []) (λ count p. attribute (attribute_of (name, (n, (count, p)))))
-    (λ count. run_at (count.0 * size_of (external_type n)) count.1 >>= λ values. Ok (record { name = name; external_type = external_type n; values = values.0 }, values.1)) (sound_single (λ k. fine (word k)) (λ k. k) 4 word_at plain_reader)
+attribute_sound version before =
+    let width = number_width version in
+    sound_as {T = List ℕ × (ℕ × (ℕ × (List ℕ × Unit {0})))} (λ p. name_fields width p.0 ++ ((judged Four (type_fault version) p.1.0 ∷ []) ++ attribute_rest version p.1.0 p.1.1)) (λ p. attribute (attribute_of p)) (attribute_fields version before) attribute (next_attribute version before) attribute_of (λ p. refl) (λ p. refl)
+    (sound_then (name_fields width) (λ x. x) (name_at width) (λ name p. (judged Four (type_fault version) p.0 ∷ []) ++ attribute_rest version p.0 p.1) (λ name p. attribute (attribute_of (name, p)))
+    (λ name. type_at version name.1 >>= λ kind. judged_at width no_fault kind.1 >>= λ count. run_at (count.0 * size_of kind.0) count.1 >>= λ values. Ok (record { name = name.0; external_type = kind.0; values = values.0 }, values.1)) (name_sound width)
+    (λ name. sound_then (λ n. judged Four (type_fault version) n ∷ []) external_type (type_at version) (λ n p. attribute_rest version n p) (λ n p. attribute (attribute_of (name, (n, p))))
+    (λ kind. judged_at width no_fault kind.1 >>= λ count. run_at (count.0 * size_of kind.0) count.1 >>= λ values. Ok (record { name = name; external_type = kind.0; values = values.0 }, values.1)) (sound_single (judged Four (type_fault version)) external_type 4 (type_at version) (type_reader version))
+    (λ n. sound_then (λ count. judged width no_fault count ∷ []) (λ count. count) (judged_at width no_fault) (λ count p. (fine (run (count * size_of (external_type n)) p.0) ∷ []) ++ []) (λ count p. attribute (attribute_of (name, (n, (count, p)))))
+    (λ count. run_at (count.0 * size_of (external_type n)) count.1 >>= λ values. Ok (record { name = name; external_type = external_type n; values = values.0 }, values.1)) (sound_single (judged width no_fault) (λ k. k) (bytes_in width) (judged_at width no_fault) (number_reader width no_fault))
     (λ count. sound_then (λ x. fine (run (count * size_of (external_type n)) x) ∷ []) (λ x. x) (run_at (count * size_of (external_type n))) (λ x u. []) (λ x u. attribute (attribute_of (name, (n, (count, (x, u))))))
     (λ values. Ok (record { name = name; external_type = external_type n; values = values.0 }, values.1)) (sound_single (λ x. fine (run (count * size_of (external_type n)) x)) (λ x. x) (padded (count * size_of (external_type n))) (run_at (count * size_of (external_type n))) (values_reader (count * size_of (external_type n))))
     (λ x. sound_done (record { name = name; external_type = external_type n; values = x }))))))
 
-pub attributes_again : (l : Listed AttributeTree) → Again (list_fields 12 attribute_fields attribute l) (map attribute l.items) (list_at 12 next_attribute)
-attributes_again l = list_again 12 attribute_fields attribute next_attribute attribute_again l
+pub attributes_again : (version : Version) (l : Listed AttributeTree) → Again (list_fields (number_width version) 12 (attribute_fields version) attribute l) (map attribute l.items) (list_at (number_width version) 12 (next_attribute version))
+attributes_again version l = list_again (number_width version) 12 (attribute_fields version) attribute (next_attribute version) (attribute_again version) l
 
-pub attributes_sound : Sound (list_fields 12 attribute_fields attribute) (λ l. map attribute l.items) (list_at 12 next_attribute)
-attributes_sound = list_sound 12 attribute_fields attribute next_attribute attribute_sound
+pub attributes_sound : (version : Version) → Sound (list_fields (number_width version) 12 (attribute_fields version) attribute) (λ l. map attribute l.items) (list_at (number_width version) 12 (next_attribute version))
+attributes_sound version = list_sound (number_width version) 12 (attribute_fields version) attribute (next_attribute version) (attribute_sound version)
 
 -- ---- the dimensions of a variable
 
-abbrev pub ids_fields : List Dimension → List ℕ → List Judged
-ids_fields dims ids = judged rank_fault (length ids) ∷ in_turn (id_fields dims) (λ n. n) [] ids
+abbrev pub ids_fields : Width → List Dimension → List ℕ → List Judged
+ids_fields width dims ids = judged width rank_fault (length ids) ∷ in_turn (id_fields width dims) (λ n. n) [] ids
 
-id_again : (dims : List Dimension) (before : List ℕ) (n : ℕ) → Again (id_fields dims before n) n (next_id dims before)
+id_again : (width : Width) (dims : List Dimension) (before : List ℕ) (n : ℕ) → Again (id_fields width dims before n) n (next_id width dims before)
 unfolding id_fields
-id_again dims before n = let fault = dimension_fault dims (eqb (length before) 0) in again_single (judged fault) (λ k. k) 4 (judged_at fault) (number_reader fault) n
+id_again width dims before n = let fault = dimension_fault dims (eqb (length before) 0) in again_single (judged width fault) (λ k. k) (bytes_in width) (judged_at width fault) (number_reader width fault) n
 
-id_sound : (dims : List Dimension) (before : List ℕ) → Sound (id_fields dims before) (λ n. n) (next_id dims before)
+id_sound : (width : Width) (dims : List Dimension) (before : List ℕ) → Sound (id_fields width dims before) (λ n. n) (next_id width dims before)
 unfolding id_fields
-id_sound dims before = let fault = dimension_fault dims (eqb (length before) 0) in sound_single (judged fault) (λ k. k) 4 (judged_at fault) (number_reader fault)
+id_sound width dims before = let fault = dimension_fault dims (eqb (length before) 0) in sound_single (judged width fault) (λ k. k) (bytes_in width) (judged_at width fault) (number_reader width fault)
 
-pub ids_again : (dims : List Dimension) (ids : List ℕ) → Again (ids_fields dims ids) ids (ids_at dims)
+pub ids_again : (width : Width) (dims : List Dimension) (ids : List ℕ) → Again (ids_fields width dims ids) ids (ids_at width dims)
 unfolding ids_at
-ids_again dims ids =
-    subst (λ x. Again (ids_fields dims ids) x (ids_at dims)) (map-same ids)
-    (sized_again rank_fault length (in_turn (id_fields dims) (λ n. n) []) (map (λ n. n)) (λ n. times (next_id dims) n []) ids (times_again (id_fields dims) (λ n. n) (next_id dims) (id_again dims) [] ids))
+ids_again width dims ids =
+    subst (λ x. Again (ids_fields width dims ids) x (ids_at width dims)) (map-same ids)
+    (sized_again width rank_fault length (in_turn (id_fields width dims) (λ n. n) []) (map (λ n. n)) (λ n. times (next_id width dims) n []) ids (times_again (id_fields width dims) (λ n. n) (next_id width dims) (id_again width dims) [] ids))
 
-pub ids_sound : (dims : List Dimension) → Sound (ids_fields dims) (λ ids. ids) (ids_at dims)
+pub ids_sound : (width : Width) (dims : List Dimension) → Sound (ids_fields width dims) (λ ids. ids) (ids_at width dims)
 unfolding ids_at
-ids_sound dims =
-    sound_as (ids_fields dims) (map (λ n. n)) (ids_fields dims) (λ ids. ids) (ids_at dims) (λ ids. ids) (λ ids. refl) map-same
-    (sized_sound rank_fault length (in_turn (id_fields dims) (λ n. n) []) (map (λ n. n)) (λ n. times (next_id dims) n []) (λ n bytes fits. times_found (id_fields dims) (λ k. k) (next_id dims) (id_sound dims) n [] bytes fits))
+ids_sound width dims =
+    sound_as (ids_fields width dims) (map (λ n. n)) (ids_fields width dims) (λ ids. ids) (ids_at width dims) (λ ids. ids) (λ ids. refl) map-same
+    (sized_sound width rank_fault length (in_turn (id_fields width dims) (λ n. n) []) (map (λ n. n)) (λ n. times (next_id width dims) n []) (λ n bytes fits. times_found (id_fields width dims) (λ k. k) (next_id width dims) (id_sound width dims) n [] bytes fits))

@@ -1,17 +1,20 @@
 -- The answer to the bytes of a header, and to those that are none.
-use Rattle.std.proofs.Common.{◌≡◌, ℕ, ◌⊎◌, inl, inr, Bool, true, false, cond, ltb, List, ◌++◌, length, Option, Some, None, Result, Ok, Err, MatchResult, refl, sym, ap, subst, ◌∙◌}
+use Rattle.std.proofs.Common.{◌≡◌, ℕ, ◌⊎◌, inl, inr, Bool, true, false, cond, ltb, List, ◌∷◌, ◌++◌, length, Option, Some, None, Result, Ok, Err, MatchResult, refl, sym, ap, subst, ◌∙◌}
 use Rattle.std.specs.Prelude.{IfOk, IfErr, IsErrAnd}
 use Rattle.std.specs.Option.{option_map_or}
 use Rattle.std.proofs.lemmas.Bool.{ltb-true, ltb-false, lt-ltb, le-ltb}
 use Rattle.netcdf_source.specs.Fields.{Ends}
 use Rattle.netcdf_source.specs.Grammar.{HeaderTree, contents, header_fields}
-use Rattle.netcdf_source.specs.Header.{contents_of, magic, IsVersion, version_in, HasNoMagic, Stands, IsHeader, IsFirst, refusal_of, judgement, verdict, Answers}
+use Rattle.netcdf_source.specs.Header.{contents_of, magic, HasNoMagic, Stands, IsHeader, IsFirst}
+use Rattle.netcdf_source.specs.inner.Answering.{version_in, refusal_of, judgement, verdict, Answers}
 use Rattle.netcdf_source.specs.Parts.{past_end}
 use Rattle.netcdf_source.specs.inner.Reading.{contents_at}
 use Rattle.netcdf_source.specs.declared.header.Contents.{Contents}
 use Rattle.netcdf_source.specs.declared.file.Header.{Header}
 use Rattle.netcdf_source.specs.declared.refusal.HeaderRefusal.{HeaderRefusal}
 use Rattle.netcdf_source.specs.declared.refusal.HeaderRefusal.TheVariants as refusals
+use Rattle.netcdf_source.specs.declared.version.Version.{Version}
+use Rattle.netcdf_source.specs.declared.version.Version.TheVariants.{One, Two, Five}
 use Rattle.netcdf_source.specs.declared.stop.Failure.{Failure}
 use Rattle.netcdf_source.specs.declared.stop.Failure.TheVariants.{Cut, Streaming, Bad}
 use Rattle.netcdf_source.proofs.Ends.{IsBytes, with_value}
@@ -21,22 +24,33 @@ use Rattle.netcdf_source.proofs.Headers.{FlatHeader, header_of, header_again, he
 
 pub no_magic : (front : List ℕ) → version_in front ≡ None → HasNoMagic front
 unfolding HasNoMagic
-no_magic front h version rest is e = absurd (none_some (sym h ∙ ap version_in e ∙ found version is))
+no_magic front h version rest e = absurd (none_some (sym h ∙ ap version_in e ∙ found version))
   where
-    found : (v : ℕ) → IsVersion v → version_in (magic v ++ rest) ≡ Some v
-    found v (inl one) = rw one refl
-    found v (inr two) = rw two refl
+    found : (v : Version) → version_in (magic v ++ rest) ≡ Some v
+    found One = refl
+    found Two = refl
+    found Five = refl
 
-    none_some : Path (Option ℕ) None (Some version) → ⊥
+    none_some : Path (Option Version) None (Some version) → ⊥
     none_some q = cc
 
 -- a magic that stands in front
-pub record Front (version : ℕ) (body front : List ℕ) : Type 0 where
-  pub version_is : IsVersion version
+pub record Front (version : Version) (body front : List ℕ) : Type 0 where
   pub begins : front ≡ magic version ++ body
 
-same_version : (v w : ℕ) (x y : List ℕ) → magic v ++ x ≡ magic w ++ y → (v ≡ w) × (x ≡ y)
-same_version v w x y e = (cc, cc)
+same_body : (m n : ℕ) (x y : List ℕ) → 0x43 ∷ 0x44 ∷ 0x46 ∷ m ∷ x ≡ 0x43 ∷ 0x44 ∷ 0x46 ∷ n ∷ y → x ≡ y
+same_body m n x y e = cc
+
+some_version : (v w : Version) → Path (Option Version) (Some v) (Some w) → v ≡ w
+some_version v w e = cc
+
+version_found : (v : Version) (rest : List ℕ) → version_in (magic v ++ rest) ≡ Some v
+version_found One rest = refl
+version_found Two rest = refl
+version_found Five rest = refl
+
+same_version : (v w : Version) (x y : List ℕ) → magic v ++ x ≡ magic w ++ y → (v ≡ w) × (x ≡ y)
+same_version v w x y e = (some_version v w (sym (version_found v x) ∙ ap version_in e ∙ version_found w y), same_body _ _ x y e)
 
 -- ---- what is answered
 
@@ -48,10 +62,10 @@ judged_err : (c : Contents) (r : HeaderRefusal) (o : Option ℕ) → option_map_
 judged_err c r None e = absurd cc
 judged_err c r (Some k) e = (k, refl, cc)
 
-pub standing : (version : ℕ) (body front : List ℕ) (p : FlatHeader) (end : Result (List ℕ) Failure) → Front version body front → Ends (header_fields (header_of version p)) body end → Stands (header_of version p) front end
-standing version body front p end f h = record { body = body; version = f.version_is; begins = f.begins; ends = h }
+pub standing : (version : Version) (body front : List ℕ) (p : FlatHeader) (end : Result (List ℕ) Failure) → Front version body front → Ends (header_fields (header_of version p)) body end → Stands (header_of version p) front end
+standing version body front p end f h = record { body = body; begins = f.begins; ends = h }
 
-pub is_header : (version : ℕ) (body front : List ℕ) (file_len : ℕ) (r : Result Header HeaderRefusal) → IsBytes body → Front version body front → Answers r (verdict version body (length front) file_len)
+pub is_header : (version : Version) (body front : List ℕ) (file_len : ℕ) (r : Result Header HeaderRefusal) → IsBytes body → Front version body front → Answers r (verdict version body (length front) file_len)
     → IfOk r (λ h. IsHeader (contents_of h) front file_len)
 unfolding verdict
 is_header version body front file_len (Err e) fits f a = tt
@@ -65,7 +79,7 @@ is_header version body front file_len (Ok h) fits f a =
         (header_of version p, rest, standing version body front p (Ok rest) f ends, j.1, subst (λ c. past_end c file_len ≡ None) j.1 j.0)
     go p (Err fault) ends e = absurd cc
 
-first_failure : (version : ℕ) (body front : List ℕ) (file_len : ℕ) (p : FlatHeader) (f : Failure) → Stands (header_of version p) front (Err f) → IsFirst (refusal_of f (length front) file_len) front file_len
+first_failure : (version : Version) (body front : List ℕ) (file_len : ℕ) (p : FlatHeader) (f : Failure) → Stands (header_of version p) front (Err f) → IsFirst (refusal_of f (length front) file_len) front file_len
 unfolding refusal_of
 first_failure version body front file_len p Cut s = go (ltb 1048576 file_len) refl
   where
@@ -75,7 +89,7 @@ first_failure version body front file_len p Cut s = go (ltb 1048576 file_len) re
 first_failure version body front file_len p Streaming s = (header_of version p, s)
 first_failure version body front file_len p (Bad left) s = (header_of version p, left, s, refl)
 
-pub is_first : (version : ℕ) (body front : List ℕ) (file_len : ℕ) (r : Result Header HeaderRefusal) → IsBytes body → Front version body front → Answers r (verdict version body (length front) file_len)
+pub is_first : (version : Version) (body front : List ℕ) (file_len : ℕ) (r : Result Header HeaderRefusal) → IsBytes body → Front version body front → Answers r (verdict version body (length front) file_len)
     → IfErr r (λ e. (e ≡ refusals.Memory) ⊎ IsFirst e front file_len)
 unfolding verdict
 is_first version body front file_len (Ok h) fits f a = tt
@@ -95,12 +109,12 @@ is_first version body front file_len (Err e) fits f (inr a) =
 
 -- ---- nothing else is answered
 
-pub read_along : (h : HeaderTree) (version : ℕ) (body front : List ℕ) (end : Result (List ℕ) Failure) → Front version body front → Stands h front end → contents_at version body ≡ with_value (contents h) end
+pub read_along : (h : HeaderTree) (version : Version) (body front : List ℕ) (end : Result (List ℕ) Failure) → Front version body front → Stands h front end → contents_at version body ≡ with_value (contents h) end
 read_along h version body front end f s =
     let same = same_version h.version version s.body body (sym s.begins ∙ f.begins) in
-    ap (λ (v : ℕ). contents_at v body) (sym same.0) ∙ ap (contents_at h.version) (sym same.1) ∙ (header_again h).at s.body end s.ends
+    ap (λ (v : Version). contents_at v body) (sym same.0) ∙ ap (contents_at h.version) (sym same.1) ∙ (header_again h).at s.body end s.ends
 
-pub only_header : (version : ℕ) (body front : List ℕ) (file_len : ℕ) (r : Result Header HeaderRefusal) → Front version body front → Answers r (verdict version body (length front) file_len)
+pub only_header : (version : Version) (body front : List ℕ) (file_len : ℕ) (r : Result Header HeaderRefusal) → Front version body front → Answers r (verdict version body (length front) file_len)
     → (c : Contents) → IsHeader c front file_len → MatchResult r (λ h. contents_of h ≡ c) (λ e. e ≡ refusals.Memory)
 unfolding verdict
 only_header version body front file_len r f a c is =
@@ -120,9 +134,9 @@ only_header version body front file_len r f a c is =
     go (Err x) (inl memory) e = memory
     go (Err x) (inr b) e = absurd (no_err x (sym e ∙ b))
 
-pub first_verdict : (first : HeaderRefusal) (version : ℕ) (body front : List ℕ) (file_len : ℕ) → Front version body front → IsFirst first front file_len → judgement (contents_at version body) (length front) file_len ≡ Err first
+pub first_verdict : (first : HeaderRefusal) (version : Version) (body front : List ℕ) (file_len : ℕ) → Front version body front → IsFirst first front file_len → judgement (contents_at version body) (length front) file_len ≡ Err first
 unfolding refusal_of HasNoMagic
-first_verdict refusals.NotCdf version body front file_len f none = absurd (none version body f.version_is f.begins)
+first_verdict refusals.NotCdf version body front file_len f none = absurd (none version body f.begins)
 first_verdict refusals.HeaderCut version body front file_len f is = rw (read_along is.0 version body front (Err Cut) f is.1, le-ltb _ _ is.2) refl
 first_verdict refusals.HeaderTooLong version body front file_len f is = rw (read_along is.0 version body front (Err Cut) f is.1, lt-ltb _ _ is.2) refl
 first_verdict refusals.Streaming version body front file_len f is = rw (read_along is.0 version body front (Err Streaming) f is.1) refl
@@ -130,7 +144,7 @@ first_verdict (refusals.BadField place) version body front file_len f is = rw (r
 first_verdict (refusals.PastEnd var) version body front file_len f is = rw (read_along is.0 version body front (Ok is.1) f is.2, is.3) refl
 first_verdict refusals.Memory version body front file_len f is = absurd is
 
-pub only_cause : (version : ℕ) (body front : List ℕ) (file_len : ℕ) (r : Result Header HeaderRefusal) → Front version body front → Answers r (verdict version body (length front) file_len)
+pub only_cause : (version : Version) (body front : List ℕ) (file_len : ℕ) (r : Result Header HeaderRefusal) → Front version body front → Answers r (verdict version body (length front) file_len)
     → (first : HeaderRefusal) → IsFirst first front file_len → IsErrAnd r (λ e. (e ≡ refusals.Memory) ⊎ (e ≡ first))
 unfolding verdict
 only_cause version body front file_len r f a first is = go r a (first_verdict first version body front file_len f is)
@@ -150,14 +164,14 @@ only_cause version body front file_len r f a first is = go r a (first_verdict fi
 
 pub none_header : (front : List ℕ) (file_len : ℕ) → HasNoMagic front → (c : Contents) → IsHeader c front file_len → refusals.NotCdf ≡ refusals.Memory
 unfolding HasNoMagic
-none_header front file_len none c is = absurd (none is.0.version is.2.body is.2.version is.2.begins)
+none_header front file_len none c is = absurd (none is.0.version is.2.body is.2.begins)
 
 pub none_cause : (front : List ℕ) (file_len : ℕ) → HasNoMagic front → (first : HeaderRefusal) → IsFirst first front file_len → (refusals.NotCdf ≡ refusals.Memory) ⊎ (refusals.NotCdf ≡ first)
 unfolding HasNoMagic
 none_cause front file_len none refusals.NotCdf is = inr refl
-none_cause front file_len none refusals.HeaderCut is = absurd (none is.0.version is.1.body is.1.version is.1.begins)
-none_cause front file_len none refusals.HeaderTooLong is = absurd (none is.0.version is.1.body is.1.version is.1.begins)
-none_cause front file_len none refusals.Streaming is = absurd (none is.0.version is.1.body is.1.version is.1.begins)
-none_cause front file_len none (refusals.BadField place) is = absurd (none is.0.version is.2.body is.2.version is.2.begins)
-none_cause front file_len none (refusals.PastEnd var) is = absurd (none is.0.version is.2.body is.2.version is.2.begins)
+none_cause front file_len none refusals.HeaderCut is = absurd (none is.0.version is.1.body is.1.begins)
+none_cause front file_len none refusals.HeaderTooLong is = absurd (none is.0.version is.1.body is.1.begins)
+none_cause front file_len none refusals.Streaming is = absurd (none is.0.version is.1.body is.1.begins)
+none_cause front file_len none (refusals.BadField place) is = absurd (none is.0.version is.2.body is.2.begins)
+none_cause front file_len none (refusals.PastEnd var) is = absurd (none is.0.version is.2.body is.2.begins)
 none_cause front file_len none refusals.Memory is = absurd is

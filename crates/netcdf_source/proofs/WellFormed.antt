@@ -5,7 +5,7 @@ use Rattle.std.specs.List.{list_any, cons_option, AllZip}
 use Rattle.std.specs.Str.{bytes_eq}
 use Rattle.std.proofs.lemmas.Bool.Decides.{nat_tests, not_from_Decides}
 use Rattle.std.proofs.lemmas.List.{length-map, length-take}
-use Rattle.std.proofs.lemmas.List.Elements.{All-nil, All-cons, All-append}
+use Rattle.std.proofs.lemmas.List.Elements.{All-nil, All-cons, All-append, All-map}
 use Rattle.std.proofs.lemmas.List.Sums.{sum_by-cons}
 use Rattle.std.proofs.lemmas.Slice.Eq.{bytes_eq-Decides}
 use Rattle.dap_types.specs.Model.{Member, scalar, array, grid, members_of, name_of, count, count_all, sizes}
@@ -15,15 +15,15 @@ use Rattle.dap_types.specs.declared.declarations.Dim.{Dim}
 use Rattle.dap_types.proofs.Faults.{length-places}
 use Rattle.dap_types.proofs.Rules.{Obeys, earlier-Decides, well_formed_where_all_obey, false_from_not}
 use Rattle.netcdf_source.specs.Mapping.{size_at, has_texts, element_dimensions, is_offered, own_dimension, coordinate_variable, differ, is_empty, is_grid, dim_of, column_of, array_of, maps_of, member_of, dataset_of}
-use Rattle.netcdf_source.specs.Parts.{length_at}
-use Rattle.netcdf_source.specs.inner.Sound.{InTurn, IsDimension, IsVariable, IsSound, most_members}
+use Rattle.netcdf_source.specs.inner.Sound.{InTurn, IsVariable, IsSound, most_members}
 use Rattle.netcdf_source.specs.declared.header.Contents.{Contents}
-use Rattle.netcdf_source.specs.declared.header.Dimension.{Dimension}
 use Rattle.netcdf_source.specs.declared.header.Variable.{Variable}
+use Rattle.netcdf_source.specs.inner.Told.{AreSmall}
+use Rattle.netcdf_source.proofs.Offered.{elements_small}
 use Rattle.netcdf_source.proofs.EscapedNames.{same_names}
 use Rattle.dap_model.proofs.Tests.{both_true}
 use Rattle.netcdf_source.specs.Values.{map_variables}
-use Rattle.netcdf_source.proofs.GridMaps.{no, GridArray, grid_array, own_alone, at_front, IsNew, new_before, one_name, IsOwn, own_variables, maps_are}
+use Rattle.netcdf_source.proofs.GridMaps.{no, GridArray, grid_array, own_alone, own_offered, at_front, IsNew, new_before, one_name, IsOwn, own_variables, maps_are}
 
 -- ---- names of a level
 
@@ -55,22 +55,9 @@ pub dims_sizes : (c : Contents) (ids : List ℕ) → map (λ (d : Dim). d.size) 
 dims_sizes c [] = refl
 dims_sizes c (i ∷ ids) = ap (λ ns. size_at c i ∷ ns) (dims_sizes c ids)
 
-length_small : (before dims : List Dimension) (i : ℕ) → InTurn IsDimension before dims → length_at dims i ≤ 2147483647
-unfolding InTurn length_at
-length_small before [] i h = omega arith
-length_small before (d ∷ dims) zero h = h.0.size
-length_small before (d ∷ dims) (suc i) h = length_small (before ++ d ∷ []) dims i h.1
-
-size_small : (c : Contents) (i : ℕ) → IsSound c → size_at c i ≤ 2147483647
-size_small c i h = go (eqb (length_at c.dimensions i) 0)
-  where
-    go : (b : Bool) → cond b c.records (length_at c.dimensions i) ≤ 2147483647
-    go true = h.records
-    go false = length_small [] c.dimensions i h.dimensions
-
-sizes_small : (c : Contents) (ids : List ℕ) → IsSound c → All (λ n. n ≤ 2147483647) (map (size_at c) ids)
-sizes_small c [] h = All-nil (λ n. n ≤ 2147483647)
-sizes_small c (i ∷ ids) h = All-cons (λ n. n ≤ 2147483647) (size_at c i) (map (size_at c) ids) (size_small c i h) (sizes_small c ids h)
+sizes_small : (c : Contents) (ids : List ℕ) → AreSmall c ids → All (λ n. n ≤ 2147483647) (map (size_at c) ids)
+unfolding AreSmall
+sizes_small c ids h = All-map (λ n. n ≤ 2147483647) (size_at c) ids h
 
 element_rank : (c : Contents) (v : Variable) → length (element_dimensions c v) ≤ length v.dimensions
 unfolding element_dimensions
@@ -80,11 +67,11 @@ element_rank c v = go (has_texts c v)
     go true = omega (arith, length-take (length v.dimensions - 1) v.dimensions)
     go false = omega arith
 
-array_sized : (c : Contents) (v : Variable) → IsSound c → length v.dimensions ≤ 32 → is_empty (element_dimensions c v) ≡ false → IsSized (array (array_of c v))
+array_sized : (c : Contents) (v : Variable) → is_offered c v ≡ true → length v.dimensions ≤ 32 → is_empty (element_dimensions c v) ≡ false → IsSized (array (array_of c v))
 array_sized c v h rank some = (
   omega (arith, length-map (element_dimensions c v) (dim_of c), one (length (element_dimensions c v)) some),
   omega (arith, length-map (element_dimensions c v) (dim_of c), element_rank c v),
-  subst (All (λ n. n ≤ 2147483647)) (sym (dims_sizes c (element_dimensions c v))) (sizes_small c (element_dimensions c v) h),
+  subst (All (λ n. n ≤ 2147483647)) (sym (dims_sizes c (element_dimensions c v))) (sizes_small c (element_dimensions c v) (elements_small c v h)),
 )
   where
     one : (n : ℕ) → eqb n 0 ≡ false → 1 ≤ n
@@ -96,12 +83,12 @@ array_sized c v h rank some = (
 own_sizes : (c : Contents) (w : Variable) (i : ℕ) → IsOwn c w i → sizes (array_of c w) ≡ size_at c i ∷ []
 own_sizes c w i is = dims_sizes c (element_dimensions c w) ∙ ap (map (size_at c)) (own_alone c w i is.1)
 
-own_sized : (c : Contents) (w : Variable) (i : ℕ) → IsSound c → IsOwn c w i → IsSized (array (array_of c w))
-own_sized c w i h is =
+own_sized : (c : Contents) (w : Variable) (i : ℕ) → IsOwn c w i → IsSized (array (array_of c w))
+own_sized c w i is =
     let one : length (element_dimensions c w) ≡ 1 = ap length (own_alone c w i is.1) in (
       omega (arith, length-map (element_dimensions c w) (dim_of c), one),
       omega (arith, length-map (element_dimensions c w) (dim_of c), one),
-      subst (All (λ n. n ≤ 2147483647)) (sym (dims_sizes c (element_dimensions c w))) (sizes_small c (element_dimensions c w) h),
+      subst (All (λ n. n ≤ 2147483647)) (sym (dims_sizes c (element_dimensions c w))) (sizes_small c (element_dimensions c w) (elements_small c w (own_offered c w i is.1))),
     )
 
 -- two variables that are not the coordinate variable of one dimension have different names
@@ -145,7 +132,7 @@ maps_obey c (w ∷ ws) (i ∷ ids) earlier h zip apart unmet =
     let parts = both_true (not (list_any (λ j. eqb j i) ids)) (differ ids) apart in
     let here : list_any (λ j. eqb j i) (i ∷ ids) ≡ true = rw (eqb_same i) refl in
     All-cons Obeys (place 2 earlier (array (array_of c w))) (leaf_places 2 (file_id w.name ∷ earlier) (map array (map (array_of c) ws)))
-    (record { shallow = omega arith; name_differs = free_name earlier (file_id w.name) (unmet w i zip.0 here); sized = own_sized c w i h zip.0; mapped = tt })
+    (record { shallow = omega arith; name_differs = free_name earlier (file_id w.name) (unmet w i zip.0 here); sized = own_sized c w i zip.0; mapped = tt })
     (maps_obey c ws ids (file_id w.name ∷ earlier) h zip.1 parts.1 (unmet_next c i ids earlier w h zip.0 (no (list_any (λ j. eqb j i) ids) parts.0) unmet))
 
 maps_fit : (c : Contents) (ws : List Variable) (ids : List ℕ) → AllZip (IsOwn c) ws ids → AllZip (λ m n. sizes m ≡ n ∷ []) (map (array_of c) ws) (map (size_at c) ids)
@@ -160,9 +147,9 @@ maps_fit c (w ∷ ws) (i ∷ ids) zip = (own_sizes c w i zip.0, maps_fit c ws id
 abbrev IsOne : Contents → Variable → Type 0
 IsOne c v = (k : ℕ) × (slice_get c.variables k ≡ Some v)
 
-grid_obeys : (c : Contents) (v : Variable) → IsSound c → IsOne c v → length v.dimensions ≤ 32 → GridArray c v
+grid_obeys : (c : Contents) (v : Variable) → IsSound c → IsOne c v → is_offered c v ≡ true → length v.dimensions ≤ 32 → GridArray c v
     → HasMaps (grid (file_id v.name) (array_of c v) (maps_of c v.dimensions)) × All Obeys (part_places 2 (grid (file_id v.name) (array_of c v) (maps_of c v.dimensions)))
-grid_obeys c v h one rank g =
+grid_obeys c v h one told rank g =
     let zip = own_variables c v.dimensions g.coordinates in
     let ns : sizes (array_of c v) ≡ map (size_at c) v.dimensions = dims_sizes c (element_dimensions c v) ∙ ap (map (size_at c)) g.whole in
     let ws = map_variables c v.dimensions in
@@ -170,7 +157,7 @@ grid_obeys c v h one rank g =
       rw (maps_are c v.dimensions, ns) (maps_fit c ws v.dimensions zip),
       subst (λ maps. All Obeys (leaf_places 2 [] (map array (array_of c v ∷ maps)))) (sym (maps_are c v.dimensions))
           (All-cons Obeys (place 2 [] (array (array_of c v))) (leaf_places 2 (file_id v.name ∷ []) (map array (map (array_of c) ws)))
-          (record { shallow = omega arith; name_differs = free_name [] (file_id v.name) refl; sized = array_sized c v h rank (ap is_empty g.whole ∙ g.some); mapped = tt })
+          (record { shallow = omega arith; name_differs = free_name [] (file_id v.name) refl; sized = array_sized c v told rank (ap is_empty g.whole ∙ g.some); mapped = tt })
           (maps_obey c ws v.dimensions (file_id v.name ∷ []) h zip g.differ unmet)),
     )
   where
@@ -181,17 +168,17 @@ grid_obeys c v h one rank g =
 abbrev ObeysBelow : List (List ℕ) → Member → Type 0
 ObeysBelow earlier m = Obeys (place 1 earlier m) × All Obeys (part_places 2 m)
 
-member_obeys : (c : Contents) (earlier : List (List ℕ)) (v : Variable) → IsSound c → IsOne c v → length v.dimensions ≤ 32 → IsFree earlier (file_id v.name) → ObeysBelow earlier (member_of c v)
+member_obeys : (c : Contents) (earlier : List (List ℕ)) (v : Variable) → IsSound c → IsOne c v → is_offered c v ≡ true → length v.dimensions ≤ 32 → IsFree earlier (file_id v.name) → ObeysBelow earlier (member_of c v)
 unfolding member_of
-member_obeys c earlier v h one rank free = go (is_empty (element_dimensions c v)) refl (is_grid c v) refl
+member_obeys c earlier v h one told rank free = go (is_empty (element_dimensions c v)) refl (is_grid c v) refl
   where
     go : (e : Bool) → is_empty (element_dimensions c v) ≡ e → (b : Bool) → is_grid c v ≡ b
         → ObeysBelow earlier (cond e (scalar (column_of v)) (cond b (grid (file_id v.name) (array_of c v) (maps_of c v.dimensions)) (array (array_of c v))))
     go true p b q = (record { shallow = omega arith; name_differs = free_name earlier (file_id v.name) free; sized = tt; mapped = tt }, All-nil Obeys)
     go false p true q =
-        let g = grid_obeys c v h one rank (grid_array c v q) in
+        let g = grid_obeys c v h one told rank (grid_array c v q) in
         (record { shallow = omega arith; name_differs = free_name earlier (file_id v.name) free; sized = tt; mapped = g.0 }, g.1)
-    go false p false q = (record { shallow = omega arith; name_differs = free_name earlier (file_id v.name) free; sized = array_sized c v h rank p; mapped = tt }, All-nil Obeys)
+    go false p false q = (record { shallow = omega arith; name_differs = free_name earlier (file_id v.name) free; sized = array_sized c v told rank p; mapped = tt }, All-nil Obeys)
 
 member_name : (c : Contents) (v : Variable) → name_of (member_of c v) ≡ file_id v.name
 unfolding member_of
@@ -209,18 +196,19 @@ members_obey c before [] earlier h whole turn free = All-nil Obeys
 members_obey c before (v ∷ vs) earlier h whole turn free =
     let later : c.variables ≡ (before ++ v ∷ []) ++ vs = whole ∙ sym (append_assoc before (v ∷ []) vs) in
     let one : IsOne c v = (length before, ap (λ xs. slice_get xs (length before)) whole ∙ at_front before vs v) in
-    go (is_offered c v) (member_obeys c earlier v h one turn.0.rank (free v turn.0.is_new))
+    go (is_offered c v) refl (λ told. member_obeys c earlier v h one told turn.0.rank (free v turn.0.is_new))
     (members_obey c (before ++ v ∷ []) vs (file_id v.name ∷ earlier) h later turn.1 (free_next before earlier v free))
     (members_obey c (before ++ v ∷ []) vs earlier h later turn.1 (free_same before earlier v free))
   where
-    go : (b : Bool) → ObeysBelow earlier (member_of c v) → All Obeys (places 1 (file_id v.name ∷ earlier) (members_of (map (member_of c) (filter (is_offered c) vs))))
+    go : (b : Bool) → is_offered c v ≡ b → (is_offered c v ≡ true → ObeysBelow earlier (member_of c v)) → All Obeys (places 1 (file_id v.name ∷ earlier) (members_of (map (member_of c) (filter (is_offered c) vs))))
         → All Obeys (places 1 earlier (members_of (map (member_of c) (filter (is_offered c) vs))))
         → All Obeys (places 1 earlier (members_of (map (member_of c) (cond b (v ∷ filter (is_offered c) vs) (filter (is_offered c) vs)))))
-    go true here with' without =
+    go true told below with' without =
+        let here = below told in
         All-cons Obeys (place 1 earlier (member_of c v)) (part_places 2 (member_of c v) ++ places 1 (name_of (member_of c v) ∷ earlier) (members_of (map (member_of c) (filter (is_offered c) vs)))) here.0
         (All-append Obeys (part_places 2 (member_of c v)) (places 1 (name_of (member_of c v) ∷ earlier) (members_of (map (member_of c) (filter (is_offered c) vs)))) here.1
         (subst (λ (name : List ℕ). All Obeys (places 1 (name ∷ earlier) (members_of (map (member_of c) (filter (is_offered c) vs))))) (sym (member_name c v)) with'))
-    go false here with' without = without
+    go false told below with' without = without
 
 -- ---- how many
 

@@ -17,7 +17,7 @@ use Rattle.netcdf_source.specs.Mapping.{is_offered}
 use Rattle.netcdf_source.specs.Types.{size_of}
 use Rattle.netcdf_source.specs.Values.{value_of}
 use Rattle.netcdf_source.specs.declared.external_type.ExternalType.{ExternalType}
-use Rattle.netcdf_source.specs.declared.external_type.ExternalType.TheVariants.{Byte, Char, Short, Int, Float, Double}
+use Rattle.netcdf_source.specs.declared.external_type.ExternalType.TheVariants.{Byte, Char, Short, Int, Float, Double, UByte, UShort, UInt, Int64, UInt64}
 use Rattle.netcdf_source.specs.declared.header.Attribute.{Attribute}
 use Rattle.netcdf_source.specs.declared.header.Contents.{Contents}
 use Rattle.netcdf_source.specs.declared.header.Variable.{Variable}
@@ -28,7 +28,7 @@ use Rattle.netcdf_source.specs.declared.header.Variable.{Variable}
 unfoldable pub pieces : ℕ → List ℕ → List (List ℕ)
 pieces n bytes = first_chunks n (length bytes / n) bytes
 
--- the type of an attribute's values: whole numbers keep theirs, all else is text
+-- the type of an attribute's values: whole numbers of up to 32 bits keep theirs, all else is text
 abbrev pub value_base : ExternalType → BaseType
 value_base Byte = base.Byte
 value_base Short = base.Int16
@@ -36,6 +36,11 @@ value_base Int = base.Int32
 value_base Char = base.Text
 value_base Float = base.Text
 value_base Double = base.Text
+value_base UByte = base.Byte
+value_base UShort = base.UInt16
+value_base UInt = base.UInt32
+value_base Int64 = base.Text
+value_base UInt64 = base.Text
 
 -- a value as a word: a whole number in decimal digits, the bits of a float in hexadecimal ones
 abbrev pub value_word : Value → Word

@@ -7,18 +7,24 @@
 --   attrs   = tag count (name type count values)*
 --   vars    = tag count (name rank dimid* attrs type vsize begin)*
 --   name    = count bytes
-use Rattle.std.specs.Prelude.{ℕ, ◌+◌, ◌*◌, ◌^◌, Bool, ◌&&◌, ◌||◌, not, List, [], ◌∷◌, ◌++◌, length, map, ◌==◌, nat_lt, nat_le, if◌then◌else◌, Option, Some, unwrap_or, is_none}
+--
+-- A tag and a type have four bytes, the other numbers those of the version.
+use Rattle.std.specs.Prelude.{ℕ, ◌+◌, ◌*◌, ◌^◌, Bool, ◌&&◌, ◌||◌, not, List, [], ◌∷◌, ◌++◌, length, map, ◌==◌, nat_lt, nat_le, if◌then◌else◌, Option, Some, None, unwrap_or, is_none}
 use Rattle.std.specs.List.{list_any}
 use Rattle.std.specs.Str.{bytes_eq}
-use Rattle.netcdf_source.specs.Fields.{word, long, run, unread, Fault, streaming, bad_if, Judged, judged, fine}
+use Rattle.netcdf_source.specs.Fields.{run, Fault, streaming, bad_if, Judged, judged, fine}
 use Rattle.netcdf_source.specs.Parts.{length_at, part, is_record, share, shares}
-use Rattle.netcdf_source.specs.Types.{size_of, type_of}
+use Rattle.netcdf_source.specs.Types.{size_of, type_numbered, type_of}
+use Rattle.netcdf_source.specs.Versions.{number_width, place_width, bytes_in, largest, all_ones}
 use Rattle.netcdf_source.specs.declared.external_type.ExternalType.{ExternalType}
 use Rattle.netcdf_source.specs.declared.external_type.ExternalType.TheVariants.{Byte}
 use Rattle.netcdf_source.specs.declared.header.Attribute.{Attribute}
 use Rattle.netcdf_source.specs.declared.header.Contents.{Contents}
 use Rattle.netcdf_source.specs.declared.header.Dimension.{Dimension}
 use Rattle.netcdf_source.specs.declared.header.Variable.{Variable}
+use Rattle.netcdf_source.specs.declared.version.Version.{Version}
+use Rattle.netcdf_source.specs.declared.version.Width.{Width}
+use Rattle.netcdf_source.specs.declared.version.Width.TheVariants.{Four}
 
 -- a list: its tag and its items
 pub record Listed (X : Type 0) : Type 0 where
@@ -36,10 +42,12 @@ pub record VariableTree : Type 0 where
   pub dimensions : List ℕ
   pub attributes : Listed AttributeTree
   pub number : ℕ
+  -- vsize, which may be any number
+  pub size : ℕ
   pub begin : ℕ
 
 pub record HeaderTree : Type 0 where
-  pub version : ℕ
+  pub version : Version
   pub records : ℕ
   pub dimensions : Listed Dimension
   pub attributes : Listed AttributeTree
@@ -48,7 +56,7 @@ pub record HeaderTree : Type 0 where
 -- ---- what a tree says
 
 abbrev pub external_type : ℕ → ExternalType
-external_type n = unwrap_or (type_of n) Byte
+external_type n = unwrap_or (type_numbered n) Byte
 
 abbrev pub attribute : AttributeTree → Attribute
 attribute a = record { name = a.name; external_type = external_type a.number; values = a.values }
@@ -61,9 +69,9 @@ contents h = record { records = h.records; dimensions = h.dimensions.items; attr
 
 -- ---- faults
 
--- numrecs
-unfoldable pub records_fault : ℕ → Option Fault
-records_fault n = if n == 4294967295 then Some streaming else bad_if (nat_lt 2147483647 n) 0
+-- numrecs, which is all ones while the file is still written
+unfoldable pub records_fault : Width → ℕ → Option Fault
+records_fault width n = if n == all_ones width then Some streaming else bad_if (nat_lt (largest width) n) 0
 
 -- the tag of an absent list is 0
 unfoldable pub tag_fault : ℕ → ℕ → Option Fault
@@ -77,15 +85,19 @@ unfoldable pub name_fault : ℕ → Option Fault
 name_fault n = bad_if (n == 0 || nat_lt 256 n) 0
 
 -- a name that an earlier one is equal to is told at its length
-unfoldable pub repeat_fault : List (List ℕ) → List ℕ → Option Fault
-repeat_fault earlier name = bad_if (list_any (bytes_eq name) earlier) 4
+unfoldable pub repeat_fault : Width → List (List ℕ) → List ℕ → Option Fault
+repeat_fault width earlier name = bad_if (list_any (bytes_eq name) earlier) (bytes_in width)
 
 -- the length of a dimension, behind a record dimension or not
-unfoldable pub length_fault : Bool → ℕ → Option Fault
-length_fault has_records n = bad_if (nat_lt 2147483647 n || n == 0 && has_records) 0
+unfoldable pub length_fault : Width → Bool → ℕ → Option Fault
+length_fault width has_records n = bad_if (nat_lt (largest width) n || n == 0 && has_records) 0
 
-unfoldable pub type_fault : ℕ → Option Fault
-type_fault n = bad_if (is_none (type_of n)) 0
+unfoldable pub type_fault : Version → ℕ → Option Fault
+type_fault version n = bad_if (is_none (type_of version n)) 0
+
+-- a number that may be any
+abbrev pub no_fault : ℕ → Option Fault
+no_fault n = None
 
 unfoldable pub rank_fault : ℕ → Option Fault
 rank_fault n = bad_if (nat_lt 32 n) 0
@@ -97,6 +109,10 @@ dimension_fault dims is_first n = bad_if (nat_le (length dims) n || not is_first
 -- a variable's bytes, and those of a record up to it
 unfoldable pub part_fault : List Dimension → ℕ → List ℕ → ExternalType → Option Fault
 part_fault dims sum ids kind = bad_if (nat_lt (2 ^ 62) (part dims ids kind) || is_record dims ids && nat_lt (2 ^ 62) (sum + share dims ids kind)) 0
+
+-- a variable's vsize, which may be any number: at it the variable's bytes are judged
+unfoldable pub size_fault : List Dimension → ℕ → List ℕ → ExternalType → ℕ → Option Fault
+size_fault dims sum ids kind n = part_fault dims sum ids kind
 
 unfoldable pub begin_fault : ℕ → Option Fault
 begin_fault n = bad_if (nat_le (2 ^ 63) n) 0
@@ -113,57 +129,53 @@ unfoldable pub in_turn : {T X : Type 0} → (List X → T → List Judged) → (
 in_turn fields says before [] = []
 in_turn fields says before (t ∷ ts) = fields before t ++ in_turn fields says (before ++ says t ∷ []) ts
 
-abbrev pub list_fields : {T X : Type 0} → ℕ → (List X → T → List Judged) → (T → X) → Listed T → List Judged
-list_fields tag fields says l =
-    judged (tag_fault tag) l.tag ∷ judged (count_fault l.tag) (length l.items) ∷ in_turn fields says [] l.items
+abbrev pub list_fields : {T X : Type 0} → Width → ℕ → (List X → T → List Judged) → (T → X) → Listed T → List Judged
+list_fields width tag fields says l =
+    judged Four (tag_fault tag) l.tag ∷ judged width (count_fault l.tag) (length l.items) ∷ in_turn fields says [] l.items
 
 -- a name of an attribute, which may be that of another one
-abbrev pub name_fields : List ℕ → List Judged
-name_fields name = judged name_fault (length name) ∷ fine (run (length name) name) ∷ []
+abbrev pub name_fields : Width → List ℕ → List Judged
+name_fields width name = judged width name_fault (length name) ∷ fine (run (length name) name) ∷ []
 
-abbrev pub new_name_fields : List (List ℕ) → List ℕ → List Judged
-new_name_fields earlier name =
-    judged name_fault (length name) ∷ record { field = run (length name) name; fault = repeat_fault earlier name } ∷ []
+abbrev pub new_name_fields : Width → List (List ℕ) → List ℕ → List Judged
+new_name_fields width earlier name =
+    judged width name_fault (length name) ∷ record { field = run (length name) name; fault = repeat_fault width earlier name } ∷ []
 
 abbrev pub is_record_dimension : Dimension → Bool
 is_record_dimension d = d.length == 0
 
-unfoldable pub dimension_fields : List Dimension → Dimension → List Judged
-dimension_fields before d = in_order (
-    new_name_fields (map (λ b. b.name) before) d.name
-    ∷ (judged (length_fault (list_any is_record_dimension before)) d.length ∷ [])
+unfoldable pub dimension_fields : Width → List Dimension → Dimension → List Judged
+dimension_fields width before d = in_order (
+    new_name_fields width (map (λ b. b.name) before) d.name
+    ∷ (judged width (length_fault width (list_any is_record_dimension before)) d.length ∷ [])
     ∷ [])
 
-unfoldable pub attribute_fields : List Attribute → AttributeTree → List Judged
-attribute_fields before a = in_order (
-    name_fields a.name
-    ∷ (judged type_fault a.number ∷ [])
-    ∷ (fine (word a.count) ∷ [])
+unfoldable pub attribute_fields : Version → List Attribute → AttributeTree → List Judged
+attribute_fields version before a = in_order (
+    name_fields (number_width version) a.name
+    ∷ (judged Four (type_fault version) a.number ∷ [])
+    ∷ (judged (number_width version) no_fault a.count ∷ [])
     ∷ (fine (run (a.count * size_of (external_type a.number)) a.values) ∷ [])
     ∷ [])
 
-unfoldable pub id_fields : List Dimension → List ℕ → ℕ → List Judged
-id_fields dims before n = judged (dimension_fault dims (length before == 0)) n ∷ []
+unfoldable pub id_fields : Width → List Dimension → List ℕ → ℕ → List Judged
+id_fields width dims before n = judged width (dimension_fault dims (length before == 0)) n ∷ []
 
--- begin has 4 bytes in version 1 and 8 in version 2
-abbrev pub begin_field : ℕ → ℕ → Judged
-begin_field version n = record { field = if version == 1 then word n else long n; fault = begin_fault n }
-
-unfoldable pub variable_fields : ℕ → List Dimension → List Variable → VariableTree → List Judged
+unfoldable pub variable_fields : Version → List Dimension → List Variable → VariableTree → List Judged
 variable_fields version dims before v = in_order (
-    new_name_fields (map (λ b. b.name) before) v.name
-    ∷ (judged rank_fault (length v.dimensions) ∷ in_turn (id_fields dims) (λ n. n) [] v.dimensions)
-    ∷ list_fields 12 attribute_fields attribute v.attributes
-    ∷ (judged type_fault v.number ∷ [])
-    ∷ (record { field = unread; fault = part_fault dims (shares dims before) v.dimensions (external_type v.number) } ∷ [])
-    ∷ (begin_field version v.begin ∷ [])
+    new_name_fields (number_width version) (map (λ b. b.name) before) v.name
+    ∷ (judged (number_width version) rank_fault (length v.dimensions) ∷ in_turn (id_fields (number_width version) dims) (λ n. n) [] v.dimensions)
+    ∷ list_fields (number_width version) 12 (attribute_fields version) attribute v.attributes
+    ∷ (judged Four (type_fault version) v.number ∷ [])
+    ∷ (judged (number_width version) (size_fault dims (shares dims before) v.dimensions (external_type v.number)) v.size ∷ [])
+    ∷ (judged (place_width version) begin_fault v.begin ∷ [])
     ∷ [])
 
 -- all that stands behind the magic
 unfoldable pub header_fields : HeaderTree → List Judged
 header_fields h = in_order (
-    (judged records_fault h.records ∷ [])
-    ∷ list_fields 10 dimension_fields (λ d. d) h.dimensions
-    ∷ list_fields 12 attribute_fields attribute h.attributes
-    ∷ list_fields 11 (variable_fields h.version h.dimensions.items) variable h.variables
+    (judged (number_width h.version) (records_fault (number_width h.version)) h.records ∷ [])
+    ∷ list_fields (number_width h.version) 10 (dimension_fields (number_width h.version)) (λ d. d) h.dimensions
+    ∷ list_fields (number_width h.version) 12 (attribute_fields h.version) attribute h.attributes
+    ∷ list_fields (number_width h.version) 11 (variable_fields h.version h.dimensions.items) variable h.variables
     ∷ [])

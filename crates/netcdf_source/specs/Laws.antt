@@ -1,14 +1,14 @@
 -- What the definitions of this crate promise of one another and to those of `dap_model`, each as a
 -- statement over all headers and files.
-use Rattle.std.specs.Prelude.{◌≡◌, ◌≢◌, ℕ, ◌<◌, List, [], ◌∷◌, ◌++◌, replicate, take, length, All, Option, Some, None, Result, Ok, Err, option_map, option_and_then, if◌then◌else◌}
+use Rattle.std.specs.Prelude.{◌≡◌, ◌≢◌, ℕ, ◌<◌, ◌≤◌, List, [], ◌∷◌, ◌++◌, replicate, take, length, All, Option, Some, None, Result, Ok, Err, option_map, option_and_then, if◌then◌else◌}
 use Rattle.dap_types.specs.Model.{Member, scalar, array}
-use Rattle.dap_types.specs.WellFormed.{member_at, is_leaf}
+use Rattle.dap_types.specs.WellFormed.{member_at, is_leaf, IsWellFormed}
 use Rattle.dap_model.specs.Fits.{FitsAll}
 use Rattle.dap_model.specs.Grammar.{HasWords}
 use Rattle.file_names.specs.Names.{segment}
 use Rattle.netcdf_source.specs.Header.{IsHeader, IsFirst}
 use Rattle.netcdf_source.specs.Layouts.{layout_of}
-use Rattle.netcdf_source.specs.Mapping.{element_dimensions, is_empty, column_of, array_of, dataset_of, leaf_variable}
+use Rattle.netcdf_source.specs.Mapping.{element_dimensions, is_empty, column_of, array_of, dataset_of, leaf_variable, with_records}
 use Rattle.netcdf_source.specs.Values.{without_zeros, tree_of, placed_tree, file_trees}
 use Rattle.netcdf_source.specs.declared.header.Contents.{Contents}
 use Rattle.netcdf_source.specs.declared.header.Variable.{Variable}
@@ -54,6 +54,11 @@ OneVerdict = (front : List ℕ) (file_len : ℕ) (one other : Result Contents He
 -- and whatever the bytes, they are one of these
 abbrev pub EachHasVerdict : Type 0
 EachHasVerdict = (front : List ℕ) (file_len : ℕ) → All (λ b. b < 256) front → (verdict : Result Contents HeaderRefusal) × IsVerdict front file_len verdict
+
+-- the dataset of a header is well formed, with any number of records
+abbrev pub DatasetIsWellFormed : Type 0
+DatasetIsWellFormed = (c : Contents) (front file_name : List ℕ) (file_len records : ℕ) → length front ≤ 1048576 → IsHeader c front file_len →
+    IsWellFormed (dataset_of c file_name) × IsWellFormed (dataset_of (with_records records c) file_name)
 
 -- the names in a file's dataset are words: those of its members, and its own where the file has one
 abbrev pub DatasetHasWords : Type 0

@@ -1,3 +1,4 @@
+pub mod Versions
 pub mod Types
 pub mod Fields
 pub mod Parts

@@ -1,6 +1,6 @@
 -- The dataset of a netCDF classic file: which variables are offered, and what each becomes (DAP 2.0,
 -- DDS; the mapping is this project's).
-use Rattle.std.specs.Prelude.{ℕ, ◌+◌, ◌-◌, Bool, true, false, ◌&&◌, not, List, [], ◌∷◌, ◌++◌, length, map, filter, filter_map, take, ◌==◌, nat_lt, if◌then◌else◌, Option, Some, None, is_some, is_none, option_map, option_and_then, slice_get, slice_index}
+use Rattle.std.specs.Prelude.{◌≡◌, ℕ, ◌+◌, ◌-◌, Bool, true, false, ◌&&◌, not, List, [], ◌∷◌, ◌++◌, length, map, filter, filter_map, take, ◌==◌, nat_lt, nat_le, if◌then◌else◌, Option, Some, None, is_some, is_none, option_map, option_and_then, slice_get, slice_index}
 use Rattle.std.specs.List.{list_all, list_any, position_from}
 use Rattle.std.specs.Option.{option_map_or}
 use Rattle.std.specs.Str.{bytes_eq}
@@ -12,10 +12,11 @@ use Rattle.dap_types.specs.declared.declarations.BaseType.TheVariants as base
 use Rattle.dap_types.specs.declared.declarations.Column.{Column}
 use Rattle.dap_types.specs.declared.declarations.Dim.{Dim}
 use Rattle.file_names.specs.Names.{dataset_name}
-use Rattle.netcdf_source.specs.Parts.{length_at, lengths}
+use Rattle.netcdf_source.specs.Grammar.{is_record_dimension}
+use Rattle.netcdf_source.specs.Parts.{length_at, lengths, is_record}
 use Rattle.netcdf_source.specs.Types.{size_of}
 use Rattle.netcdf_source.specs.declared.external_type.ExternalType.{ExternalType}
-use Rattle.netcdf_source.specs.declared.external_type.ExternalType.TheVariants.{Byte, Char, Short, Int, Float, Double}
+use Rattle.netcdf_source.specs.declared.external_type.ExternalType.TheVariants.{Byte, Char, Short, Int, Float, Double, UByte, UShort, UInt, Int64, UInt64}
 use Rattle.netcdf_source.specs.declared.header.Contents.{Contents}
 use Rattle.netcdf_source.specs.declared.header.Variable.{Variable}
 
@@ -32,6 +33,7 @@ name_at c i = option_map_or (λ d. d.name) (slice_get c.dimensions i) []
 abbrev pub dimension_ids : Contents → List (List ℕ)
 dimension_ids c = map (λ d. file_id d.name) c.dimensions
 
+-- the DAP type of values; numbers of 64 bits have none, and are no more than texts
 abbrev pub base_of : ExternalType → BaseType
 base_of Byte = base.Byte
 base_of Char = base.Text
@@ -39,6 +41,17 @@ base_of Short = base.Int16
 base_of Int = base.Int32
 base_of Float = base.Float32
 base_of Double = base.Float64
+base_of UByte = base.Byte
+base_of UShort = base.UInt16
+base_of UInt = base.UInt32
+base_of Int64 = base.Text
+base_of UInt64 = base.Text
+
+-- whole numbers of 64 bits, which DAP 2.0 does not have
+abbrev pub is_long : ExternalType → Bool
+is_long Int64 = true
+is_long UInt64 = true
+is_long t = false
 
 abbrev pub is_char_type : ExternalType → Bool
 is_char_type Char = true
@@ -67,16 +80,21 @@ element_dimensions c v = if has_texts c v then take (length v.dimensions - 1) v.
 unfoldable pub element_size : Contents → Variable → ℕ
 element_size c v = if has_texts c v then length_at c.dimensions (slice_index v.dimensions (length v.dimensions - 1)) else size_of v.external_type
 
--- texts of more than 65,536 bytes are not offered
-abbrev pub is_offered : Contents → Variable → Bool
-is_offered c v = not (nat_lt 65536 (element_size c v))
+-- the sizes of these dimensions are Int32, as those of an array
+unfoldable pub are_small : Contents → List ℕ → Bool
+are_small c ids = list_all (λ i. nat_le (size_at c i) 2147483647) ids
+
+-- a variable is offered where its type is one of DAP 2.0, its sizes are those of an array, and its
+-- texts have at most 65,536 bytes
+unfoldable pub is_offered : Contents → Variable → Bool
+is_offered c v = not (is_long v.external_type) && are_small c v.dimensions && not (nat_lt 65536 (element_size c v))
 
 -- ---- coordinate variables and Grids
 
--- the dimension that a variable is the coordinate variable of: it is not char, has that dimension
--- alone, and its name
+-- the dimension that a variable is the coordinate variable of: it is offered and not char, has that
+-- dimension alone, and its name
 abbrev pub has_dimension_name : Contents → ℕ → Variable → Bool
-has_dimension_name c i v = option_map_or (λ d. not (is_char v) && bytes_eq v.name d.name) (slice_get c.dimensions i) false
+has_dimension_name c i v = option_map_or (λ d. is_offered c v && not (is_char v) && bytes_eq v.name d.name) (slice_get c.dimensions i) false
 
 abbrev pub own_dimension_in : Contents → Variable → List ℕ → Option ℕ
 own_dimension_in c v [] = None
@@ -100,7 +118,8 @@ differ (i ∷ is) = not (list_any (λ j. j == i) is) && differ is
 abbrev pub is_empty : List ℕ → Bool
 is_empty ids = length ids == 0
 
--- a Grid's dimensions differ, and each has a coordinate variable (DAP 2.0, Grid)
+-- an offered variable is a Grid where its dimensions differ, and each has a coordinate variable
+-- (DAP 2.0, Grid)
 unfoldable pub is_grid : Contents → Variable → Bool
 is_grid c v =
     not (is_char v) && is_none (own_dimension c v) && not (is_empty v.dimensions) && differ v.dimensions
@@ -152,3 +171,35 @@ leaf_in leaves n = if n == 0 then None else option_and_then (λ leaf. leaf) (sli
 -- the variable of the leaf with that number as a member: none where that member is no leaf
 unfoldable pub leaf_variable : Contents → ℕ → Option Variable
 leaf_variable c n = option_and_then (slice_get c.variables) (leaf_in (leaves_from c 0 c.variables) n)
+
+-- ---- files that are joined along the record dimension
+
+abbrev pub has_record_dimension : Contents → Bool
+has_record_dimension c = list_any is_record_dimension c.dimensions
+
+-- the number of records, where there is a record dimension
+abbrev pub records_of : Contents → Option ℕ
+records_of c = if has_record_dimension c then Some c.records else None
+
+-- what a header says, with another number of records
+abbrev pub with_records : ℕ → Contents → Contents
+with_records records c = record { records = records; dimensions = c.dimensions; attributes = c.attributes; variables = c.variables }
+
+-- the first dimension of a variable is the record dimension
+abbrev pub is_over_records : Contents → Variable → Bool
+is_over_records c v = is_record c.dimensions v.dimensions
+
+-- a variable without its attributes and its place
+pub record VariableShape : Type 0 where
+  pub name : List ℕ
+  pub external_type : ExternalType
+  pub dimensions : List ℕ
+
+abbrev pub shape_of : Variable → VariableShape
+shape_of v = record { name = v.name; external_type = v.external_type; dimensions = v.dimensions }
+
+-- equal lists of dimensions, each with its name and length, and of variables, each with its name,
+-- type and dimensions
+pub record HaveSameShape (c d : Contents) : Type 0 where
+  pub dimensions : c.dimensions ≡ d.dimensions
+  pub variables : map shape_of c.variables ≡ map shape_of d.variables

@@ -2,6 +2,8 @@
 -- constructor types): what the bytes of an element stand for, the values of a variable, and those of
 -- the file's dataset.
 use Rattle.std.specs.Prelude.{ℕ, ◌&&◌, List, [], ◌∷◌, length, map, filter, filter_map, ◌==◌, if◌then◌else◌}
+use Rattle.std.specs.Fmt.{decimal, signed_decimal}
+use Rattle.std.specs.Int.{w64, from_be_bytes, cast_signed}
 use Rattle.std.specs.List.{range_with_len}
 use Rattle.dap_types.specs.Model.{Tree, many, trees_of}
 use Rattle.dap_types.specs.declared.slabs.Layout.{Layout}
@@ -12,7 +14,7 @@ use Rattle.dap_model.specs.Raw as raw
 use Rattle.netcdf_source.specs.Layouts.{slice, element_sizes, element_at, place}
 use Rattle.netcdf_source.specs.Mapping.{base_of, is_offered, is_grid, coordinate_variable}
 use Rattle.netcdf_source.specs.declared.external_type.ExternalType.{ExternalType}
-use Rattle.netcdf_source.specs.declared.external_type.ExternalType.TheVariants.{Char}
+use Rattle.netcdf_source.specs.declared.external_type.ExternalType.TheVariants.{Char, Int64, UInt64}
 use Rattle.netcdf_source.specs.declared.header.Contents.{Contents}
 use Rattle.netcdf_source.specs.declared.header.Variable.{Variable}
 
@@ -21,9 +23,12 @@ abbrev pub without_zeros : List ℕ → List ℕ
 without_zeros [] = []
 without_zeros (b ∷ bytes) = if b == 0 && length (without_zeros bytes) == 0 then [] else b ∷ without_zeros bytes
 
--- the value of an external type that stands in some bytes
+-- the value of an external type that stands in some bytes: a number of 64 bits is a text of its decimal
+-- digits
 abbrev pub value_of : ExternalType → List ℕ → Value
 value_of Char bytes = Text (without_zeros bytes)
+value_of Int64 bytes = Text (signed_decimal (cast_signed w64 (from_be_bytes w64 bytes)))
+value_of UInt64 bytes = Text (decimal (from_be_bytes w64 bytes))
 value_of t bytes = raw.value_of (base_of t) bytes
 
 -- what stands at each index of an array of these sizes

@@ -1,2 +1,5 @@
 pub mod Reading
+pub mod Answering
 pub mod Sound
+pub mod Told
+pub mod Shapes

@@ -5,24 +5,28 @@ ghost use Rattle.netcdf_source.specs.Coordinates.{AreCoordinates};
 
 use crate::Variable;
 use crate::header::Contents;
-use crate::texts::is_char;
+use crate::texts::{is_char, is_offered};
 use dap_types::Memory;
 use std::alloc::Global;
 
-/// Whether a variable is not char and has the name of that dimension.
-fn has_dimension_name(contents: &Contents, id: u32, variable: &Variable) -> bool
+/// Whether a variable is offered and not char, and has the name of that dimension.
+fn has_dimension_name(contents: &Contents, id: u64, variable: &Variable) -> bool
     ensures name { result ≡ has_dimension_name contents.now id variable.now }
     ensures within { result ≡ true → id < length contents.now.dimensions }
 {
     match contents.dimensions.items().get(id as usize) {
-        Some(dimension) => !is_char(variable) && variable.name.bytes() == dimension.name.bytes(),
+        Some(dimension) => {
+            is_offered(contents, variable)
+                && !is_char(variable)
+                && variable.name.bytes() == dimension.name.bytes()
+        }
         None => false,
     }
 }
 
 /// The dimension that a variable is the coordinate variable of.
 #[tactic(auto, unfolding(crate::specs::Mapping::own_dimension))]
-pub fn own_dimension(contents: &Contents, variable: &Variable) -> Option<u32>
+pub fn own_dimension(contents: &Contents, variable: &Variable) -> Option<u64>
     ensures own { result ≡ own_dimension contents.now variable.now }
     ensures within { IfSome result (λ id. id < length contents.now.dimensions) }
 {
@@ -33,7 +37,7 @@ pub fn own_dimension(contents: &Contents, variable: &Variable) -> Option<u32>
 }
 
 /// Notes variable number `number` as the coordinate variable of its own dimension, if that has none.
-fn note(table: &mut [Option<u32>], own: Option<u32>, number: u32)
+fn note(table: &mut [Option<u32>], own: Option<u64>, number: u32)
     requires { ForSome own (λ id. id < length table.old) }
     ensures { (i : ℕ) → get_or table.new i None ≡ option_or (get_or table.old i None) (if option_map_or (λ j. j == i) own false then Some number else None) }
 {
@@ -71,7 +75,7 @@ pub fn coordinates(alloc: Global, contents: &Contents) -> Result<Vec<Option<u32>
 }
 
 /// The place of a dimension's coordinate variable among the variables.
-pub fn coordinate(contents: &Contents, table: &[Option<u32>], id: u32) -> Option<u32>
+pub fn coordinate(contents: &Contents, table: &[Option<u32>], id: u64) -> Option<u32>
     requires { AreCoordinates contents.now table.now }
     ensures { result ≡ coordinate_at contents.now id }
 {
@@ -86,7 +90,7 @@ pub fn coordinate(contents: &Contents, table: &[Option<u32>], id: u32) -> Option
 pub fn coordinate_variable<'a>(
     contents: &'a Contents,
     table: &[Option<u32>],
-    id: u32,
+    id: u64,
 ) -> Option<&'a Variable>
     requires { AreCoordinates contents.now table.now }
     ensures { option_copied result ≡ coordinate_variable contents.now id }

@@ -1,5 +1,5 @@
 ghost use Rattle.std.specs.Prelude.{◌≡◌, ℕ, ◌≤◌, [], ◌∷◌, ◌++◌, length, map, filter, codes, IfOk};
-ghost use Rattle.std.specs.Fmt.{signed_decimal};
+ghost use Rattle.std.specs.Fmt.{decimal, signed_decimal};
 ghost use Rattle.dap_model.specs.Shown.{hex};
 ghost use Rattle.das_text.specs.View.{attributes_view, entry_view};
 ghost use Rattle.netcdf_source.specs.Attributes.{pieces, value_base, word_of, words_of, attribute_of, entry_of, container_of, attributes_of, variable_container};
@@ -16,15 +16,22 @@ use das_text::{Attributes, Entry, Word};
 use std::alloc::Global;
 use text_lines::put_hex;
 
-/// The type of an attribute's values: whole numbers keep theirs, all else is text.
+/// The type of an attribute's values: whole numbers of up to 32 bits keep theirs, all else is
+/// text.
 fn value_base(external_type: ExternalType) -> BaseType
     ensures { result ≡ value_base external_type }
 {
     match external_type {
-        ExternalType::Byte => BaseType::Byte,
+        ExternalType::Byte | ExternalType::UByte => BaseType::Byte,
         ExternalType::Short => BaseType::Int16,
+        ExternalType::UShort => BaseType::UInt16,
         ExternalType::Int => BaseType::Int32,
-        ExternalType::Char | ExternalType::Float | ExternalType::Double => BaseType::Text,
+        ExternalType::UInt => BaseType::UInt32,
+        ExternalType::Char
+        | ExternalType::Float
+        | ExternalType::Double
+        | ExternalType::Int64
+        | ExternalType::UInt64 => BaseType::Text,
     }
 }
 
@@ -50,12 +57,30 @@ fn bits_word(alloc: Global, digits: u32, bits: u64) -> Result<Word, Memory>
 }
 
 /// A whole number, in decimal digits.
-fn whole_word(alloc: Global, number: i32) -> Result<Word, Memory>
+fn whole_word(alloc: Global, number: i64) -> Result<Word, Memory>
     ensures { IfOk result (λ w. w ≡ Word.Plain (signed_decimal number)) }
 {
     let mut buffer = itoa::Buffer::new();
     let digits = buffer.format(number).as_bytes();
     Ok(Word::Plain(Bytes::new(alloc, digits)?))
+}
+
+/// A whole number of 64 bits with a sign, whose decimal digits are a text.
+fn long_word(alloc: Global, number: i64) -> Result<Word, Memory>
+    ensures { IfOk result (λ w. w ≡ Word.Quoted (signed_decimal number)) }
+{
+    let mut buffer = itoa::Buffer::new();
+    let digits = buffer.format(number).as_bytes();
+    Ok(Word::Quoted(Bytes::new(alloc, digits)?))
+}
+
+/// The same without a sign.
+fn unsigned_long_word(alloc: Global, number: u64) -> Result<Word, Memory>
+    ensures { IfOk result (λ w. w ≡ Word.Quoted (decimal number)) }
+{
+    let mut buffer = itoa::Buffer::new();
+    let digits = buffer.format(number).as_bytes();
+    Ok(Word::Quoted(Bytes::new(alloc, digits)?))
 }
 
 fn text_word(alloc: Global, text: &[u8]) -> Result<Word, Memory>
@@ -70,14 +95,23 @@ fn word_of(alloc: Global, external_type: ExternalType, bytes: &[u8]) -> Result<W
     ensures { IfOk result (λ w. w ≡ word_of external_type bytes.now) }
 {
     match external_type {
-        ExternalType::Byte => whole_word(alloc, i32::from(u8::from_be_bytes([bytes[0]]))),
+        ExternalType::Byte | ExternalType::UByte => {
+            whole_word(alloc, i64::from(u8::from_be_bytes([bytes[0]])))
+        }
         ExternalType::Char => text_word(alloc, without_zeros(bytes)),
         ExternalType::Short => {
-            whole_word(alloc, i32::from(i16::from_be_bytes([bytes[0], bytes[1]])))
+            whole_word(alloc, i64::from(i16::from_be_bytes([bytes[0], bytes[1]])))
+        }
+        ExternalType::UShort => {
+            whole_word(alloc, i64::from(u16::from_be_bytes([bytes[0], bytes[1]])))
         }
         ExternalType::Int => {
             let number = i32::from_be_bytes([bytes[0], bytes[1], bytes[2], bytes[3]]);
-            whole_word(alloc, number)
+            whole_word(alloc, i64::from(number))
+        }
+        ExternalType::UInt => {
+            let number = u32::from_be_bytes([bytes[0], bytes[1], bytes[2], bytes[3]]);
+            whole_word(alloc, i64::from(number))
         }
         ExternalType::Float => {
             let bits = u32::from_be_bytes([bytes[0], bytes[1], bytes[2], bytes[3]]);
@@ -88,6 +122,18 @@ fn word_of(alloc: Global, external_type: ExternalType, bytes: &[u8]) -> Result<W
                 bytes[0], bytes[1], bytes[2], bytes[3], bytes[4], bytes[5], bytes[6], bytes[7],
             ]);
             bits_word(alloc, 16, bits)
+        }
+        ExternalType::Int64 => {
+            let number = i64::from_be_bytes([
+                bytes[0], bytes[1], bytes[2], bytes[3], bytes[4], bytes[5], bytes[6], bytes[7],
+            ]);
+            long_word(alloc, number)
+        }
+        ExternalType::UInt64 => {
+            let number = u64::from_be_bytes([
+                bytes[0], bytes[1], bytes[2], bytes[3], bytes[4], bytes[5], bytes[6], bytes[7],
+            ]);
+            unsigned_long_word(alloc, number)
         }
     }
 }

@@ -7,7 +7,8 @@ ghost use Rattle.netcdf_source.specs.inner.Reading.{Gives, new_name_at, judged_a
 use crate::Dimension;
 use crate::names::Names;
 use crate::stop::{Failure, Stop};
-use crate::words::{INT_MAX, bad, head, name_length, run, word};
+use crate::version::Width;
+use crate::words::{bad, head, name_length, number, run};
 use dap_types::{Id, List};
 use std::alloc::Global;
 
@@ -20,27 +21,28 @@ const LEAST: usize = 12;
 #[tactic(auto, unfolding(crate::specs::inner::Reading::new_name_at, crate::specs::Grammar::repeat_fault))]
 pub fn new_name<'a>(
     alloc: Global,
+    width: Width,
     names: &mut Names<'a>,
     bytes: &'a [u8],
 ) -> Result<(Id, &'a [u8]), Stop>
-    ensures reading { Gives (λ x. (x.0, x.1.now)) result (new_name_at names.old bytes.now) }
+    ensures reading { Gives (λ x. (x.0, x.1.now)) result (new_name_at width names.old bytes.now) }
     ensures names { IfOk result (λ x. HasAlso names.old x.0 names.new) }
 {
-    let (length, rest) = name_length(bytes)?;
-    let (name, after) = run(u64::from(length), rest)?;
+    let (length, rest) = name_length(width, bytes)?;
+    let (name, after) = run(length, rest)?;
     if !names.insert(name)? {
-        return Err(Stop::Failed(Failure::Bad(rest.len() + 4)));
+        return Err(Stop::Failed(Failure::Bad(rest.len() + width.bytes())));
     }
     Ok((Id::raw(alloc, name)?, after))
 }
 
 /// The length of a dimension, behind a record dimension or not.
 #[tactic(auto, unfolding(crate::specs::inner::Reading::judged_at, crate::specs::Grammar::length_fault))]
-fn length(has_records: bool, bytes: &[u8]) -> Result<(u32, &[u8]), Stop>
-    ensures { Gives (λ x. (x.0, x.1.now)) result (judged_at (length_fault has_records) bytes.now) }
+fn length(width: Width, has_records: bool, bytes: &[u8]) -> Result<(u64, &[u8]), Stop>
+    ensures { Gives (λ x. (x.0, x.1.now)) result (judged_at width (length_fault width has_records) bytes.now) }
 {
-    let (number, rest) = word(bytes)?;
-    if number > INT_MAX || number == 0 && has_records {
+    let (number, rest) = number(width, bytes)?;
+    if number > width.largest() || number == 0 && has_records {
         return Err(bad(bytes));
     }
     Ok((number, rest))
@@ -49,15 +51,16 @@ fn length(has_records: bool, bytes: &[u8]) -> Result<(u32, &[u8]), Stop>
 #[tactic(auto, unfolding(crate::specs::inner::Reading::dimension_at))]
 fn dimension<'a>(
     alloc: Global,
+    width: Width,
     names: &mut Names<'a>,
     has_records: bool,
     bytes: &'a [u8],
 ) -> Result<(Dimension, &'a [u8]), Stop>
-    ensures reading { Gives (λ x. (x.0, x.1.now)) result (dimension_at names.old has_records bytes.now) }
+    ensures reading { Gives (λ x. (x.0, x.1.now)) result (dimension_at width names.old has_records bytes.now) }
     ensures names { IfOk result (λ x. HasAlso names.old x.0.name names.new) }
 {
-    let (name, rest) = new_name(alloc, names, bytes)?;
-    let (length, rest) = length(has_records, rest)?;
+    let (name, rest) = new_name(alloc, width, names, bytes)?;
+    let (length, rest) = length(width, has_records, rest)?;
     Ok((Dimension { name, length }, rest))
 }
 
@@ -68,8 +71,13 @@ fn with_records(has_records: bool, dimension: &Dimension) -> bool
     has_records || dimension.length == 0
 }
 
-fn items(alloc: Global, count: u32, bytes: &[u8]) -> Result<(List<Dimension>, &[u8]), Stop>
-    ensures { Gives (λ x. (x.0, x.1.now)) result (times next_dimension count [] bytes.now) }
+fn items(
+    alloc: Global,
+    width: Width,
+    count: u64,
+    bytes: &[u8],
+) -> Result<(List<Dimension>, &[u8]), Stop>
+    ensures { Gives (λ x. (x.0, x.1.now)) result (times (next_dimension width) count [] bytes.now) }
 {
     let room = (bytes.len() / LEAST).min(count as usize);
     let mut dimensions = List::with_capacity(alloc, room)?;
@@ -77,7 +85,7 @@ fn items(alloc: Global, count: u32, bytes: &[u8]) -> Result<(List<Dimension>, &[
     let mut has_records = false;
     let mut rest = bytes;
     for _ in 0..count {
-        let (dimension, after) = dimension(alloc, &mut names, has_records, rest)?;
+        let (dimension, after) = dimension(alloc, width, &mut names, has_records, rest)?;
         has_records = with_records(has_records, &dimension);
         dimensions.push(dimension)?;
         rest = after;
@@ -87,16 +95,20 @@ fn items(alloc: Global, count: u32, bytes: &[u8]) -> Result<(List<Dimension>, &[
 
 /// The list of dimensions.
 #[tactic(auto, unfolding(crate::specs::inner::Reading::list_at))]
-pub fn dimensions(alloc: Global, bytes: &[u8]) -> Result<(List<Dimension>, &[u8]), Stop>
-    ensures { Gives (λ x. (x.0, x.1.now)) result (list_at 10 next_dimension bytes.now) }
+pub fn dimensions(
+    alloc: Global,
+    width: Width,
+    bytes: &[u8],
+) -> Result<(List<Dimension>, &[u8]), Stop>
+    ensures { Gives (λ x. (x.0, x.1.now)) result (list_at width 10 (next_dimension width) bytes.now) }
 {
-    let (count, rest) = head(TAG, bytes)?;
-    items(alloc, count, rest)
+    let (count, rest) = head(width, TAG, bytes)?;
+    items(alloc, width, count, rest)
 }
 
 /// The length of dimension number `id`, which is 0 for the record dimension.
 #[tactic(auto, unfolding(crate::specs::Parts::length_at))]
-pub fn length_of(dimensions: &[Dimension], id: u32) -> u32
+pub fn length_of(dimensions: &[Dimension], id: u64) -> u64
     ensures { result ≡ length_at dimensions.now id }
 {
     dimensions.get(id as usize).map_or(1, |d| d.length)

@@ -91,18 +91,18 @@ fn ends_past(begin: u64, steps: u64, step: u64, size: u64, file_len: u64) -> boo
 }
 
 /// The records before the last one.
-fn records_before(is_record: bool, records: u32) -> u64
+fn records_before(is_record: bool, records: u64) -> u64
     ensures { result ≡ (if is_record then records - 1 else 0) }
 {
     if is_record {
-        u64::from(records.saturating_sub(1))
+        records.saturating_sub(1)
     } else {
         0
     }
 }
 
 /// Whether a variable has an element.
-fn has_element(is_record: bool, records: u32) -> bool
+fn has_element(is_record: bool, records: u64) -> bool
     ensures { result ≡ not (is_record && records == 0) }
 {
     !is_record || records != 0

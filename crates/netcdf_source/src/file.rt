@@ -1,20 +1,23 @@
-ghost use Rattle.std.specs.Prelude.{◌≡◌, ℕ, ◌+◌, ◌<◌, ◌^◌, Bool, false, None, IfOk, length, option_map, slice_get};
+ghost use Rattle.std.specs.Prelude.{◌≡◌, ℕ, ◌+◌, ◌<◌, ◌≤◌, ◌^◌, Bool, true, false, None, IfOk, length, option_map, slice_get};
 ghost use Rattle.std.specs.Option.{option_copied, option_map_or};
 ghost use Rattle.dap_types.specs.View.{dataset_view};
 ghost use Rattle.dap_types.specs.WellFormed.{IsWellFormed};
 ghost use Rattle.das_text.specs.View.{attributes_view};
 ghost use Rattle.netcdf_source.specs.Attributes.{attributes_of};
 ghost use Rattle.netcdf_source.specs.Layouts.{layout_of, LeafIsPlaced, LeafIsShaped};
-ghost use Rattle.netcdf_source.specs.Mapping.{base_of, dataset_of, is_char, leaf_variable, leaves_from};
+ghost use Rattle.netcdf_source.specs.Mapping.{base_of, dataset_of, is_char, is_over_records, leaf_variable, leaves_from, records_of, with_records, HaveSameShape};
 ghost use Rattle.netcdf_source.specs.Parts.{past_end, record_size};
 ghost use Rattle.netcdf_source.specs.inner.Sound.{IsSound};
 
 use crate::coordinates::coordinates;
+use crate::copies::with_records;
 use crate::das::attributes_of;
 use crate::header::Contents;
+use crate::joining::{has_record_dimension, same_dimensions, same_variables};
 use crate::layouts::layouts;
 use crate::leaves::{leaf_in, leaves};
 use crate::mapping::{base_of, dataset_of, grids};
+use crate::parts::is_record;
 use crate::texts::is_char;
 use dap_types::{BaseType, Dataset, Layout, List, Memory};
 use das_text::Attributes;
@@ -42,10 +45,10 @@ impl Model for Header {
     ghost use Rattle.std.specs.Prelude.{◌≡◌, ◌<◌, ◌^◌, None, map};
     ghost use Rattle.netcdf_source.specs.Coordinates.{AreCoordinates};
     ghost use Rattle.netcdf_source.specs.File.{FileHeader};
-    ghost use Rattle.netcdf_source.specs.Layouts.{layout_of};
     ghost use Rattle.netcdf_source.specs.Mapping.{is_grid, leaves_from};
     ghost use Rattle.netcdf_source.specs.Parts.{past_end};
     ghost use Rattle.netcdf_source.specs.inner.Sound.{IsSound};
+    ghost use Rattle.netcdf_source.specs.inner.Told.{told_layout};
 
     ghost Value = { FileHeader };
 
@@ -54,7 +57,7 @@ impl Model for Header {
     ghost invariant = { λ h. IsSound h.contents × (past_end h.contents h.length ≡ None)
         × AreCoordinates h.contents h.coordinates.items
         × (h.leaves.items ≡ leaves_from h.contents 0 h.contents.variables)
-        × (h.layouts ≡ map (layout_of h.contents) h.contents.variables)
+        × (h.layouts ≡ map (told_layout h.contents) h.contents.variables)
         × (h.grids.items ≡ map (is_grid h.contents) h.contents.variables)
         × (h.length < 2 ^ 63) };
 }
@@ -145,6 +148,60 @@ impl Header {
         }
     }
 
+    /// The number of records (netCDF classic format, `numrecs`), where the file has a record dimension.
+    pub fn records(&self) -> Option<u64>
+        ensures { result ≡ records_of self.now.contents }
+    {
+        if has_record_dimension(self.contents.dimensions.items()) {
+            Some(self.contents.records)
+        } else {
+            None
+        }
+    }
+
+    /// Whether another header has the same dimensions, each with its name and length, and the same
+    /// variables, each with its name, type and dimensions.
+    pub fn same_shape(&self, other: &Header) -> bool
+        ensures same { result ≡ true → HaveSameShape self.now.contents other.now.contents }
+        ensures differ { HaveSameShape self.now.contents other.now.contents → result ≡ true }
+    {
+        same_dimensions(
+            self.contents.dimensions.items(),
+            other.contents.dimensions.items(),
+        ) && same_variables(
+            self.contents.variables.items(),
+            other.contents.variables.items(),
+        )
+    }
+
+    /// The dataset of the file with that name, as if it had so many records.
+    pub fn dataset_with(
+        &self,
+        alloc: Global,
+        file_name: &[u8],
+        records: u64,
+    ) -> Result<Dataset, Memory>
+        requires { records ≤ 2147483647 }
+        ensures mapped { IfOk result (λ d. dataset_view d ≡ dataset_of (with_records records self.now.contents) file_name.now) }
+        ensures well_formed { IfOk result (λ d. IsWellFormed (dataset_view d)) }
+    {
+        let contents = with_records(alloc, &self.contents, records)?;
+        let coordinates = coordinates(alloc, &contents)?;
+        let grids = grids(alloc, &contents, &coordinates)?;
+        dataset_of(alloc, &contents, &coordinates, &grids, file_name)
+    }
+
+    /// Whether the first dimension of a leaf is the record dimension, `leaf` being its number as a
+    /// member of the dataset.
+    pub fn is_record(&self, leaf: u32) -> bool
+        ensures { result ≡ option_map_or (is_over_records self.now.contents) (leaf_variable self.now.contents leaf) false }
+    {
+        match leaf_in(&self.leaves, leaf) {
+            Some(number) => is_record_at(&self.contents, number),
+            None => false,
+        }
+    }
+
     /// Whether a leaf is a variable of chars, whose texts stand in the file without their lengths.
     pub fn is_char(&self, leaf: u32) -> bool
         ensures { result ≡ option_map_or is_char (leaf_variable self.now.contents leaf) false }
@@ -169,6 +226,16 @@ fn is_char_at(contents: &Contents, number: u32) -> bool
 {
     match contents.variables.items().get(number as usize) {
         Some(variable) => is_char(variable),
+        None => false,
+    }
+}
+
+/// Whether the variable with that number is a record variable.
+fn is_record_at(contents: &Contents, number: u32) -> bool
+    ensures { result ≡ option_map_or (is_over_records contents.now) (slice_get contents.now.variables number) false }
+{
+    match contents.variables.items().get(number as usize) {
+        Some(variable) => is_record(contents.dimensions.items(), variable.dimensions.items()),
         None => false,
     }
 }

@@ -7,7 +7,7 @@ pub struct Dimension {
     pub name: Id,
     /// The number of indexes. 0 is that of the record dimension, which has as many as there are
     /// records.
-    pub length: u32,
+    pub length: u64,
 }
 
 /// An attribute of a variable or of the file (netCDF classic format, `attr`).
@@ -35,7 +35,7 @@ pub struct Variable {
 #[derive(Debug, Drop)]
 pub struct Contents {
     /// The number of records.
-    pub records: u32,
+    pub records: u64,
     pub dimensions: List<Dimension>,
     pub attributes: List<Attribute>,
     pub variables: List<Variable>,

@@ -52,7 +52,7 @@ pub fn dimension_ids(alloc: Global, dimensions: &[Dimension]) -> Result<List<Id>
 }
 
 /// A copy of the name of dimension number `id`.
-pub fn dimension_id(alloc: Global, ids: &[Id], id: u32) -> Result<Id, Memory>
+pub fn dimension_id(alloc: Global, ids: &[Id], id: u64) -> Result<Id, Memory>
     ensures { IfOk result (λ name. name ≡ option_map_or (λ i. i) (slice_get ids.now id) []) }
 {
     match ids.get(id as usize) {

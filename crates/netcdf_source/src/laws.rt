@@ -1,4 +1,4 @@
-ghost use Rattle.netcdf_source.specs.Laws.{LeavesAgree, ValuesFit, ValuesArePlaced, ZerosAreCut, OneVerdict, EachHasVerdict, DatasetHasWords};
+ghost use Rattle.netcdf_source.specs.Laws.{LeavesAgree, ValuesFit, ValuesArePlaced, ZerosAreCut, OneVerdict, EachHasVerdict, DatasetHasWords, DatasetIsWellFormed};
 
 /// The leaves of a header are those of its dataset: a member has a variable exactly where it is a
 /// leaf, and it is the leaf of that variable, whatever the header and the name of the file.
@@ -35,4 +35,9 @@ pub fn each_has_verdict()
 /// something behind the last `/` of the file's name.
 pub fn dataset_has_words()
     ensures law { DatasetHasWords }
+{}
+
+/// The dataset of a header is well formed, whatever the number of records.
+pub fn dataset_is_well_formed()
+    ensures law { DatasetIsWellFormed }
 {}

@@ -1,10 +1,12 @@
 ghost use Rattle.std.specs.Prelude.{◌≡◌, ℕ, ◌*◌, ◌^◌, ◌<◌, ◌≤◌, Bool, List, [], ◌∷◌, ◌++◌, map, length, IfOk, OnOk, if◌then◌else◌};
 ghost use Rattle.netcdf_source.specs.Layouts.{row_steps, steps_of, layout_of, SuffixesFit, HasSteps, HaveSteps};
+ghost use Rattle.netcdf_source.specs.Mapping.{element_size};
 ghost use Rattle.netcdf_source.specs.Parts.{lengths, record_size};
+ghost use Rattle.netcdf_source.specs.inner.Told.{told_layout};
 
 use crate::header::Contents;
 use crate::parts::{inner, is_record, times_lengths};
-use crate::texts::{element_dimensions, element_size};
+use crate::texts::{element_dimensions, element_size, is_offered};
 use crate::{Dimension, Variable};
 use dap_types::{Layout, List, Memory};
 use std::alloc::Global;
@@ -29,7 +31,7 @@ fn record_steps(
 fn push_row_steps(
     steps: &mut List<u64>,
     dimensions: &[Dimension],
-    ids: &[u32],
+    ids: &[u64],
     size: u32,
 ) -> Result<(), Memory>
     requires { SuffixesFit (lengths dimensions.now ids.now) size }
@@ -51,12 +53,13 @@ fn layout(
     variable: &Variable,
 ) -> Result<Layout, Memory>
     requires steps { HasSteps contents.now variable.now }
+    requires size { element_size contents.now variable.now ≤ 65536 }
     requires record { step ≡ record_size contents.now.dimensions contents.now.variables }
     ensures { IfOk result (λ l. l ≡ layout_of contents.now variable.now) }
 {
     let dimensions = contents.dimensions.items();
     let ids = element_dimensions(contents, variable);
-    let size = element_size(contents, variable);
+    let size = element_size(contents, variable) as u32;
     let mut steps = record_steps(alloc, ids.len(), is_record(dimensions, ids), step)?;
     push_row_steps(&mut steps, dimensions, inner(dimensions, ids), size)?;
     Ok(Layout {
@@ -66,15 +69,37 @@ fn layout(
     })
 }
 
-/// Where the elements of each variable stand.
+/// The layout of a variable that is offered, and none for another one.
+#[tactic(auto, unfolding(crate::specs::inner::Told::told_layout))]
+fn told_layout(
+    alloc: Global,
+    contents: &Contents,
+    step: u64,
+    variable: &Variable,
+) -> Result<Layout, Memory>
+    requires steps { HasSteps contents.now variable.now }
+    requires record { step ≡ record_size contents.now.dimensions contents.now.variables }
+    ensures { IfOk result (λ l. l ≡ told_layout contents.now variable.now) }
+{
+    if is_offered(contents, variable) {
+        return layout(alloc, contents, step, variable);
+    }
+    Ok(Layout {
+        base: 0,
+        steps: List::new(alloc),
+        size: 0,
+    })
+}
+
+/// Where the elements of each variable that is offered stand.
 pub fn layouts(alloc: Global, contents: &Contents, step: u64) -> Result<List<Layout>, Memory>
     requires steps { HaveSteps contents.now contents.now.variables }
     requires record { step ≡ record_size contents.now.dimensions contents.now.variables }
-    ensures { IfOk result (λ ls. ls ≡ map (layout_of contents.now) contents.now.variables) }
+    ensures { IfOk result (λ ls. ls ≡ map (told_layout contents.now) contents.now.variables) }
 {
     let mut layouts = List::with_capacity(alloc, contents.variables.items().len())?;
     for variable in contents.variables.items() {
-        layouts.push(layout(alloc, contents, step, variable)?)?;
+        layouts.push(told_layout(alloc, contents, step, variable)?)?;
     }
     Ok(layouts)
 }

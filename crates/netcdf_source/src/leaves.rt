@@ -13,7 +13,7 @@ fn push_coordinates(
     leaves: &mut Vec<Option<u32>>,
     contents: &Contents,
     table: &[Option<u32>],
-    ids: &[u32],
+    ids: &[u64],
 ) -> Result<(), Memory>
     requires { AreCoordinates contents.now table.now }
     ensures { OnOk result (leaves.new.items ≡ leaves.old.items ++ map (coordinate_at contents.now) ids.now) }

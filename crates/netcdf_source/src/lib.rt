@@ -1,10 +1,11 @@
-//! The header of a netCDF classic file, versions 1 and 2. The first bytes of a file come in; its
+//! The header of a netCDF classic file, versions 1, 2 and 5. The first bytes of a file come in; its
 //! dataset, its attributes and the places of its elements go out, or the first thing that fails from
 //! the front, by `specs/Grammar`, `specs/Mapping`, `specs/Attributes` and `specs/Layouts`.
 #![tactic(auto)]
 
 mod attributes;
 mod coordinates;
+mod copies;
 mod das;
 mod dimensions;
 mod extents;
@@ -12,6 +13,7 @@ mod external_type;
 mod file;
 mod header;
 mod ids;
+mod joining;
 mod laws;
 mod layouts;
 mod leaves;
@@ -21,9 +23,11 @@ mod parts;
 mod read;
 mod refusal;
 mod shape;
+mod sizes;
 mod stop;
 mod texts;
 mod variables;
+mod version;
 mod words;
 
 pub use das::without_zeros;
@@ -31,10 +35,10 @@ use external_type::ExternalType;
 pub use file::Header;
 use header::{Attribute, Dimension, Variable};
 pub use laws::{
-    dataset_has_words, each_has_verdict, leaves_agree, one_verdict, values_are_placed, values_fit,
-    zeros_are_cut,
+    dataset_has_words, dataset_is_well_formed, each_has_verdict, leaves_agree, one_verdict,
+    values_are_placed, values_fit, zeros_are_cut,
 };
-pub use read::read_header;
+pub use read::{read_front, read_header};
 pub use refusal::HeaderRefusal;
 use shape::Shape;
 

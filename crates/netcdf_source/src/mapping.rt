@@ -1,56 +1,49 @@
-ghost use Rattle.std.specs.Prelude.{◌≡◌, ℕ, ◌<◌, ◌^◌, Bool, List, map, filter, IfOk, IfSome, None, Some, get_or, length};
+ghost use Rattle.std.specs.Prelude.{◌≡◌, ℕ, ◌<◌, ◌≤◌, ◌^◌, Bool, true, List, map, filter, IfOk, IfSome, None, Some, get_or, length};
 ghost use Rattle.std.specs.List.{list_all};
 ghost use Rattle.std.specs.Prelude.{is_some};
 ghost use Rattle.netcdf_source.specs.Coordinates.{AreCoordinates};
 ghost use Rattle.dap_types.specs.Names.{file_id};
 ghost use Rattle.dap_types.specs.View.{member_view, dataset_view};
+ghost use Rattle.netcdf_source.specs.inner.Told.{AreSmall};
 ghost use Rattle.netcdf_source.specs.Mapping.{size_at, dimension_ids, base_of, is_char, has_texts, element_dimensions, element_size, is_offered, own_dimension, coordinate_at, differ, is_grid, dim_of, column_of, array_of, coordinate_variable, maps_of, member_of, dataset_of};
 
 use crate::coordinates::{coordinate, coordinate_variable, own_dimension};
-use crate::dimensions::length_of;
 use crate::header::Contents;
 use crate::ids::{dimension_id, dimension_ids, file_id};
+use crate::sizes::size_at;
 use crate::texts::{element_dimensions, is_char, is_offered};
 use crate::{ExternalType, Variable};
 use dap_types::{ArrayDecl, BaseType, Column, Dataset, Decl, Dim, Id, List, Memory};
 use file_names::dataset_id;
 use std::alloc::Global;
 
-/// The DAP type of values of a type. A char is a part of a String.
+/// The DAP type of values of a type. A char is a part of a String, and a number of 64 bits has no
+/// other form than a text.
 pub fn base_of(external_type: ExternalType) -> BaseType
     ensures { result ≡ base_of external_type }
 {
     match external_type {
-        ExternalType::Byte => BaseType::Byte,
-        ExternalType::Char => BaseType::Text,
+        ExternalType::Byte | ExternalType::UByte => BaseType::Byte,
         ExternalType::Short => BaseType::Int16,
+        ExternalType::UShort => BaseType::UInt16,
         ExternalType::Int => BaseType::Int32,
+        ExternalType::UInt => BaseType::UInt32,
         ExternalType::Float => BaseType::Float32,
         ExternalType::Double => BaseType::Float64,
-    }
-}
-
-/// The number of indexes of a dimension: as many as records for the record dimension.
-fn size_at(contents: &Contents, id: u32) -> u32
-    ensures { result ≡ size_at contents.now id }
-{
-    let length = length_of(contents.dimensions.items(), id);
-    if length == 0 {
-        contents.records
-    } else {
-        length
+        ExternalType::Char | ExternalType::Int64 | ExternalType::UInt64 => BaseType::Text,
     }
 }
 
 #[tactic(auto, using(crate::proofs::DimensionNames::dimension_names))]
-fn dim_of(alloc: Global, contents: &Contents, names: &[Id], id: u32) -> Result<Dim, Memory>
-    requires { names.now ≡ dimension_ids contents.now }
+fn dim_of(alloc: Global, contents: &Contents, names: &[Id], id: u64) -> Result<Dim, Memory>
+    requires names { names.now ≡ dimension_ids contents.now }
+    requires size { size_at contents.now id ≤ 2147483647 }
     ensures { IfOk result (λ d. d ≡ dim_of contents.now id) }
 {
     let name = dimension_id(alloc, names, id)?;
     Ok(Dim {
         name: Some(name),
-        size: size_at(contents, id),
+        size: size_at(contents, id) as u32,
     })
 }
 
@@ -58,9 +51,10 @@ fn dims_of(
     alloc: Global,
     contents: &Contents,
     names: &[Id],
-    ids: &[u32],
+    ids: &[u64],
 ) -> Result<List<Dim>, Memory>
-    requires { names.now ≡ dimension_ids contents.now }
+    requires names { names.now ≡ dimension_ids contents.now }
+    requires sizes { AreSmall contents.now ids.now }
     ensures { IfOk result (λ ds. ds ≡ map (dim_of contents.now) ids.now) }
 {
     let mut dims = List::with_capacity(alloc, ids.len())?;
@@ -86,7 +80,8 @@ fn element_dims(
     names: &[Id],
     variable: &Variable,
 ) -> Result<List<Dim>, Memory>
-    requires { names.now ≡ dimension_ids contents.now }
+    requires names { names.now ≡ dimension_ids contents.now }
+    requires offered { is_offered contents.now variable.now ≡ true }
     ensures { IfOk result (λ ds. ds ≡ map (dim_of contents.now) (element_dimensions contents.now variable.now)) }
 {
     let ids = element_dimensions(contents, variable);
@@ -99,7 +94,8 @@ fn array_of(
     names: &[Id],
     variable: &Variable,
 ) -> Result<ArrayDecl, Memory>
-    requires { names.now ≡ dimension_ids contents.now }
+    requires names { names.now ≡ dimension_ids contents.now }
+    requires offered { is_offered contents.now variable.now ≡ true }
     ensures { IfOk result (λ a. a ≡ array_of contents.now variable.now) }
 {
     let dims = element_dims(alloc, contents, names, variable)?;
@@ -116,7 +112,7 @@ fn map_of(
     alloc: Global,
     contents: &Contents,
     names: &[Id],
-    id: u32,
+    id: u64,
     variable: &Variable,
 ) -> Result<ArrayDecl, Memory>
     requires names { names.now ≡ dimension_ids contents.now }
@@ -133,7 +129,7 @@ fn map_of(
 
 /// Whether no dimension comes twice.
 #[tactic(auto, unfolding(crate::specs::Mapping::differ))]
-fn differ(ids: &[u32]) -> bool
+fn differ(ids: &[u64]) -> bool
     ensures { result ≡ differ ids.now }
 {
     for (i, id) in ids.iter().enumerate() {
@@ -145,7 +141,7 @@ fn differ(ids: &[u32]) -> bool
 }
 
 /// Whether each dimension has a coordinate variable.
-fn have_coordinates(contents: &Contents, table: &[Option<u32>], ids: &[u32]) -> bool
+fn have_coordinates(contents: &Contents, table: &[Option<u32>], ids: &[u64]) -> bool
     requires { AreCoordinates contents.now table.now }
     ensures { result ≡ list_all (λ i. is_some (coordinate_at contents.now i)) ids.now }
 {
@@ -189,7 +185,7 @@ fn maps_of(
     contents: &Contents,
     table: &[Option<u32>],
     names: &[Id],
-    ids: &[u32],
+    ids: &[u64],
 ) -> Result<List<ArrayDecl>, Memory>
     requires table { AreCoordinates contents.now table.now }
     requires names { names.now ≡ dimension_ids contents.now }
@@ -216,6 +212,7 @@ fn member_of(
 ) -> Result<Decl, Memory>
     requires table { AreCoordinates contents.now table.now }
     requires grid { grid ≡ is_grid contents.now variable.now }
+    requires offered { is_offered contents.now variable.now ≡ true }
     requires names { names.now ≡ dimension_ids contents.now }
     ensures { IfOk result (λ d. member_view d ≡ member_of contents.now variable.now) }
 {

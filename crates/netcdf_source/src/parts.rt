@@ -11,7 +11,7 @@ use crate::{Dimension, ExternalType};
 pub const LIMIT: u64 = 1 << 62;
 
 /// Whether a variable over these dimensions has a part in each record.
-pub fn is_record(dimensions: &[Dimension], ids: &[u32]) -> bool
+pub fn is_record(dimensions: &[Dimension], ids: &[u64]) -> bool
     ensures { result ≡ is_record dimensions.now ids.now }
 {
     match ids {
@@ -21,7 +21,7 @@ pub fn is_record(dimensions: &[Dimension], ids: &[u32]) -> bool
 }
 
 /// The dimensions inside a record, or all of them.
-pub fn inner<'a>(dimensions: &[Dimension], ids: &'a [u32]) -> &'a [u32]
+pub fn inner<'a>(dimensions: &[Dimension], ids: &'a [u64]) -> &'a [u64]
     ensures { lengths dimensions.now result.now ≡ inner (lengths dimensions.now ids.now) }
 {
     match ids {
@@ -31,13 +31,13 @@ pub fn inner<'a>(dimensions: &[Dimension], ids: &'a [u32]) -> &'a [u32]
 }
 
 /// `count` times the product of the lengths, or one more than the limit where that is above it.
-pub fn times_lengths(dimensions: &[Dimension], ids: &[u32], count: u64) -> u64
+pub fn times_lengths(dimensions: &[Dimension], ids: &[u64], count: u64) -> u64
     requires { count ≤ 2 ^ 62 + 1 }
     ensures { result ≡ min (count * product (lengths dimensions.now ids.now)) (2 ^ 62 + 1) }
 {
     let mut total = count;
     for id in ids {
-        let length = u64::from(length_of(dimensions, *id));
+        let length = length_of(dimensions, *id);
         total = total.saturating_mul(length).min(LIMIT + 1);
     }
     total
@@ -45,7 +45,7 @@ pub fn times_lengths(dimensions: &[Dimension], ids: &[u32], count: u64) -> u64
 
 /// The bytes of a variable's part, or one more than the limit where they are above it.
 #[tactic(auto, unfolding(crate::specs::Parts::part))]
-pub fn part(dimensions: &[Dimension], ids: &[u32], external_type: ExternalType) -> u64
+pub fn part(dimensions: &[Dimension], ids: &[u64], external_type: ExternalType) -> u64
     ensures { result ≡ min (part dimensions.now ids.now external_type) (2 ^ 62 + 1) }
 {
     let size = u64::from(external_type.size());
@@ -58,7 +58,7 @@ pub fn part(dimensions: &[Dimension], ids: &[u32], external_type: ExternalType) 
 pub fn grown(
     dimensions: &[Dimension],
     sum: u64,
-    ids: &[u32],
+    ids: &[u64],
     external_type: ExternalType,
 ) -> Option<u64>
     requires { sum ≤ 2 ^ 62 }

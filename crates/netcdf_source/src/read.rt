@@ -1,5 +1,6 @@
-ghost use Rattle.std.specs.Prelude.{◌≡◌, ℕ, ◌+◌, ◌^◌, ◌<◌, ◌≤◌, ◌⊎◌, min, List, [], ◌∷◌, ◌++◌, length, Result, Ok, Err, IfOk, IfErr, IfNone, IfSome, MatchResult, IsErrAnd};
-ghost use Rattle.netcdf_source.specs.Header.{contents_of, magic, IsVersion, version_of, version_in, HasNoMagic, IsHeader, IsFirst, refusal_of, verdict, Answers};
+ghost use Rattle.std.specs.Prelude.{◌≡◌, ℕ, ◌+◌, ◌^◌, ◌<◌, ◌≤◌, ◌⊎◌, ◌&&◌, Bool, true, false, not, None, nat_lt, if◌then◌else◌, min, List, [], ◌∷◌, ◌++◌, length, Result, Ok, Err, IfOk, IfErr, IfNone, IfSome, MatchResult, IsErrAnd};
+ghost use Rattle.netcdf_source.specs.Header.{contents_of, magic, HasNoMagic, IsHeader, IsFirst, IsCut};
+ghost use Rattle.netcdf_source.specs.inner.Answering.{version_of_byte, version_of, version_in, refusal_of, verdict, Answers, AnswersFront};
 ghost use Rattle.netcdf_source.specs.inner.Reading.{Gives, contents_at};
 ghost use Rattle.netcdf_source.specs.inner.Sound.{IsSound};
 
@@ -9,6 +10,7 @@ use crate::extents::{past_end, record_size};
 use crate::header::Contents;
 use crate::stop::{Failure, Stop};
 use crate::variables::variables;
+use crate::version::Version;
 use crate::words::records;
 use crate::{Header, HeaderRefusal};
 use std::alloc::Global;
@@ -16,20 +18,31 @@ use std::alloc::Global;
 /// The most bytes of a header.
 const HEADER_MAX: u64 = 1048576;
 
+/// The version of its byte.
+fn version_of_byte(byte: u8) -> Option<Version>
+    ensures { result ≡ version_of_byte byte }
+{
+    match byte {
+        1 => Some(Version::One),
+        2 => Some(Version::Two),
+        5 => Some(Version::Five),
+        _ => None,
+    }
+}
+
 /// The version, where these are the four bytes of a magic.
-fn version_of(a: u8, b: u8, c: u8, version: u8) -> Option<u8>
+fn version_of(a: u8, b: u8, c: u8, version: u8) -> Option<Version>
     ensures { result ≡ version_of a b c version }
 {
-    let is_version = version == 1 || version == 2;
-    if a == b'C' && b == b'D' && c == b'F' && is_version {
-        Some(version)
+    if a == b'C' && b == b'D' && c == b'F' {
+        version_of_byte(version)
     } else {
         None
     }
 }
 
 /// The version of a header that begins with a magic.
-fn magic_version(front: &[u8]) -> Option<u8>
+fn magic_version(front: &[u8]) -> Option<Version>
     ensures { result ≡ version_in front.now }
 {
     match front {
@@ -39,8 +52,8 @@ fn magic_version(front: &[u8]) -> Option<u8>
 }
 
 /// The version, and what stands behind it.
-fn split_magic(front: &[u8]) -> Option<(u8, &[u8])>
-    ensures found { IfSome result (λ x. IsVersion x.0 × (front.now ≡ magic x.0 ++ x.1.now)) }
+fn split_magic(front: &[u8]) -> Option<(Version, &[u8])>
+    ensures found { IfSome result (λ x. front.now ≡ magic x.0 ++ x.1.now) }
     ensures none { IfNone result (HasNoMagic front.now) }
 {
     let version = magic_version(front)?;
@@ -49,12 +62,13 @@ fn split_magic(front: &[u8]) -> Option<(u8, &[u8])>
 
 /// All that stands behind the magic.
 #[tactic(auto, unfolding(crate::specs::inner::Reading::contents_at))]
-fn fields(alloc: Global, version: u8, body: &[u8]) -> Result<(Contents, &[u8]), Stop>
+fn fields(alloc: Global, version: Version, body: &[u8]) -> Result<(Contents, &[u8]), Stop>
     ensures { Gives (λ x. (x.0, x.1.now)) result (contents_at version body.now) }
 {
-    let (records, rest) = records(body)?;
-    let (dimensions, rest) = dimensions(alloc, rest)?;
-    let (attributes, rest) = attributes(alloc, rest)?;
+    let width = version.number_width();
+    let (records, rest) = records(width, body)?;
+    let (dimensions, rest) = dimensions(alloc, width, rest)?;
+    let (attributes, rest) = attributes(alloc, version, rest)?;
     let (variables, rest) = variables(alloc, version, dimensions.items(), rest)?;
     Ok((
         Contents {
@@ -68,7 +82,7 @@ fn fields(alloc: Global, version: u8, body: &[u8]) -> Result<(Contents, &[u8]), 
 }
 
 /// What is answered where reading stopped, in the first `whole` bytes of a file of that length.
-#[tactic(auto, unfolding(crate::specs::Header::refusal_of))]
+#[tactic(auto, unfolding(crate::specs::inner::Answering::refusal_of))]
 fn refusal(failure: Failure, whole: u64, file_len: u64) -> HeaderRefusal
     ensures { result ≡ refusal_of failure whole file_len }
 {
@@ -85,7 +99,7 @@ fn refusal(failure: Failure, whole: u64, file_len: u64) -> HeaderRefusal
 /// The header behind a magic.
 fn judge(
     alloc: Global,
-    version: u8,
+    version: Version,
     body: &[u8],
     whole: u64,
     file_len: u64,
@@ -131,4 +145,70 @@ pub fn read_header(alloc: Global, front: &[u8], file_len: u64) -> Result<Header,
         return Err(HeaderRefusal::NotCdf);
     };
     judge(alloc, version, body, front.len() as u64, file_len)
+}
+
+/// Whether these first bytes of a file are all that a header is read from.
+fn is_whole(front: &[u8], file_len: u64) -> bool
+    requires { length front.now ≤ min file_len 1048576 }
+    ensures whole { result ≡ true → length front.now ≡ min file_len 1048576 }
+    ensures short { result ≡ false → length front.now < min file_len 1048576 }
+{
+    front.len() as u64 == file_len.min(HEADER_MAX)
+}
+
+/// The answer to a front without a magic: one that is shorter than a magic wants more.
+fn without_magic(is_whole: bool, front: &[u8]) -> Result<Option<Header>, HeaderRefusal>
+    ensures { result ≡ (if not is_whole && nat_lt (length front.now) 4 then Ok None else Err HeaderRefusal.NotCdf) }
+{
+    if !is_whole && front.len() < 4 {
+        Ok(None)
+    } else {
+        Err(HeaderRefusal::NotCdf)
+    }
+}
+
+/// The answer to a shorter front: a header that is cut, or too long, wants more.
+fn front_answer(
+    is_whole: bool,
+    read: Result<Header, HeaderRefusal>,
+) -> Result<Option<Header>, HeaderRefusal>
+    ensures { AnswersFront is_whole result read }
+{
+    match read {
+        Ok(header) => Ok(Some(header)),
+        Err(HeaderRefusal::HeaderCut) if !is_whole => Ok(None),
+        Err(HeaderRefusal::HeaderTooLong) if !is_whole => Ok(None),
+        Err(refusal) => Err(refusal),
+    }
+}
+
+/// What the first bytes of a netCDF classic file of `file_len` bytes tell of its header, be they all
+/// that `read_header` wants, the first `min(file_len, 1048576)`, or fewer.
+///
+/// A header, or a refusal other than `Memory`, is what `read_header` answers to the bytes that it
+/// wants. `None` where `front` is shorter than these and stops within the magic or within a field,
+/// and nothing before that fails: read more and call again.
+pub fn read_front(
+    alloc: Global,
+    front: &[u8],
+    file_len: u64,
+) -> Result<Option<Header>, HeaderRefusal>
+    requires front { length front.now ≤ min file_len 1048576 }
+    requires file_len { file_len < 2 ^ 63 }
+    // What is read is the header of whatever begins with these bytes.
+    ensures header { IfOk result (λ found. IfSome found (λ h. (more : List ℕ) → IsHeader (contents_of h) (front.now ++ more) file_len)) }
+    ensures length { IfOk result (λ found. IfSome found (λ h. h.length ≡ file_len)) }
+    // More is wanted where these bytes are not all, and stop within a field.
+    ensures more { IfOk result (λ found. IfNone found ((length front.now < min file_len 1048576) × IsCut front.now)) }
+    // What is refused fails first in all that begins with these bytes and is as long as it may be.
+    ensures first_cause { IfErr result (λ e. (e ≡ HeaderRefusal.Memory) ⊎ ((more : List ℕ) → length (front.now ++ more) ≡ min file_len 1048576 → IsFirst e (front.now ++ more) file_len)) }
+    // Where these bytes are not all and stop within a field more is wanted, unless memory was.
+    ensures only_more { length front.now < min file_len 1048576 → IsCut front.now → MatchResult result (λ found. IfSome found (λ h. ⊥)) (λ e. e ≡ HeaderRefusal.Memory) }
+{
+    let is_whole = is_whole(front, file_len);
+    let Some((version, body)) = split_magic(front) else {
+        return without_magic(is_whole, front);
+    };
+    let read = judge(alloc, version, body, front.len() as u64, file_len);
+    front_answer(is_whole, read)
 }

@@ -7,9 +7,9 @@ use dap_types::Memory;
 /// thing that fails from the front.
 #[derive(Clone, Copy, Debug, PartialEq, Eq)]
 pub enum HeaderRefusal {
-    /// The file does not begin with `CDF` and the version 1 or 2.
+    /// The file does not begin with `CDF` and the version 1, 2 or 5.
     NotCdf,
-    /// The number of records is `ffffffff`: the file is still written.
+    /// All bits of the number of records are 1: the file is still written.
     Streaming,
     /// The value of the field at this byte is not allowed.
     BadField { place: u64 },

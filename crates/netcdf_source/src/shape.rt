@@ -12,7 +12,7 @@ const IN_PLACE: usize = 4;
 /// `dimid`). Contracts see their list.
 #[derive(Debug, Drop)]
 pub struct Shape {
-    ids: SmallVec<u32, IN_PLACE>,
+    ids: SmallVec<u64, IN_PLACE>,
 }
 
 impl Model for Shape {
@@ -34,14 +34,14 @@ impl Shape {
     }
 
     /// The numbers, in order.
-    pub fn items(&self) -> &[u32]
+    pub fn items(&self) -> &[u64]
         ensures { result.now ≡ self.now }
     {
         self.ids.as_slice()
     }
 
     /// Puts a dimension behind the others. Where memory is wanted the shape is as before.
-    pub fn push(&mut self, id: u32) -> Result<(), Memory>
+    pub fn push(&mut self, id: u64) -> Result<(), Memory>
         ensures ok { OnOk result (self.new ≡ self.old ++ id ∷ []) }
         ensures err { OnErr result (self.new ≡ self.old) }
     {

@@ -1,7 +1,9 @@
 mod attributes;
 mod climate;
 mod files;
+mod joining;
 mod made;
 mod mapping;
 mod refusals;
 mod seen;
+mod version_five;

@@ -4,10 +4,11 @@ ghost use Rattle.netcdf_source.specs.Parts.{lengths, length_at};
 
 use crate::dimensions::length_of;
 use crate::header::Contents;
+use crate::sizes::are_small;
 use crate::{Dimension, ExternalType, Variable};
 
 /// The most bytes of a text that is offered.
-const TEXT_MAX: u32 = 65536;
+const TEXT_MAX: u64 = 65536;
 
 /// Whether the values of a variable are chars.
 pub fn is_char(variable: &Variable) -> bool
@@ -17,7 +18,7 @@ pub fn is_char(variable: &Variable) -> bool
 }
 
 /// Whether the texts over these dimensions have one byte each.
-fn has_single_bytes(dimensions: &[Dimension], ids: &[u32]) -> bool
+fn has_single_bytes(dimensions: &[Dimension], ids: &[u64]) -> bool
     ensures { result ≡ has_single_bytes (lengths dimensions.now ids.now) }
 {
     match ids {
@@ -37,7 +38,7 @@ fn has_texts(contents: &Contents, variable: &Variable) -> bool
 
 /// The dimensions of a variable's elements.
 #[tactic(auto, unfolding(crate::specs::Mapping::element_dimensions))]
-pub fn element_dimensions<'a>(contents: &Contents, variable: &'a Variable) -> &'a [u32]
+pub fn element_dimensions<'a>(contents: &Contents, variable: &'a Variable) -> &'a [u64]
     ensures { result.now ≡ element_dimensions contents.now variable.now }
 {
     let ids = variable.dimensions.items();
@@ -50,20 +51,24 @@ pub fn element_dimensions<'a>(contents: &Contents, variable: &'a Variable) -> &'
 
 /// The bytes of a variable's element.
 #[tactic(auto, unfolding(crate::specs::Mapping::element_size))]
-pub fn element_size(contents: &Contents, variable: &Variable) -> u32
+pub fn element_size(contents: &Contents, variable: &Variable) -> u64
     ensures { result ≡ element_size contents.now variable.now }
 {
     if !has_texts(contents, variable) {
-        return variable.external_type.size();
+        return u64::from(variable.external_type.size());
     }
     let ids = variable.dimensions.items();
     let last = ids.get(ids.len().saturating_sub(1)).map_or(0, |id| *id);
     length_of(contents.dimensions.items(), last)
 }
 
-/// Whether a variable is offered: its texts are not too long.
+/// Whether a variable is offered: DAP 2.0 has its type, its sizes are those of an array, and its texts
+/// are not too long.
+#[tactic(auto, unfolding(crate::specs::Mapping::is_offered))]
 pub fn is_offered(contents: &Contents, variable: &Variable) -> bool
     ensures { result ≡ is_offered contents.now variable.now }
 {
-    element_size(contents, variable) <= TEXT_MAX
+    !variable.external_type.is_long()
+        && are_small(contents, variable.dimensions.items())
+        && element_size(contents, variable) <= TEXT_MAX
 }

@@ -1,15 +1,17 @@
 ghost use Rattle.std.specs.Prelude.{◌≡◌, ℕ, ◌+◌, ◌^◌, ◌≤◌, Bool, List, [], ◌∷◌, ◌++◌, IfOk};
 ghost use Rattle.dap_types.specs.NameSet.{HasAlso};
-ghost use Rattle.netcdf_source.specs.Grammar.{rank_fault, dimension_fault, part_fault};
+ghost use Rattle.netcdf_source.specs.Grammar.{rank_fault, dimension_fault, size_fault, part_fault};
 ghost use Rattle.netcdf_source.specs.Parts.{share};
-ghost use Rattle.netcdf_source.specs.inner.Reading.{Gives, judged_at, unread_at, next_id, ids_at, variable_at, next_variable, times, list_at};
+ghost use Rattle.netcdf_source.specs.Versions.{number_width};
+ghost use Rattle.netcdf_source.specs.inner.Reading.{Gives, judged_at, next_id, ids_at, variable_at, next_variable, times, list_at};
 
 use crate::attributes::attributes;
 use crate::dimensions::{length_of, new_name};
 use crate::names::Names;
 use crate::parts::grown;
 use crate::stop::Stop;
-use crate::words::{bad, begin, external_type, head, word};
+use crate::version::{Version, Width};
+use crate::words::{bad, begin, external_type, head, number};
 use crate::{Dimension, ExternalType, Shape, Variable};
 use dap_types::List;
 use std::alloc::Global;
@@ -17,15 +19,15 @@ use std::alloc::Global;
 /// The tag of a list of variables.
 const TAG: u32 = 11;
 /// The most dimensions of a variable.
-const RANK_MAX: u32 = 32;
+const RANK_MAX: u64 = 32;
 /// The bytes of the least variable.
 const LEAST: usize = 32;
 
 #[tactic(auto, unfolding(crate::specs::inner::Reading::judged_at, crate::specs::Grammar::rank_fault))]
-fn rank(bytes: &[u8]) -> Result<(u32, &[u8]), Stop>
-    ensures { Gives (λ x. (x.0, x.1.now)) result (judged_at rank_fault bytes.now) }
+fn rank(width: Width, bytes: &[u8]) -> Result<(u64, &[u8]), Stop>
+    ensures { Gives (λ x. (x.0, x.1.now)) result (judged_at width rank_fault bytes.now) }
 {
-    let (number, rest) = word(bytes)?;
+    let (number, rest) = number(width, bytes)?;
     if number > RANK_MAX {
         return Err(bad(bytes));
     }
@@ -35,14 +37,15 @@ fn rank(bytes: &[u8]) -> Result<(u32, &[u8]), Stop>
 /// The number of a dimension. The record dimension stands first alone.
 #[tactic(auto, unfolding(crate::specs::inner::Reading::judged_at, crate::specs::Grammar::dimension_fault))]
 fn dimension<'a>(
+    width: Width,
     dimensions: &[Dimension],
     is_first: bool,
     bytes: &'a [u8],
-) -> Result<(u32, &'a [u8]), Stop>
-    ensures { Gives (λ x. (x.0, x.1.now)) result (judged_at (dimension_fault dimensions.now is_first) bytes.now) }
+) -> Result<(u64, &'a [u8]), Stop>
+    ensures { Gives (λ x. (x.0, x.1.now)) result (judged_at width (dimension_fault dimensions.now is_first) bytes.now) }
 {
-    let (number, rest) = word(bytes)?;
-    if number as usize >= dimensions.len() || !is_first && length_of(dimensions, number) == 0 {
+    let (number, rest) = number(width, bytes)?;
+    if number >= dimensions.len() as u64 || !is_first && length_of(dimensions, number) == 0 {
         return Err(bad(bytes));
     }
     Ok((number, rest))
@@ -50,16 +53,17 @@ fn dimension<'a>(
 
 fn dimension_items<'a>(
     alloc: Global,
+    width: Width,
     dimensions: &[Dimension],
-    rank: u32,
+    rank: u64,
     bytes: &'a [u8],
 ) -> Result<(Shape, &'a [u8]), Stop>
-    ensures { Gives (λ x. (x.0, x.1.now)) result (times (next_id dimensions.now) rank [] bytes.now) }
+    ensures { Gives (λ x. (x.0, x.1.now)) result (times (next_id width dimensions.now) rank [] bytes.now) }
 {
     let mut ids = Shape::with_capacity(alloc, rank as usize)?;
     let mut rest = bytes;
     for _ in 0..rank {
-        let (id, after) = dimension(dimensions, ids.items().is_empty(), rest)?;
+        let (id, after) = dimension(width, dimensions, ids.items().is_empty(), rest)?;
         ids.push(id)?;
         rest = after;
     }
@@ -70,31 +74,33 @@ fn dimension_items<'a>(
 #[tactic(auto, unfolding(crate::specs::inner::Reading::ids_at))]
 fn ids<'a>(
     alloc: Global,
+    width: Width,
     dimensions: &[Dimension],
     bytes: &'a [u8],
 ) -> Result<(Shape, &'a [u8]), Stop>
-    ensures { Gives (λ x. (x.0, x.1.now)) result (ids_at dimensions.now bytes.now) }
+    ensures { Gives (λ x. (x.0, x.1.now)) result (ids_at width dimensions.now bytes.now) }
 {
-    let (rank, rest) = rank(bytes)?;
-    dimension_items(alloc, dimensions, rank, rest)
+    let (rank, rest) = rank(width, bytes)?;
+    dimension_items(alloc, width, dimensions, rank, rest)
 }
 
-/// Passes over a variable's `vsize`, and gives the bytes of a record with this variable.
-#[tactic(auto, unfolding(crate::specs::inner::Reading::unread_at))]
+/// A variable's `vsize`, which may be any number, and the bytes of a record with this variable.
+#[tactic(auto, unfolding(crate::specs::inner::Reading::judged_at, crate::specs::Grammar::size_fault))]
 fn vsize<'a>(
+    width: Width,
     dimensions: &[Dimension],
     sum: u64,
-    ids: &[u32],
+    ids: &[u64],
     external_type: ExternalType,
     bytes: &'a [u8],
-) -> Result<(u64, &'a [u8]), Stop>
+) -> Result<(u64, u64, &'a [u8]), Stop>
     requires { sum ≤ 2 ^ 62 }
-    ensures reading { Gives (λ x. (tt, x.1.now)) result (unread_at (part_fault dimensions.now sum ids.now external_type) bytes.now) }
-    ensures sum { IfOk result (λ x. (x.0 ≡ sum + share dimensions.now ids.now external_type) × (x.0 ≤ 2 ^ 62)) }
+    ensures reading { Gives (λ x. (x.0, x.2.now)) result (judged_at width (size_fault dimensions.now sum ids.now external_type) bytes.now) }
+    ensures sum { IfOk result (λ x. (x.1 ≡ sum + share dimensions.now ids.now external_type) × (x.1 ≤ 2 ^ 62)) }
 {
-    let (_, rest) = word(bytes)?;
+    let (size, rest) = number(width, bytes)?;
     match grown(dimensions, sum, ids, external_type) {
-        Some(sum) => Ok((sum, rest)),
+        Some(sum) => Ok((size, sum, rest)),
         None => Err(bad(bytes)),
     }
 }
@@ -103,7 +109,7 @@ fn vsize<'a>(
 #[tactic(auto, unfolding(crate::specs::inner::Reading::variable_at))]
 fn variable<'a>(
     alloc: Global,
-    version: u8,
+    version: Version,
     dimensions: &[Dimension],
     names: &mut Names<'a>,
     sum: u64,
@@ -114,12 +120,13 @@ fn variable<'a>(
     ensures names { IfOk result (λ x. HasAlso names.old x.0.name names.new) }
     ensures sum { IfOk result (λ x. (x.1 ≡ sum + share dimensions.now x.0.dimensions x.0.external_type) × (x.1 ≤ 2 ^ 62)) }
 {
-    let (name, rest) = new_name(alloc, names, bytes)?;
-    let (ids, rest) = ids(alloc, dimensions, rest)?;
-    let (attributes, rest) = attributes(alloc, rest)?;
-    let (external_type, rest) = external_type(rest)?;
-    let (sum, rest) = vsize(dimensions, sum, ids.items(), external_type, rest)?;
-    let (begin, rest) = begin(version, rest)?;
+    let width = version.number_width();
+    let (name, rest) = new_name(alloc, width, names, bytes)?;
+    let (ids, rest) = ids(alloc, width, dimensions, rest)?;
+    let (attributes, rest) = attributes(alloc, version, rest)?;
+    let (external_type, rest) = external_type(version, rest)?;
+    let (_, sum, rest) = vsize(width, dimensions, sum, ids.items(), external_type, rest)?;
+    let (begin, rest) = begin(version.place_width(), rest)?;
     Ok((
         Variable {
             name,
@@ -135,9 +142,9 @@ fn variable<'a>(
 
 fn items<'a>(
     alloc: Global,
-    version: u8,
+    version: Version,
     dimensions: &[Dimension],
-    count: u32,
+    count: u64,
     bytes: &'a [u8],
 ) -> Result<(List<Variable>, &'a [u8]), Stop>
     ensures { Gives (λ x. (x.0, x.1.now)) result (times (next_variable version dimensions.now) count [] bytes.now) }
@@ -160,12 +167,12 @@ fn items<'a>(
 #[tactic(auto, unfolding(crate::specs::inner::Reading::list_at))]
 pub fn variables<'a>(
     alloc: Global,
-    version: u8,
+    version: Version,
     dimensions: &[Dimension],
     bytes: &'a [u8],
 ) -> Result<(List<Variable>, &'a [u8]), Stop>
-    ensures { Gives (λ x. (x.0, x.1.now)) result (list_at 11 (next_variable version dimensions.now) bytes.now) }
+    ensures { Gives (λ x. (x.0, x.1.now)) result (list_at (number_width version) 11 (next_variable version dimensions.now) bytes.now) }
 {
-    let (count, rest) = head(TAG, bytes)?;
+    let (count, rest) = head(version.number_width(), TAG, bytes)?;
     items(alloc, version, dimensions, count, rest)
 }

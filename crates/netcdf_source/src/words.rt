@@ -1,19 +1,18 @@
-ghost use Rattle.std.specs.Prelude.{◌≡◌, ℕ, ◌+◌, ◌<◌, ◌≤◌, ◌^◌, List, length, Ok, Bool};
+ghost use Rattle.std.specs.Prelude.{◌≡◌, ℕ, ◌+◌, ◌<◌, ◌≤◌, ◌*◌, ◌^◌, List, length, Ok, IfOk, Bool};
 ghost use Rattle.dap_model.specs.Xdr.{padded};
-ghost use Rattle.netcdf_source.specs.Grammar.{records_fault, tag_fault, count_fault, name_fault, length_fault, rank_fault, begin_fault};
-ghost use Rattle.netcdf_source.specs.inner.Reading.{Gives, word_at, long_at, run_at, judged_at, begin_at, type_at, head_at, name_at};
+ghost use Rattle.netcdf_source.specs.Grammar.{records_fault, tag_fault, count_fault, name_fault, no_fault, begin_fault};
+ghost use Rattle.netcdf_source.specs.Versions.{number_width, place_width};
+ghost use Rattle.netcdf_source.specs.declared.version.Width.TheVariants.{Four};
+ghost use Rattle.netcdf_source.specs.inner.Reading.{Gives, word_at, long_at, number_at, run_at, judged_at, type_at, head_at, name_at};
 
 use crate::ExternalType;
 use crate::stop::{Failure, Stop};
+use crate::version::{Version, Width};
 use dap_types::Id;
 use std::alloc::Global;
 
-/// The largest signed 32-bit number.
-pub const INT_MAX: u32 = 2147483647;
-/// The number of records of a file that is still written.
-pub const STREAMING: u32 = 0xffff_ffff;
 /// The longest name, in bytes.
-pub const NAME_MAX: u32 = 256;
+const NAME_MAX: u64 = 256;
 
 /// The refusal of the field that these bytes begin with.
 pub fn bad(bytes: &[u8]) -> Stop
@@ -37,7 +36,7 @@ pub fn word(bytes: &[u8]) -> Result<(u32, &[u8]), Stop>
 
 /// A number of eight bytes.
 #[tactic(auto, unfolding(crate::specs::inner::Reading::long_at))]
-pub fn long(bytes: &[u8]) -> Result<(u64, &[u8]), Stop>
+fn long(bytes: &[u8]) -> Result<(u64, &[u8]), Stop>
     ensures { Gives (λ x. (x.0, x.1.now)) result (long_at bytes.now) }
 {
     if bytes.len() < 8 {
@@ -50,10 +49,31 @@ pub fn long(bytes: &[u8]) -> Result<(u64, &[u8]), Stop>
     Ok((number, rest))
 }
 
+/// A number of that width.
+pub fn number(width: Width, bytes: &[u8]) -> Result<(u64, &[u8]), Stop>
+    ensures { Gives (λ x. (x.0, x.1.now)) result (number_at width bytes.now) }
+{
+    match width {
+        Width::Four => {
+            let (number, rest) = word(bytes)?;
+            Ok((u64::from(number), rest))
+        }
+        Width::Eight => long(bytes),
+    }
+}
+
+/// A number that may be any.
+#[tactic(auto, unfolding(crate::specs::inner::Reading::judged_at))]
+pub fn any_number(width: Width, bytes: &[u8]) -> Result<(u64, &[u8]), Stop>
+    ensures { Gives (λ x. (x.0, x.1.now)) result (judged_at width no_fault bytes.now) }
+{
+    number(width, bytes)
+}
+
 /// So many bytes, and behind them their padding to a multiple of four.
 #[tactic(auto, unfolding(crate::specs::inner::Reading::run_at))]
 pub fn run(length: u64, bytes: &[u8]) -> Result<(&[u8], &[u8]), Stop>
-    requires { length < 2 ^ 36 }
+    requires { length < 2 ^ 63 }
     ensures { Gives (λ x. (x.0.now, x.1.now)) result (run_at length bytes.now) }
 {
     let whole = length + (3 - (length + 3) % 4);
@@ -63,16 +83,30 @@ pub fn run(length: u64, bytes: &[u8]) -> Result<(&[u8], &[u8]), Stop>
     Ok((&bytes[..length as usize], &bytes[whole as usize..]))
 }
 
+/// So many values of that many bytes each, and their padding.
+#[tactic(auto, unfolding(crate::specs::inner::Reading::run_at))]
+pub fn values(count: u64, size: u32, bytes: &[u8]) -> Result<(&[u8], &[u8]), Stop>
+    ensures { Gives (λ x. (x.0.now, x.1.now)) result (run_at (count * size) bytes.now) }
+{
+    let Some(length) = count.checked_mul(u64::from(size)) else {
+        return Err(Stop::Failed(Failure::Cut));
+    };
+    if length > bytes.len() as u64 {
+        return Err(Stop::Failed(Failure::Cut));
+    }
+    run(length, bytes)
+}
+
 /// The number of records.
 #[tactic(auto, unfolding(crate::specs::inner::Reading::judged_at, crate::specs::Grammar::records_fault))]
-pub fn records(bytes: &[u8]) -> Result<(u32, &[u8]), Stop>
-    ensures { Gives (λ x. (x.0, x.1.now)) result (judged_at records_fault bytes.now) }
+pub fn records(width: Width, bytes: &[u8]) -> Result<(u64, &[u8]), Stop>
+    ensures { Gives (λ x. (x.0, x.1.now)) result (judged_at width (records_fault width) bytes.now) }
 {
-    let (number, rest) = word(bytes)?;
-    if number == STREAMING {
+    let (number, rest) = number(width, bytes)?;
+    if number == width.all_ones() {
         return Err(Stop::Failed(Failure::Streaming));
     }
-    if number > INT_MAX {
+    if number > width.largest() {
         return Err(bad(bytes));
     }
     Ok((number, rest))
@@ -81,7 +115,7 @@ pub fn records(bytes: &[u8]) -> Result<(u32, &[u8]), Stop>
 /// The tag of a list: its own, or 0 where the list is absent.
 #[tactic(auto, unfolding(crate::specs::inner::Reading::judged_at, crate::specs::Grammar::tag_fault))]
 fn tag(wanted: u32, bytes: &[u8]) -> Result<(u32, &[u8]), Stop>
-    ensures { Gives (λ x. (x.0, x.1.now)) result (judged_at (tag_fault wanted) bytes.now) }
+    ensures { Gives (λ x. (x.0, x.1.now)) result (judged_at Four (tag_fault wanted) bytes.now) }
 {
     let (number, rest) = word(bytes)?;
     if number != 0 && number != wanted {
@@ -92,10 +126,10 @@ fn tag(wanted: u32, bytes: &[u8]) -> Result<(u32, &[u8]), Stop>
 
 /// The number of items of a list with that tag.
 #[tactic(auto, unfolding(crate::specs::inner::Reading::judged_at, crate::specs::Grammar::count_fault))]
-fn count(tag: u32, bytes: &[u8]) -> Result<(u32, &[u8]), Stop>
-    ensures { Gives (λ x. (x.0, x.1.now)) result (judged_at (count_fault tag) bytes.now) }
+fn count(width: Width, tag: u32, bytes: &[u8]) -> Result<(u64, &[u8]), Stop>
+    ensures { Gives (λ x. (x.0, x.1.now)) result (judged_at width (count_fault tag) bytes.now) }
 {
-    let (number, rest) = word(bytes)?;
+    let (number, rest) = number(width, bytes)?;
     if tag == 0 && number != 0 {
         return Err(bad(bytes));
     }
@@ -104,19 +138,20 @@ fn count(tag: u32, bytes: &[u8]) -> Result<(u32, &[u8]), Stop>
 
 /// The tag of a list and the number of its items.
 #[tactic(auto, unfolding(crate::specs::inner::Reading::head_at))]
-pub fn head(wanted: u32, bytes: &[u8]) -> Result<(u32, &[u8]), Stop>
-    ensures { Gives (λ x. (x.0, x.1.now)) result (head_at wanted bytes.now) }
+pub fn head(width: Width, wanted: u32, bytes: &[u8]) -> Result<(u64, &[u8]), Stop>
+    ensures { Gives (λ x. (x.0, x.1.now)) result (head_at width wanted bytes.now) }
 {
     let (tag, rest) = tag(wanted, bytes)?;
-    count(tag, rest)
+    count(width, tag, rest)
 }
 
 /// The length of a name: 1 to 256.
 #[tactic(auto, unfolding(crate::specs::inner::Reading::judged_at, crate::specs::Grammar::name_fault))]
-pub fn name_length(bytes: &[u8]) -> Result<(u32, &[u8]), Stop>
-    ensures { Gives (λ x. (x.0, x.1.now)) result (judged_at name_fault bytes.now) }
+pub fn name_length(width: Width, bytes: &[u8]) -> Result<(u64, &[u8]), Stop>
+    ensures reading { Gives (λ x. (x.0, x.1.now)) result (judged_at width name_fault bytes.now) }
+    ensures few { IfOk result (λ x. x.0 ≤ 256) }
 {
-    let (number, rest) = word(bytes)?;
+    let (number, rest) = number(width, bytes)?;
     if number == 0 || number > NAME_MAX {
         return Err(bad(bytes));
     }
@@ -125,37 +160,32 @@ pub fn name_length(bytes: &[u8]) -> Result<(u32, &[u8]), Stop>
 
 /// A name, which may repeat another one.
 #[tactic(auto, unfolding(crate::specs::inner::Reading::name_at))]
-pub fn name(alloc: Global, bytes: &[u8]) -> Result<(Id, &[u8]), Stop>
-    ensures { Gives (λ x. (x.0, x.1.now)) result (name_at bytes.now) }
+pub fn name(alloc: Global, width: Width, bytes: &[u8]) -> Result<(Id, &[u8]), Stop>
+    ensures { Gives (λ x. (x.0, x.1.now)) result (name_at width bytes.now) }
 {
-    let (length, rest) = name_length(bytes)?;
-    let (name, rest) = run(u64::from(length), rest)?;
+    let (length, rest) = name_length(width, bytes)?;
+    let (name, rest) = run(length, rest)?;
     Ok((Id::raw(alloc, name)?, rest))
 }
 
 /// A type.
 #[tactic(auto, unfolding(crate::specs::inner::Reading::type_at))]
-pub fn external_type(bytes: &[u8]) -> Result<(ExternalType, &[u8]), Stop>
-    ensures { Gives (λ x. (x.0, x.1.now)) result (type_at bytes.now) }
+pub fn external_type(version: Version, bytes: &[u8]) -> Result<(ExternalType, &[u8]), Stop>
+    ensures { Gives (λ x. (x.0, x.1.now)) result (type_at version bytes.now) }
 {
     let (number, rest) = word(bytes)?;
-    match ExternalType::of_number(number) {
+    match ExternalType::of_number(version, number) {
         Some(external_type) => Ok((external_type, rest)),
         None => Err(bad(bytes)),
     }
 }
 
-/// The place of a variable, in 4 bytes in version 1 and in 8 in version 2.
-#[tactic(auto, unfolding(crate::specs::inner::Reading::begin_at, crate::specs::Grammar::begin_fault))]
-pub fn begin(version: u8, bytes: &[u8]) -> Result<(u64, &[u8]), Stop>
-    ensures { Gives (λ x. (x.0, x.1.now)) result (begin_at version bytes.now) }
+/// The place of a variable.
+#[tactic(auto, unfolding(crate::specs::inner::Reading::judged_at, crate::specs::Grammar::begin_fault))]
+pub fn begin(width: Width, bytes: &[u8]) -> Result<(u64, &[u8]), Stop>
+    ensures { Gives (λ x. (x.0, x.1.now)) result (judged_at width begin_fault bytes.now) }
 {
-    let (number, rest) = if version == 1 {
-        let (number, rest) = word(bytes)?;
-        (u64::from(number), rest)
-    } else {
-        long(bytes)?
-    };
+    let (number, rest) = number(width, bytes)?;
     if number >= 1 << 63 {
         return Err(bad(bytes));
     }

@@ -1,6 +1,5 @@
 mod RowFacts
 mod Orders
 mod Owned
-mod Parents
 mod NoneLost
 mod TableRows

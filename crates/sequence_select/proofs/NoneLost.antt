@@ -26,7 +26,7 @@ use Rattle.grid_projection.specs.Items.{items_cause}
 use Rattle.std.proofs.lemmas.Slice.Zip.{AllZip-long}
 use Rattle.sequence_select.specs.Laws.{NoClauseIsLost}
 use Rattle.sequence_select.specs.Selections.{compared, constant_values, relation_of, selection_in, selections}
-use Rattle.sequence_select.proofs.Parents.{Path, mapped-from, no-empty, path_at, whole_at}
+use Rattle.dap_model.proofs.Parents.{Path, mapped-from, no-empty, path_at, whole_at}
 
 -- ---- values
 

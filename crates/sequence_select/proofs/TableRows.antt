@@ -32,7 +32,7 @@ use Rattle.sequence_select.specs.Operators.{Stands}
 use Rattle.sequence_select.specs.Selections.{relation_of, row_of, selections}
 use Rattle.sequence_select.proofs.NoneLost.{none-lost}
 use Rattle.sequence_select.proofs.Orders.{operators-relate}
-use Rattle.sequence_select.proofs.Parents.{Path, in-first, one-place, path_at}
+use Rattle.dap_model.proofs.Parents.{Path, in-first, one-place, path_at}
 use Rattle.sequence_select.proofs.RowFacts.{one-selection}
 
 -- ---- one of the constants

@@ -1,21 +1,16 @@
 -- The elements of a batch out of its raw bytes, and their XDR forms.
-use Rattle.std.specs.Prelude.{ℕ, ◌/◌, ◌%◌, List, [], ◌∷◌, map, take, drop, slice_index}
+use Rattle.std.specs.Prelude.{ℕ, ◌/◌, ◌%◌, List, map, take, drop, slice_index}
 use Rattle.std.specs.List.{flat_map, range_with_len}
 use Rattle.dap_types.specs.declared.declarations.BaseType.{BaseType}
-use Rattle.dap_types.specs.declared.declarations.BaseType.TheVariants.{Byte}
 use Rattle.dap_types.specs.declared.values.Value.{Value}
 use Rattle.dap_model.specs.Raw.{value_of}
-use Rattle.dap_model.specs.Xdr.{Field, packed, value_fields, bytes_of}
+use Rattle.dap_model.specs.Xdr.{bytes_of}
+pub use Rattle.dap_model.specs.Xdr.{element_fields}
 use Rattle.hyperslab_plan.specs.Numbers.{number_size, width_of}
 use Rattle.hyperslab_plan.specs.Plans.{base_in, size_in, width_in, place_in}
 use Rattle.hyperslab_plan.specs.declared.batch.Batch.{Batch}
 use Rattle.hyperslab_plan.specs.declared.plan.Plan.{Plan}
 use Rattle.slab_fill.specs.Spots.{spot}
-
--- an element of an array: a Byte is packed, another value is as it is outside of arrays (DAP 2.0, arrays)
-abbrev pub element_fields : BaseType → Value → List Field
-element_fields Byte value = packed value ∷ []
-element_fields base value = value_fields base value
 
 -- the values of a batch's elements, in order
 unfoldable pub values_of : Plan → Batch → List ℕ → List Value

@@ -23,7 +23,7 @@ quoted_slice signs text place behind pieces t =
     rw (n, e) (take-append_seam (spelling pieces) (34 ∷ drop behind text))
 
 -- what they stand for
-quoted_is : (signs text : List ℕ) (place behind : ℕ) (pieces : List Piece) → TokenAt signs text place behind (quoted pieces) → unescape (take (behind - 1 - (place + 1)) (drop (place + 1) text)) ≡ quoted_value pieces
+pub quoted_is : (signs text : List ℕ) (place behind : ℕ) (pieces : List Piece) → TokenAt signs text place behind (quoted pieces) → unescape (take (behind - 1 - (place + 1)) (drop (place + 1) text)) ≡ quoted_value pieces
 quoted_is signs text place behind pieces t = ap unescape (quoted_slice signs text place behind pieces t) ∙ unescape_pieces pieces t.is_one
 
 pub quoted_ok : {A E : Type 0} (items : A → List ℕ) (text : List ℕ) (place behind : ℕ) (r : Result A E) → IfOk r (λ v. items v ≡ unescape (take (behind - 1 - (place + 1)) (drop (place + 1) text)))

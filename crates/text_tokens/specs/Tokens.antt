@@ -1,7 +1,8 @@
 -- Tokens of a text in which white space is free: signs, words, and quoted texts. Which bytes are signs is
 -- for each language to say.
-use Rattle.std.specs.Prelude.{◌≡◌, ℕ, ◌+◌, ◌⊎◌, Bool, true, false, ◌&&◌, ◌||◌, not, List, [], ◌∷◌, ◌++◌, length, drop, ◌==◌, IsTrue}
+use Rattle.std.specs.Prelude.{◌≡◌, ℕ, ◌+◌, ◌⊎◌, Bool, true, false, ◌&&◌, ◌||◌, not, List, [], ◌∷◌, ◌++◌, length, drop, ◌==◌, IsTrue, codes}
 use Rattle.std.specs.List.{list_all, list_any}
+use Rattle.viable.specs.Characters.{byte}
 use Rattle.viable.specs.Quoted.{Piece, is_piece, spelling, IsOpen}
 use Rattle.viable.specs.Runs.{is_run}
 
@@ -18,21 +19,21 @@ pub record Placed : Type 0 where
 
 -- a tab, a line feed, a carriage return or a space
 abbrev pub is_white : ℕ → Bool
-is_white b = b == 9 || b == 10 || b == 13 || b == 32
+is_white b = b == byte "\t" || b == byte "\n" || b == byte "\r" || b == byte " "
 
 abbrev pub is_sign : List ℕ → ℕ → Bool
 is_sign signs b = list_any (λ c. c == b) signs
 
 abbrev pub is_word_byte : List ℕ → ℕ → Bool
-is_word_byte signs b = not (is_white b) && not (b == 34) && not (is_sign signs b)
+is_word_byte signs b = not (is_white b) && not (b == byte "\"") && not (is_sign signs b)
 
 abbrev pub token_bytes : Token → List ℕ
 token_bytes (sign b) = b ∷ []
 token_bytes (word bytes) = bytes
-token_bytes (quoted pieces) = 34 ∷ (spelling pieces ++ 34 ∷ [])
+token_bytes (quoted pieces) = codes "\"" ++ spelling pieces ++ codes "\""
 
 abbrev pub is_token : List ℕ → Token → Bool
-is_token signs (sign b) = not (is_white b) && not (b == 34) && is_sign signs b
+is_token signs (sign b) = not (is_white b) && not (b == byte "\"") && is_sign signs b
 is_token signs (word bytes) = is_run (is_word_byte signs) bytes
 is_token signs (quoted pieces) = list_all is_piece pieces
 
@@ -62,7 +63,7 @@ pub record Next (signs text : List ℕ) (at place behind : ℕ) (token : Token) 
 abbrev pub IsPart : List ℕ → List ℕ → Type 0
 IsPart signs left =
     IsTrue (list_all (is_word_byte signs) left)
-    ⊎ ((pieces : List Piece) × (end : List ℕ) × IsTrue (list_all is_piece pieces) × IsOpen end × (left ≡ 34 ∷ (spelling pieces ++ end)))
+    ⊎ ((pieces : List Piece) × (end : List ℕ) × IsTrue (list_all is_piece pieces) × IsOpen end × (left ≡ codes "\"" ++ spelling pieces ++ end))
 
 -- no whole token is left
 pub record NoToken (signs rest : List ℕ) : Type 0 where

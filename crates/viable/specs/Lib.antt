@@ -1,3 +1,4 @@
+pub mod Characters
 pub mod Numerals
 pub mod Prefix
 pub mod Quoted

@@ -1,7 +1,7 @@
 -- The XDR of an array of numbers: its two counts, the forms of its elements, and zero bytes.
-use Rattle.std.proofs.Common.{◌≡◌, ℕ, ◌+◌, ◌-◌, ◌≤◌, ◌<◌, List, [], ◌∷◌, ◌++◌, All, Option, length, map, take, refl, sym, ap, ◌∙◌, subst, arith, append_assoc, append-nil, length-append}
+use Rattle.std.proofs.Common.{◌≡◌, ℕ, ◌+◌, ◌-◌, ◌≤◌, List, [], ◌∷◌, ◌++◌, All, Option, length, map, take, refl, sym, ap, ◌∙◌, subst, arith, append_assoc, append-nil, length-append}
 use Rattle.std.proofs.KnownBytes.{Appends-trans}
-use Rattle.std.proofs.Math.Seq.{take-append-add, take-length}
+use Rattle.std.proofs.Math.Seq.{take-append-add}
 use Rattle.std.proofs.lemmas.List.{take-append-le}
 use Rattle.std.proofs.lemmas.List.Elements.{All-append, All-nil, All-cons}
 use Rattle.std.proofs.lemmas.List.FromFn.{length-map-range_with_len}
@@ -13,12 +13,10 @@ use Rattle.dap_types.specs.declared.values.Value.{Value}
 use Rattle.dap_model.proofs.Values.{bytes_of-append}
 use Rattle.dap_model.specs.Xdr.{Field, count, packed, filler, value_fields, array_fields, bytes_of, field_bytes, word, zeros}
 use Rattle.dap_outside.specs.Streams.{AppendsFront}
-use Rattle.hyperslab_plan.proofs.BoundedLemmas.{is_bounded}
-use Rattle.hyperslab_plan.specs.Batches.{IsBatch, InTurn, read_by}
+use Rattle.hyperslab_plan.specs.Batches.{InTurn}
 use Rattle.hyperslab_plan.specs.declared.batch.Batch.{Batch}
 use Rattle.hyperslab_plan.specs.declared.plan.Plan.{Plan}
 use Rattle.slab_fill.specs.Elements.{element_fields}
-use Rattle.xdr_encode.proofs.Forms.{forms-append}
 use Rattle.xdr_encode.proofs.Sending.{forms-next, turn-more, read-push}
 use Rattle.xdr_encode.specs.Elements.{value_in, values_from, forms_from, AsksUpTo, StopsAt}
 use Rattle.xdr_encode.specs.Leaves.{array_xdr, begins_in, counts_of, filler_of, LeafStops}

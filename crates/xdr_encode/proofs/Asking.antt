@@ -1,38 +1,29 @@
 -- The batches of a body's leaves that have begun are batches of the marked variables that have.
-use Rattle.std.proofs.Common.{◌≡◌, ℕ, zero, suc, ◌+◌, ◌<◌, ◌≤◌, Bool, true, false, cond, eqb, List, [], ◌∷◌, ◌++◌, All, length, map, take, drop, get_or, Option, Some, None, refl, sym, ap, ◌∙◌, subst, arith, length-append}
-use Rattle.std.proofs.lemmas.Grind.{flat_map-append}
+use Rattle.std.proofs.Common.{◌≡◌, ℕ, zero, suc, ◌+◌, ◌<◌, ◌≤◌, Bool, true, false, cond, List, [], ◌∷◌, ◌++◌, length, get_or, Option, Some, None, refl, sym, ap, ◌∙◌, subst, arith, length-append}
 use Rattle.std.proofs.lemmas.List.FromFn.{length-map-range_with_len, take-map-range_with_len}
-use Rattle.std.specs.List.{flat_map, range_with_len}
-use Rattle.std.specs.Option.{option_to_list}
-use Rattle.std.specs.Prelude.{MatchOption, option_and_then, slice_get}
-use Rattle.dap_types.specs.declared.declarations.BaseType.{BaseType}
+use Rattle.std.specs.List.{flat_map}
+use Rattle.std.specs.Prelude.{MatchOption}
 use Rattle.dap_types.specs.declared.slabs.Slab.{Slab}
-use Rattle.dap_types.specs.declared.values.Value.{Value}
-use Rattle.dap_model.specs.Cutting.{cut}
 use Rattle.dap_model.specs.Filter.{Marks}
-use Rattle.dap_model.specs.Fits.{values_in}
 use Rattle.dap_model.specs.Xdr.{bytes_of}
-use Rattle.hyperslab_plan.specs.Batches.{IsBatch, InTurn}
+use Rattle.hyperslab_plan.specs.Batches.{InTurn}
 use Rattle.hyperslab_plan.specs.Nested.{AreWithin}
-use Rattle.hyperslab_plan.specs.Plans.{base_in, total_of}
 use Rattle.hyperslab_plan.specs.declared.batch.Batch.{Batch}
 use Rattle.hyperslab_plan.specs.declared.plan.Plan.{Plan}
 use Rattle.netcdf_source.specs.Laws.{HasHeader}
 use Rattle.netcdf_source.specs.Layouts.{element_sizes}
-use Rattle.netcdf_source.specs.Mapping.{base_of, element_dimensions, is_empty, leaf_variable, leaves_from}
-use Rattle.netcdf_source.specs.Values.{tree_of}
+use Rattle.netcdf_source.specs.Mapping.{base_of, element_dimensions, is_empty, leaf_variable}
 use Rattle.netcdf_source.specs.declared.header.Contents.{Contents}
 use Rattle.netcdf_source.specs.declared.header.Variable.{Variable}
 use Rattle.slab_fill.specs.Elements.{element_fields}
 use Rattle.xdr_encode.proofs.Placing.{plans_cut}
-use Rattle.xdr_encode.specs.Asked.{LeafAsks, SlotAsks, SlotsAsk, VariableAsks, begins_among, element_begins}
+use Rattle.xdr_encode.specs.Asked.{LeafAsks, VariableAsks, begins_among, element_begins}
 use Rattle.xdr_encode.specs.Begun.{HasBegun, HaveBegun}
 use Rattle.xdr_encode.specs.Costs.{own_slabs}
 use Rattle.xdr_encode.specs.Elements.{forms_from, value_in, values_from}
-use Rattle.xdr_encode.specs.Leaves.{at_once, begins_in, counts_of}
-use Rattle.xdr_encode.specs.Placed.{IsLeafOf, kind_of}
+use Rattle.xdr_encode.specs.Leaves.{begins_in, counts_of}
+use Rattle.xdr_encode.specs.Placed.{IsLeafOf}
 use Rattle.xdr_encode.specs.Sent.{kind_begins, leaf_begins, leaf_xdr, leaves_xdr}
-use Rattle.xdr_encode.specs.declared.leaf.Kind.{Kind}
 use Rattle.xdr_encode.specs.declared.leaf.Kind.TheVariants.{Scalar, Array}
 use Rattle.xdr_encode.specs.declared.leaf.Leaf.{Leaf}
 

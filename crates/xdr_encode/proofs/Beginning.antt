@@ -6,7 +6,6 @@ use Rattle.std.proofs.lemmas.Grind.{flat_map-append}
 use Rattle.std.proofs.lemmas.List.{take-append-le}
 use Rattle.std.proofs.lemmas.List.Elements.{All-nil}
 use Rattle.std.specs.Io.KnownBytes.{Appends}
-use Rattle.std.specs.List.{flat_map}
 use Rattle.dap_outside.specs.Streams.{AppendsFront}
 use Rattle.hyperslab_plan.specs.Batches.{InTurn, read_by}
 use Rattle.hyperslab_plan.specs.declared.batch.Batch.{Batch}
@@ -14,7 +13,7 @@ use Rattle.hyperslab_plan.specs.declared.plan.Plan.{Plan}
 use Rattle.xdr_encode.proofs.ArrayParts.{all-begun, array-parts}
 use Rattle.xdr_encode.specs.Begun.{HasBegun, HaveBegun}
 use Rattle.xdr_encode.specs.Elements.{forms_from}
-use Rattle.xdr_encode.specs.Leaves.{LeafStops, array_xdr, at_once, begins_in, counts_of, filler_of}
+use Rattle.xdr_encode.specs.Leaves.{LeafStops, array_xdr, begins_in, counts_of, filler_of}
 use Rattle.xdr_encode.specs.Sent.{AskAll, LeavesStop, kind_begins, kind_xdr, leaf_begins, leaf_xdr, leaves_xdr}
 use Rattle.xdr_encode.specs.Streamed.{Stops}
 use Rattle.xdr_encode.specs.declared.leaf.Kind.{Kind}

@@ -1,7 +1,6 @@
 -- What stands before the values is put, and then the leaves.
-use Rattle.std.proofs.Common.{◌≡◌, ◌≢◌, ℕ, ◌≤◌, ◌<◌, List, [], ◌∷◌, ◌++◌, All, Option, length, take, refl, sym, ap, ◌∙◌, subst, arith, inl, inr, Result, Ok, Err, OnOk, OnErr, IfErr, IsOk}
+use Rattle.std.proofs.Common.{◌≡◌, ◌≢◌, ℕ, List, [], ◌++◌, Option, length, sym, ap, ◌∙◌, subst, Result, Ok, Err, OnOk, OnErr, IsOk}
 use Rattle.std.proofs.KnownBytes.{Appends-trans}
-use Rattle.std.proofs.lemmas.Grind.{flat_map-append}
 use Rattle.std.specs.Io.KnownBytes.{Appends}
 use Rattle.dap_outside.proofs.Fronts.{front_of, front_more}
 use Rattle.dap_outside.specs.Streams.{AppendsFront}
@@ -9,7 +8,7 @@ use Rattle.xdr_encode.proofs.Beginning.{parts-xdr, stops-in-leaves}
 use Rattle.xdr_encode.specs.Begun.{HaveBegun}
 use Rattle.xdr_encode.specs.Faults.{HasCauses}
 use Rattle.xdr_encode.specs.Sent.{LeavesStop, leaf_xdr, leaves_xdr}
-use Rattle.xdr_encode.specs.Streamed.{streamed_of, Streams, RoseFor, HasStreamCauses, StopsAtFault, StreamsAlone}
+use Rattle.xdr_encode.specs.Streamed.{streamed_of, Streams, RoseFor, StopsAtFault, StreamsAlone}
 use Rattle.xdr_encode.specs.declared.fault.Fault.{Fault}
 use Rattle.xdr_encode.specs.declared.fault.Fault.TheVariants.{Shelf, Sink}
 use Rattle.xdr_encode.specs.declared.leaf.Leaf.{Leaf}

@@ -1,5 +1,5 @@
 -- The body of a netCDF file, and why it is refused.
-use Rattle.std.proofs.Common.{◌≡◌, ℕ, ◌<◌, ◌≤◌, Bool, true, false, cond, List, [], ◌++◌, codes, length, take, Option, Some, None, refl, sym, ap, ◌∙◌, subst, arith, append-nil, nat_lt}
+use Rattle.std.proofs.Common.{◌≡◌, ℕ, ◌<◌, ◌≤◌, Bool, true, false, cond, List, [], ◌++◌, codes, length, Option, Some, refl, sym, ap, ◌∙◌, subst, arith, append-nil, nat_lt}
 use Rattle.std.proofs.lemmas.Bool.{ltb-true, ltb-false}
 use Rattle.std.specs.List.{position_from}
 use Rattle.dap_types.specs.Model.{Dataset}

@@ -1,9 +1,9 @@
 -- The elements that are sent of a netCDF dataset, by member number.
-use Rattle.std.proofs.Common.{◌≡◌, ℕ, zero, suc, ◌+◌, Bool, true, false, cond, List, [], ◌∷◌, ◌++◌, length, map, filter, Option, Some, None, refl, sym, ap, ◌∙◌, subst, arith, append-nil, append_assoc, length-append, nat_lt}
+use Rattle.std.proofs.Common.{◌≡◌, ℕ, suc, ◌+◌, Bool, true, false, cond, List, [], ◌∷◌, ◌++◌, length, map, filter, Option, Some, None, refl, sym, ap, ◌∙◌, subst, arith, append-nil, append_assoc, length-append, nat_lt}
 use Rattle.std.specs.List.{list_all, cons_option}
 use Rattle.std.specs.Option.{option_map_or}
 use Rattle.std.specs.Prelude.{is_some, slice_get}
-use Rattle.dap_types.specs.Model.{Member, scalar, array, grid, members_of, count, sizes, product}
+use Rattle.dap_types.specs.Model.{scalar, array, grid, members_of, count, sizes, product}
 use Rattle.dap_types.specs.Names.{file_id}
 use Rattle.dap_types.specs.declared.slabs.Slab.{Slab}
 use Rattle.dap_model.proofs.Tests.{both_true}

@@ -1,18 +1,17 @@
 -- The members of a netCDF dataset and its leaves are sent in the same order.
-use Rattle.std.proofs.Common.{◌≡◌, ℕ, zero, suc, ◌+◌, Bool, true, false, cond, List, [], ◌∷◌, ◌++◌, length, map, filter, filter_map, Option, Some, None, refl, sym, ap, ◌∙◌, subst, arith, append-nil, append_assoc, length-append}
+use Rattle.std.proofs.Common.{◌≡◌, ℕ, suc, ◌+◌, Bool, true, false, cond, List, [], ◌∷◌, ◌++◌, length, map, filter, Option, Some, None, refl, sym, ap, ◌∙◌, subst, arith, append-nil, append_assoc, length-append}
 use Rattle.std.specs.List.{list_all, cons_option}
 use Rattle.std.specs.Option.{option_map_or}
-use Rattle.std.specs.Prelude.{is_some, option_and_then, slice_get}
+use Rattle.std.specs.Prelude.{is_some, slice_get}
 use Rattle.std.proofs.lemmas.List.{length-map}
 use Rattle.dap_types.proofs.Views.{items-trees_of}
-use Rattle.dap_types.specs.Model.{Member, scalar, array, grid, members_of, Tree, many, trees_of, count}
+use Rattle.dap_types.specs.Model.{scalar, array, grid, members_of, many, trees_of, count}
 use Rattle.dap_types.specs.Names.{file_id}
-use Rattle.dap_types.specs.declared.declarations.ArrayDecl.{ArrayDecl}
 use Rattle.dap_types.specs.declared.slabs.Slab.{Slab}
 use Rattle.dap_model.proofs.Tests.{both_true}
 use Rattle.dap_model.specs.Filter.{Marks, Keeps, cut}
 use Rattle.dap_model.specs.Fits.{values_in}
-use Rattle.dap_model.specs.Xdr.{Field, scalar_fields, array_fields, bytes_of}
+use Rattle.dap_model.specs.Xdr.{scalar_fields, array_fields, bytes_of}
 use Rattle.netcdf_source.proofs.GridMaps.{coordinate_found, grid_array, maps_are, own_alone, at_front}
 use Rattle.netcdf_source.specs.Mapping.{base_of, element_dimensions, is_empty, is_offered, is_grid, coordinate_at, coordinate_variable, column_of, array_of, maps_of, member_of, dataset_of, leaves_of, leaves_from}
 use Rattle.netcdf_source.specs.Values.{tree_of, map_variables, member_tree, file_trees}

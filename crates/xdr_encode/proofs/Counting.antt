@@ -4,7 +4,7 @@ use Rattle.std.specs.List.{list_any, range_with_len, enumerate_from, position_fr
 use Rattle.std.specs.Option.{option_map_or}
 use Rattle.std.specs.Prelude.{is_some}
 use Rattle.dap_types.specs.Model.{Dataset, Member, scalar, array, structure, grid, sequence, Members, no_members, member, members_of, count, name_of, sizes, product}
-use Rattle.dap_types.specs.WellFormed.{Place, place, leaf_places, part_places, places, places_of, is_leaf, leaves_of, elements_of}
+use Rattle.dap_types.specs.WellFormed.{Place, leaf_places, part_places, places, places_of, is_leaf, leaves_of, elements_of}
 use Rattle.dap_types.specs.declared.declarations.ArrayDecl.{ArrayDecl}
 use Rattle.dap_types.specs.declared.declarations.Column.{Column}
 use Rattle.dap_types.specs.declared.slabs.Slab.{Slab}

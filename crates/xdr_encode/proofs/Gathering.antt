@@ -1,11 +1,11 @@
 -- The marked leaves of a file, gathered one member after the other.
-use Rattle.std.proofs.Common.{◌≡◌, ℕ, zero, suc, ◌+◌, ◌*◌, ◌<◌, ◌≤◌, ◌^◌, Bool, true, false, cond, eqb, ltb, List, [], ◌∷◌, ◌++◌, length, map, drop, get_or, All, Option, Some, None, Result, Err, min, refl, sym, ap, ◌∙◌, subst, arith, append-nil, append_assoc, length-append, nat_lt, inl, inr}
-use Rattle.std.proofs.lemmas.Bool.{eqb-true, ltb-true, ltb-false}
+use Rattle.std.proofs.Common.{◌≡◌, ℕ, zero, suc, ◌+◌, ◌*◌, ◌<◌, ◌≤◌, ◌^◌, Bool, true, false, cond, eqb, List, [], ◌∷◌, ◌++◌, length, map, drop, get_or, All, Option, Some, None, Result, Err, refl, sym, ap, ◌∙◌, subst, arith, append-nil, append_assoc, length-append, nat_lt, inl, inr}
+use Rattle.std.proofs.lemmas.Bool.{ltb-true, ltb-false}
 use Rattle.std.proofs.lemmas.Grind.{flat_map-append}
 use Rattle.std.proofs.lemmas.List.{drop_more, length-map}
 use Rattle.std.proofs.lemmas.List.Elements.{All-append, All-nil, All-cons}
 use Rattle.std.proofs.lemmas.List.Sums.{sum_by-append, sum_by-cons}
-use Rattle.std.specs.List.{flat_map, sum_by, zip, position_from, AllZip}
+use Rattle.std.specs.List.{sum_by, zip, AllZip}
 use Rattle.std.specs.Option.{option_map_or, option_to_list}
 use Rattle.std.specs.Prelude.{MatchOption, option_map, option_and_then, slice_get}
 use Rattle.dap_types.specs.Model.{product, sizes}
@@ -13,7 +13,7 @@ use Rattle.dap_types.specs.declared.declarations.BaseType.{BaseType}
 use Rattle.dap_types.specs.declared.declarations.Dim.{Dim}
 use Rattle.dap_types.specs.declared.slabs.Layout.{Layout}
 use Rattle.dap_types.specs.declared.slabs.Slab.{Slab}
-use Rattle.dap_model.specs.Cutting.{cut, counted, IsWithin, flatten}
+use Rattle.dap_model.specs.Cutting.{cut, counted, IsWithin}
 use Rattle.dap_model.specs.Filter.{Marks}
 use Rattle.dap_model.specs.Fits.{values_in}
 use Rattle.dap_model.specs.Xdr.{Field, scalar_fields, array_fields, bytes_of}
@@ -23,15 +23,14 @@ use Rattle.hyperslab_plan.specs.Nested.{AreWithin}
 use Rattle.hyperslab_plan.specs.Numbers.{HasSize, is_number, number_size}
 use Rattle.hyperslab_plan.specs.Picked.{picked, count_of, cost_of}
 use Rattle.hyperslab_plan.specs.Plans.{base_in, places, size_in}
-use Rattle.netcdf_source.proofs.Shaped.{has_steps}
 use Rattle.netcdf_source.specs.Laws.{HasHeader}
-use Rattle.netcdf_source.specs.Layouts.{distance, element_sizes, steps_of, layout_of, IsPlaced, IsShaped, LeafIsPlaced, LeafIsShaped}
+use Rattle.netcdf_source.specs.Layouts.{element_sizes, steps_of, layout_of, IsPlaced, IsShaped, LeafIsPlaced, LeafIsShaped}
 use Rattle.netcdf_source.specs.Layouts as layouts
 use Rattle.netcdf_source.specs.Mapping.{base_of, dim_of, element_dimensions, element_size, size_at, is_char, is_empty, array_of, leaf_variable, leaves_from}
 use Rattle.netcdf_source.specs.Types.{size_of}
 use Rattle.netcdf_source.specs.Values.{tree_of}
 use Rattle.netcdf_source.specs.declared.external_type.ExternalType.{ExternalType}
-use Rattle.netcdf_source.specs.declared.external_type.ExternalType.TheVariants.{Byte, Char, Short, Int, Float, Double}
+use Rattle.netcdf_source.specs.declared.external_type.ExternalType.TheVariants.{Byte, Char, Short, Int, Float, Double, UByte, UShort, UInt, Int64, UInt64}
 use Rattle.netcdf_source.specs.declared.header.Contents.{Contents}
 use Rattle.netcdf_source.specs.declared.header.Variable.{Variable}
 use Rattle.xdr_encode.proofs.Asking.{marked-asks, parted, unknown-asks, unmarked-asks}
@@ -41,12 +40,11 @@ use Rattle.xdr_encode.proofs.Suiting.{leaf-at}
 use Rattle.xdr_encode.specs.Asked.{LeafAsks, SlotAsks, SlotsAsk}
 use Rattle.xdr_encode.specs.Begun.{HaveBegun}
 use Rattle.xdr_encode.specs.CdfSent.{variable_sent, slot_sent, slots_sent}
-use Rattle.xdr_encode.specs.Counts.{first_large, slot_counts, slots_counts, variable_counts}
-use Rattle.xdr_encode.specs.Elements.{AreInside}
-use Rattle.xdr_encode.specs.Placed.{IsLeafOf, kind_of}
+use Rattle.xdr_encode.specs.Counts.{first_large, slots_counts, variable_counts}
+use Rattle.xdr_encode.specs.Placed.{kind_of}
 use Rattle.xdr_encode.specs.Sent.{IsInside, leaf_cost, leaf_xdr, leaves_cost, leaves_xdr}
-use Rattle.xdr_encode.specs.Costs.{own_slabs, slot_cost, slots_cost, variable_cost}
-use Rattle.xdr_encode.specs.Wanted.{Gathered, IsFound, IsLarge, IsMarkedLeaf, IsUnmarked, IsWanted, AreSuited}
+use Rattle.xdr_encode.specs.Costs.{own_slabs, slots_cost, variable_cost}
+use Rattle.xdr_encode.specs.Wanted.{Gathered, IsFound, IsLarge, IsMarkedLeaf, IsWanted, AreSuited}
 use Rattle.xdr_encode.specs.declared.leaf.Leaf.{Leaf}
 use Rattle.xdr_encode.specs.declared.refusal.BodyRefusal.{BodyRefusal}
 use Rattle.xdr_encode.specs.declared.refusal.BodyRefusal.TheVariants.{TooLarge}
@@ -60,6 +58,11 @@ number-size Short e = refl
 number-size Int e = refl
 number-size Float e = refl
 number-size Double e = refl
+number-size UByte e = refl
+number-size UShort e = refl
+number-size UInt e = refl
+number-size Int64 e = absurd cc
+number-size UInt64 e = absurd cc
 
 not-char : (v : Variable) → is_number (base_of v.external_type) ≡ true → is_char v ≡ false
 not-char v e = go v.external_type e
@@ -71,6 +74,11 @@ not-char v e = go v.external_type e
     go Int e = refl
     go Float e = refl
     go Double e = refl
+    go UByte e = refl
+    go UShort e = refl
+    go UInt e = refl
+    go Int64 e = refl
+    go UInt64 e = refl
 
 strides : (slabs : List Slab) (ns : List ℕ) → AllZip IsWithin slabs ns → All (λ s. 0 < s.stride) slabs
 strides [] ns h = All-nil (λ s. 0 < s.stride)

@@ -1,23 +1,20 @@
 -- The elements of a cut variable stand within the file.
-use Rattle.std.proofs.Common.{◌≡◌, ℕ, zero, suc, ◌+◌, ◌*◌, ◌<◌, ◌≤◌, List, [], ◌∷◌, ◌++◌, length, map, replicate, All, get_or, refl, sym, ap, ◌∙◌, subst, arith, inl, inr}
+use Rattle.std.proofs.Common.{◌≡◌, ℕ, zero, suc, ◌+◌, ◌*◌, ◌<◌, ◌≤◌, List, [], ◌∷◌, ◌++◌, length, map, replicate, All, refl, sym, ap, subst, arith}
 use Rattle.std.specs.List.{flat_map, range_with_len}
 use Rattle.std.proofs.lemmas.List.{length-map, length-replicate}
 use Rattle.std.proofs.lemmas.List.Elements.{All-append, All-nil, All-cons}
 use Rattle.std.proofs.lemmas.List.FromFn.{length-map-range_with_len, get_or-map-range_with_len}
-use Rattle.dap_types.specs.declared.slabs.Slab.{Slab}
 use Rattle.dap_model.specs.Cutting.{flatten}
 use Rattle.hyperslab_plan.proofs.CutLemmas.{All-picked_places, length-within}
 use Rattle.hyperslab_plan.specs.Nested as nested
 use Rattle.hyperslab_plan.specs.Picked.{picked}
-use Rattle.hyperslab_plan.specs.Plans.{place_of, places, size_in, total_of}
+use Rattle.hyperslab_plan.specs.Plans.{place_of, places}
 use Rattle.hyperslab_plan.specs.declared.plan.Plan.{Plan}
 use Rattle.netcdf_source.proofs.Shaped.{has_steps}
-use Rattle.netcdf_source.specs.Layouts.{AreWithin, distance, element_sizes, element_at, steps_of, layout_of, place, IsPlaced}
+use Rattle.netcdf_source.specs.Layouts.{AreWithin, distance, element_sizes, steps_of, place, IsPlaced}
 use Rattle.netcdf_source.specs.Mapping.{element_dimensions, element_size, size_at}
-use Rattle.netcdf_source.specs.declared.header.Contents.{Contents}
-use Rattle.netcdf_source.specs.declared.header.Variable.{Variable}
 use Rattle.xdr_encode.specs.Elements.{AreInside}
-use Rattle.xdr_encode.specs.Placed.{IsLeafOf, LeafIsInside}
+use Rattle.xdr_encode.specs.Placed.{LeafIsInside}
 
 -- what holds of each part's items holds of all
 all-parts : {X : Type 0} (P : X → Type 0) (f : ℕ → List X) (a n : ℕ) → ((i : ℕ) → i < a + n → All P (f i)) → All P (flat_map f (range_with_len a n))

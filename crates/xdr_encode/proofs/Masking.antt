@@ -1,13 +1,12 @@
 -- To keep rows by their values is to keep them by a mask.
-use Rattle.std.proofs.Common.{◌≡◌, ℕ, ◌+◌, Bool, true, false, cond, List, [], ◌∷◌, map, filter, refl, sym, ap, ◌∙◌}
-use Rattle.csv_source.specs.Dataset.{row_tree, table_dataset, table_trees}
+use Rattle.std.proofs.Common.{◌≡◌, ◌+◌, Bool, true, false, cond, List, [], ◌∷◌, map, filter, refl, sym, ap, ◌∙◌}
+use Rattle.csv_source.specs.Dataset.{row_tree}
 use Rattle.csv_source.specs.Names.{sequence_name}
-use Rattle.csv_source.specs.Table.{CsvTable}
-use Rattle.dap_model.specs.Filter.{Marks, Keeps, marked, unchanged, has_mark}
+use Rattle.dap_model.specs.Filter.{marked, unchanged, has_mark}
 use Rattle.dap_types.proofs.Views.{items-trees_of}
 use Rattle.dap_types.specs.Model.{Tree, many, sequence, trees_of, kids}
 use Rattle.dap_types.specs.declared.values.Value.{Value}
-use Rattle.xdr_encode.specs.Masks.{masked, kept_table, all_rows, MaskKeeps}
+use Rattle.xdr_encode.specs.Masks.{masked, MaskKeeps}
 
 kept : (p : Tree → Bool) (rows : List (List Value)) → filter p (map row_tree rows) ≡ filter (λ row. true) (map row_tree (masked (map (λ row. p (row_tree row)) rows) rows))
 kept p [] = refl

@@ -1,26 +1,25 @@
 -- The values of a cut variable stand at the picked places.
-use Rattle.std.proofs.Common.{◌≡◌, ℕ, zero, suc, ◌+◌, ◌*◌, List, [], ◌∷◌, length, map, take, drop, Some, refl, sym, ap, ◌∙◌, arith}
+use Rattle.std.proofs.Common.{◌≡◌, ℕ, false, zero, suc, ◌+◌, ◌*◌, List, [], ◌∷◌, length, map, take, drop, Some, refl, sym, ap, ◌∙◌, arith}
 use Rattle.std.specs.List.{range_with_len}
 use Rattle.std.proofs.lemmas.List.{length-map}
-use Rattle.dap_types.specs.declared.slabs.Slab.{Slab}
 use Rattle.dap_types.specs.declared.values.Value.{Value}
 use Rattle.dap_model.specs.Cutting.{array_tree, cut}
 use Rattle.dap_model.specs.Fits.{values_in}
 use Rattle.hyperslab_plan.proofs.CutLemmas.{cut_values-picked, length-within}
-use Rattle.hyperslab_plan.specs.Nested.{AreWithin, placed, cut_values}
+use Rattle.hyperslab_plan.specs.Nested.{placed, cut_values}
 use Rattle.hyperslab_plan.specs.Plans.{place_of, places, size_in, total_of}
-use Rattle.hyperslab_plan.specs.declared.plan.Plan.{Plan}
 use Rattle.netcdf_source.proofs.Fitting.{values_are_placed}
-use Rattle.netcdf_source.proofs.Shaped.{has_steps}
+use Rattle.netcdf_source.proofs.Offered.{offered}
+use Rattle.netcdf_source.proofs.Shaped.{has_steps, leaf_offered}
 use Rattle.netcdf_source.specs.Layouts.{slice, distance, element_sizes, steps_of, layout_of}
-use Rattle.netcdf_source.specs.Mapping.{base_of, element_dimensions, element_size, size_at}
+use Rattle.netcdf_source.specs.Mapping.{base_of, is_long, element_dimensions, element_size, size_at}
 use Rattle.netcdf_source.specs.Values.{value_of, by_index}
 use Rattle.netcdf_source.specs.declared.external_type.ExternalType.{ExternalType}
-use Rattle.netcdf_source.specs.declared.external_type.ExternalType.TheVariants.{Byte, Char, Short, Int, Float, Double}
+use Rattle.netcdf_source.specs.declared.external_type.ExternalType.TheVariants.{Byte, Char, Short, Int, Float, Double, UByte, UShort, UInt, Int64, UInt64}
 use Rattle.netcdf_source.specs.declared.header.Contents.{Contents}
 use Rattle.netcdf_source.specs.declared.header.Variable.{Variable}
-use Rattle.xdr_encode.specs.Elements.{element_value, value_in, values_from}
-use Rattle.xdr_encode.specs.Placed.{value_at, CutsArePlaced, IsPlanOf, PlansCut}
+use Rattle.xdr_encode.specs.Elements.{element_value, value_in}
+use Rattle.xdr_encode.specs.Placed.{value_at, CutsArePlaced, PlansCut}
 
 same-maps : {X Y : Type 0} (f g : X → Y) → ((x : X) → f x ≡ g x) → (xs : List X) → map f xs ≡ map g xs
 same-maps f g same [] = refl
@@ -55,14 +54,19 @@ cuts_are_placed c file leaf v slabs h is within =
     long : (c : Contents) (v : Variable) → length (element_sizes c v) ≡ length (element_dimensions c v)
     long c v = length-map (element_dimensions c v) (size_at c)
 
--- an element's value is that of its base type
-base-value : (t : ExternalType) (bytes : List ℕ) → value_of t bytes ≡ element_value (base_of t) bytes
-base-value Byte bytes = refl
-base-value Char bytes = refl
-base-value Short bytes = refl
-base-value Int bytes = refl
-base-value Float bytes = refl
-base-value Double bytes = refl
+-- an element's value is that of its base type, where DAP 2.0 has its type
+base-value : (t : ExternalType) (bytes : List ℕ) → is_long t ≡ false → value_of t bytes ≡ element_value (base_of t) bytes
+base-value Byte bytes told = refl
+base-value Char bytes told = refl
+base-value Short bytes told = refl
+base-value Int bytes told = refl
+base-value Float bytes told = refl
+base-value Double bytes told = refl
+base-value UByte bytes told = refl
+base-value UShort bytes told = refl
+base-value UInt bytes told = refl
+base-value Int64 bytes told = absurd cc
+base-value UInt64 bytes told = absurd cc
 
 same-made : {X Y : Type 0} (f : ℕ → Y) (g : X → Y) (h : ℕ → X) → ((k : ℕ) → f k ≡ g (h k)) → (ks : List ℕ) → map f ks ≡ map g (map h ks)
 same-made f g h same [] = refl
@@ -78,4 +82,4 @@ plans_cut c file leaf v slabs plan h is within of_plan =
     here p =
         ap (λ b. element_value b (take (size_in plan) (drop (place_of plan p) file))) of_plan.base
         ∙ ap (λ n. element_value (base_of v.external_type) (take n (drop (place_of plan p) file))) of_plan.size
-        ∙ sym (base-value v.external_type (take (element_size c v) (drop (place_of plan p) file)))
+        ∙ sym (base-value v.external_type (take (element_size c v) (drop (place_of plan p) file)) (offered c v (leaf_offered c leaf v is)).short)

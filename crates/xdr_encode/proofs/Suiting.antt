@@ -3,17 +3,16 @@ use Rattle.std.proofs.Common.{◌≡◌, ℕ, zero, suc, ◌+◌, ◌-◌, ◌<�
 use Rattle.std.proofs.lemmas.Bool.{eqb-true, eqb-false}
 use Rattle.std.specs.List.{list_all, cons_option, AllZip}
 use Rattle.std.specs.Prelude.{is_some, option_and_then, slice_get}
-use Rattle.dap_types.specs.Model.{Member, scalar, array, grid, members_of, count, sizes}
+use Rattle.dap_types.specs.Model.{scalar, array, grid, members_of, count, sizes}
 use Rattle.dap_types.specs.Names.{file_id}
-use Rattle.dap_types.specs.declared.declarations.ArrayDecl.{ArrayDecl}
 use Rattle.dap_types.specs.declared.slabs.Slab.{Slab}
 use Rattle.dap_model.proofs.Tests.{both_true}
 use Rattle.dap_model.specs.Cutting.{IsWithin}
 use Rattle.dap_model.specs.Filter.{Marks, Suits, SuitEach, SuitsMember, SuitsAll}
 use Rattle.hyperslab_plan.specs.Nested.{AreWithin}
-use Rattle.netcdf_source.proofs.GridMaps.{coordinate_found, grid_array, maps_are, own_alone, at_front}
+use Rattle.netcdf_source.proofs.GridMaps.{coordinate_found, grid_array, maps_are, at_front}
 use Rattle.netcdf_source.specs.Layouts.{element_sizes}
-use Rattle.netcdf_source.specs.Mapping.{element_dimensions, size_at, dim_of, is_empty, is_offered, is_grid, coordinate_at, coordinate_variable, column_of, array_of, maps_of, member_of, dataset_of, leaves_of, leaves_from, leaf_in, leaf_variable}
+use Rattle.netcdf_source.specs.Mapping.{element_dimensions, size_at, dim_of, is_empty, is_offered, is_grid, coordinate_at, column_of, array_of, maps_of, member_of, dataset_of, leaves_of, leaves_from, leaf_in, leaf_variable}
 use Rattle.netcdf_source.specs.Values.{map_variables}
 use Rattle.netcdf_source.specs.declared.header.Contents.{Contents}
 use Rattle.netcdf_source.specs.declared.header.Variable.{Variable}

@@ -1,7 +1,7 @@
 -- The XDR of what a constraint and a mask leave of a table, and that it is never too large but for its DDS.
-use Rattle.std.proofs.Common.{◌≡◌, ℕ, zero, suc, ◌+◌, ◌<◌, ◌≤◌, ◌^◌, All, Bool, true, false, ◌||◌, cond, List, [], ◌∷◌, ◌++◌, codes, length, get_or, map, filter, Option, Some, None, refl, sym, ap, ◌∙◌, subst, arith, append-nil, length-append, nat_lt}
+use Rattle.std.proofs.Common.{◌≡◌, ℕ, zero, suc, ◌+◌, ◌<◌, ◌≤◌, ◌^◌, All, Bool, true, false, ◌||◌, cond, List, [], ◌∷◌, ◌++◌, codes, length, map, filter, Option, Some, None, refl, sym, ap, ◌∙◌, subst, arith, append-nil, length-append, nat_lt}
 use Rattle.std.proofs.lemmas.Bool.{ltb-true}
-use Rattle.std.specs.List.{flat_map, list_any, range_with_len, position_from}
+use Rattle.std.specs.List.{flat_map, list_any, range_with_len}
 use Rattle.std.specs.Option.{option_map_or}
 use Rattle.std.specs.Prelude.{is_some}
 use Rattle.csv_source.specs.Dataset.{row_tree, table_dataset, table_trees}
@@ -9,8 +9,8 @@ use Rattle.csv_source.specs.Names.{sequence_name}
 use Rattle.csv_source.specs.Table.{CsvTable}
 use Rattle.dap_model.specs.Body.{body, too_large}
 use Rattle.dap_model.specs.Dds.{dds}
-use Rattle.dap_model.specs.Filter.{Marks, marked, unchanged, has_mark, one_marked, constrained, constrained_trees, filtered_all}
-use Rattle.dap_model.specs.Xdr.{Field, bytes_of, cell_fields, fields_all, mark, row_fields, xdr}
+use Rattle.dap_model.specs.Filter.{Marks, marked, unchanged, one_marked, constrained, constrained_trees}
+use Rattle.dap_model.specs.Xdr.{bytes_of, cell_fields, fields_all, mark, row_fields}
 use Rattle.dap_types.proofs.Views.{items-trees_of}
 use Rattle.dap_types.specs.Model.{Dataset, Tree, one, many, trees_of, kids, sequence, member, no_members, scalar}
 use Rattle.dap_types.specs.WellFormed.{IsWellFormed, leaf_places, places_of}

@@ -1,6 +1,5 @@
 -- The texts of a batch are put one after the other.
-use Rattle.std.proofs.Common.{◌≡◌, ℕ, ◌+◌, ◌-◌, ◌<◌, ◌≤◌, Bool, true, false, List, [], ◌∷◌, ◌++◌, Option, length, take, drop, refl, sym, ap, ◌∙◌, subst, arith, append-nil, Result, Ok, Err, OnOk, OnErr}
-use Rattle.std.proofs.KnownBytes.{Appends-trans}
+use Rattle.std.proofs.Common.{◌≡◌, ℕ, ◌+◌, ◌-◌, ◌<◌, ◌≤◌, false, List, [], ◌++◌, Option, take, drop, refl, sym, ap, ◌∙◌, subst, arith, Result, Ok, Err, OnOk, OnErr}
 use Rattle.std.specs.Io.KnownBytes.{Appends}
 use Rattle.dap_types.specs.declared.declarations.BaseType.{BaseType}
 use Rattle.dap_types.specs.declared.declarations.BaseType.TheVariants.{Byte, Int16, UInt16, Int32, UInt32, Float32, Float64, Text, Url}
@@ -10,12 +9,11 @@ use Rattle.dap_outside.specs.Buffered.{Passes}
 use Rattle.dap_outside.specs.Streams.{AppendsFront}
 use Rattle.hyperslab_plan.specs.Numbers.{is_number}
 use Rattle.hyperslab_plan.specs.Plans.{place_of}
-use Rattle.hyperslab_plan.specs.declared.batch.Batch.{Batch}
 use Rattle.hyperslab_plan.specs.declared.plan.Plan.{Plan}
 use Rattle.netcdf_source.specs.Values.{without_zeros}
 use Rattle.slab_fill.specs.Elements.{element_fields}
 use Rattle.xdr_encode.proofs.Forms.{forms-append, forms-none}
-use Rattle.xdr_encode.specs.Elements.{element_value, value_in, forms_from}
+use Rattle.xdr_encode.specs.Elements.{element_value, forms_from}
 
 text-fields : (base : BaseType) (bytes : List ℕ) → is_number base ≡ false → element_fields base (element_value base bytes) ++ [] ≡ string_fields (without_zeros bytes)
 text-fields Text bytes text = refl

@@ -2,7 +2,8 @@
 use Rattle.std.specs.Prelude.{◌≡◌, ℕ, ◌+◌, List, [], ◌∷◌, ◌++◌, length, map, nat_lt, if◌then◌else◌, Option, Some, option_and_then, slice_get}
 use Rattle.std.specs.List.{position_from}
 use Rattle.std.specs.Option.{option_map_or}
-use Rattle.dap_types.specs.Model.{Member, scalar, array, structure, grid, sequence, Members, no_members, member, Dataset, sizes, product}
+use Rattle.dap_types.specs.Limits.{most_elements, most_text}
+use Rattle.dap_types.specs.Model.{Member, scalar, array, structure, grid, sequence, Members, no_members, member, sizes, product}
 use Rattle.dap_model.specs.Body.{too_large}
 use Rattle.dap_model.specs.Dds.{dds}
 use Rattle.dap_model.specs.Filter.{Marks, constrained, counted}
@@ -25,7 +26,7 @@ abbrev mutual
 
 -- the place of the first count that is too large, where the first one has that place
 abbrev pub first_large : ℕ → List ℕ → Option ℕ
-first_large n counts = position_from (λ count. nat_lt 2147483647 count) n counts
+first_large n counts = position_from (λ count. nat_lt most_elements count) n counts
 
 -- of the variable of leaf n, where it is marked
 abbrev pub variable_counts : Contents → Marks → ℕ → Variable → List ℕ
@@ -43,4 +44,4 @@ slots_counts c marks n (slot ∷ slots) = slot_counts c marks n slot ++ slots_co
 abbrev pub CdfTooLarge : Type 0
 CdfTooLarge = (c : Contents) (file_name : List ℕ) (marks : Marks) →
     too_large (constrained marks (dataset_of c file_name))
-    ≡ (if nat_lt 16777216 (length (dds (constrained marks (dataset_of c file_name)))) then Some 0 else first_large 1 (slots_counts c marks 1 (leaves_from c 0 c.variables)))
+    ≡ (if nat_lt most_text (length (dds (constrained marks (dataset_of c file_name)))) then Some 0 else first_large 1 (slots_counts c marks 1 (leaves_from c 0 c.variables)))

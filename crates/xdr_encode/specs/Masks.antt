@@ -1,5 +1,5 @@
 -- The rows of a table that are sent: those where a mask is true (DAP 2.0, selections).
-use Rattle.std.specs.Prelude.{◌≡◌, ℕ, Bool, true, List, [], ◌∷◌, map, if◌then◌else◌}
+use Rattle.std.specs.Prelude.{◌≡◌, Bool, true, List, [], ◌∷◌, map, if◌then◌else◌}
 use Rattle.csv_source.specs.Dataset.{row_tree, table_dataset, table_trees}
 use Rattle.csv_source.specs.Table.{CsvTable}
 use Rattle.dap_model.specs.Filter.{Marks, Keeps, constrained_trees}

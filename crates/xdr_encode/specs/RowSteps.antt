@@ -1,5 +1,5 @@
 -- What is sent of one row, and of one cell; and what is still to come of a row, and of a table.
-use Rattle.std.specs.Prelude.{ℕ, List, [], drop, map, get_or, Bool, false, if◌then◌else◌}
+use Rattle.std.specs.Prelude.{ℕ, List, [], drop, map, get_or, false, if◌then◌else◌}
 use Rattle.std.specs.List.{flat_map}
 use Rattle.std.specs.Option.{option_map_or}
 use Rattle.csv_source.specs.Table.{value_at}

@@ -1,5 +1,5 @@
 -- What an answer says of a body that was to be put.
-use Rattle.std.specs.Prelude.{◌≡◌, ◌≢◌, ℕ, ⊤, ◌+◌, ◌≤◌, List, Option, Result, Ok, Err, length, take}
+use Rattle.std.specs.Prelude.{◌≢◌, ℕ, ⊤, ◌+◌, ◌≤◌, List, Option, Result, Ok, Err, length, take}
 use Rattle.std.specs.Io.KnownBytes.{Appends}
 use Rattle.dap_outside.specs.Causes.{Rose}
 use Rattle.dap_outside.specs.Streams.{AppendsFront}

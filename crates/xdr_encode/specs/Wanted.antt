@@ -1,6 +1,6 @@
 -- What is asked of the marked leaves of a netCDF file.
-use Rattle.std.specs.Prelude.{◌≡◌, ℕ, ◌+◌, ◌≤◌, ◌<◌, ◌^◌, ◌⊎◌, List, [], ◌∷◌, ◌++◌, drop, length, All, nat_lt, Bool, if◌then◌else◌, Option, Some, None, option_and_then, slice_get}
-use Rattle.std.specs.Option.{option_map_or}
+use Rattle.std.specs.Prelude.{◌≡◌, ℕ, ◌+◌, ◌≤◌, ◌<◌, ◌^◌, ◌⊎◌, List, [], ◌++◌, drop, length, All, Option, Some, None}
+use Rattle.dap_types.specs.Limits.{most_elements}
 use Rattle.dap_types.specs.declared.declarations.BaseType.{BaseType}
 use Rattle.dap_types.specs.declared.slabs.Layout.{Layout}
 use Rattle.dap_types.specs.declared.slabs.Slab.{Slab}
@@ -10,7 +10,7 @@ use Rattle.hyperslab_plan.specs.Nested.{AreWithin}
 use Rattle.hyperslab_plan.specs.Picked.{count_of, cost_of}
 use Rattle.netcdf_source.specs.Laws.{HasHeader}
 use Rattle.netcdf_source.specs.Layouts.{element_sizes, layout_of, IsPlaced, IsShaped}
-use Rattle.netcdf_source.specs.Mapping.{base_of, element_dimensions, element_size, is_empty, leaf_variable, leaves_from}
+use Rattle.netcdf_source.specs.Mapping.{base_of, element_size, leaf_variable, leaves_from}
 use Rattle.netcdf_source.specs.declared.header.Contents.{Contents}
 use Rattle.netcdf_source.specs.declared.header.Variable.{Variable}
 use Rattle.xdr_encode.specs.CdfSent.{slots_sent}
@@ -53,7 +53,7 @@ pub record IsMarkedLeaf (c : Contents) (file_len : ℕ) (marks : Marks) (n : ℕ
   pub of_variable : IsLeafOf c variable (own_slabs c variable marked_by) leaf
   pub placed : IsPlaced c file_len variable (layout_of c variable)
   pub cost : leaf_cost leaf ≤ cost_of (own_slabs c variable marked_by) (element_size c variable)
-  pub few : count_of (own_slabs c variable marked_by) ≤ 2147483647
+  pub few : count_of (own_slabs c variable marked_by) ≤ most_elements
 
 -- what is sent of member n, if anything is
 abbrev pub IsFound : Contents → ℕ → Marks → ℕ → Option Leaf → Type 0
@@ -67,7 +67,7 @@ pub record IsLarge (c : Contents) (marks : Marks) (n : ℕ) : Type 0 where
   pub marked_by : List Slab
   pub marked : marks n ≡ Some marked_by
   pub within : AreWithin (own_slabs c variable marked_by) (element_sizes c variable)
-  pub many : 2147483647 < count_of (own_slabs c variable marked_by)
+  pub many : most_elements < count_of (own_slabs c variable marked_by)
 
 -- the leaves of the first k members
 pub record Gathered (c : Contents) (file_len : ℕ) (marks : Marks) (leaves : List Leaf) (k : ℕ) : Type 0 where

@@ -1,5 +1,6 @@
 -- Where the parser stands in a text, for the contracts of its parts.
 use Rattle.std.specs.Prelude.{◌≡◌, ◌≢◌, ℕ, not, List, [], ◌<◌, ◌≤◌, length, IsTrue, Some, slice_index, ⊤}
+use Rattle.viable.specs.Characters.{byte}
 use Rattle.viable.specs.inner.Standing.{Stands}
 use Rattle.viable.specs.Prefix.{is_byte, IsFault}
 use Rattle.constraint_parse.specs.Language.{is_blank, Token, ConstraintTree, IsSpaced, IsTextOf, SlabTree, StepTree, ItemTree, path, call}
@@ -54,7 +55,7 @@ ReadsCall _ = ⊥
 -- Behind an item: only its end may stand there.
 abbrev pub StandsAfter : List ℕ → ℕ → List ItemTree → ItemTree → Type 0
 StandsAfter text at items (path front last) =
-    StandsAt text at (Stepped items front last.label last.slabs) × Lacks text at 91 × Lacks text at 46 × (MayCall front last.slabs → Lacks text at 40)
+    StandsAt text at (Stepped items front last.label last.slabs) × Lacks text at (byte "[") × Lacks text at (byte ".") × (MayCall front last.slabs → Lacks text at (byte "("))
 StandsAfter text at items (call n a) = StandsAt text at (Called items n a)
 
 -- a value is one of what may come next

@@ -1,6 +1,7 @@
 -- The rows that a table holds: the bytes of all fields in one text, and the place where each ends.
 use Rattle.std.specs.Prelude.{◌≡◌, ◌≤◌, ℕ, ◌+◌, ◌-◌, zero, suc, true, List, [], ◌∷◌, None, length, map, take, drop}
 use Rattle.std.specs.List.{list_all}
+use Rattle.dap_types.specs.Limits.{most_columns, most_table}
 use Rattle.dap_types.specs.declared.declarations.Column.{Column}
 use Rattle.dap_types.specs.declared.values.Value.{Value}
 use Rattle.csv_source.specs.Causes.{is_row, row_values}
@@ -45,8 +46,8 @@ total_all (fields ∷ records) = total fields + total_all records
 
 -- the names of the columns differ, and the text and the places are those of so many rows of them
 pub record IsHeld (columns : List Column) (rows : ℕ) (ends text : List ℕ) : Type 0 where
-  pub few : length columns ≤ 1024
+  pub few : length columns ≤ most_columns
   pub once : repeated columns ≡ None
   pub are_rows : list_all (is_row columns) (rows_of (length columns) rows (fields_in ends text)) ≡ true
   pub are_ends : AreEnds 0 ends (length text)
-  pub short : length text ≤ 67108864
+  pub short : length text ≤ most_table

@@ -1,5 +1,6 @@
 -- The grammar of Error objects as a machine over tokens.
 use Rattle.std.specs.Prelude.{ℕ, ℤ, pos, Bool, true, false, ◌&&◌, ◌||◌, not, List, [], ◌∷◌, ◌++◌, Option, Some, None, ◌==◌}
+use Rattle.viable.specs.Characters.{byte}
 use Rattle.viable.specs.Quoted.{quoted_value}
 use Rattle.text_tokens.specs.Tokens.{Token, sign, word, quoted}
 use Rattle.dap_errors.specs.Object.{Value, bare, text, Field, is_error_word, is_code, is_message, is_code_word, code_value, values}
@@ -63,17 +64,17 @@ next_when false s = None
 abbrev pub step : State → Token → Option State
 step Start (word w) = next_when (is_error_word w) Named
 step Start _ = None
-step Named (sign b) = next_when (b == 123) (Fields [])
+step Named (sign b) = next_when (b == byte "{") (Fields [])
 step Named _ = None
 step (Fields done) (word label) = next_when (may_label done label) (Labelled done label)
-step (Fields done) (sign b) = next_when (b == 125 && has_both done) (Ended (said_by done))
+step (Fields done) (sign b) = next_when (b == byte "}" && has_both done) (Ended (said_by done))
 step (Fields done) (quoted p) = None
-step (Labelled done label) (sign b) = next_when (b == 61) (Assigned done label)
+step (Labelled done label) (sign b) = next_when (b == byte "=") (Assigned done label)
 step (Labelled done label) _ = None
 step (Assigned done label) (word w) = next_when (may_hold label (bare w)) (Valued done label (bare w))
 step (Assigned done label) (quoted p) = next_when (may_hold label (text p)) (Valued done label (text p))
 step (Assigned done label) (sign b) = None
-step (Valued done label value) (sign b) = next_when (b == 59) (Fields (done ++ field_of label value ∷ []))
+step (Valued done label value) (sign b) = next_when (b == byte ";") (Fields (done ++ field_of label value ∷ []))
 step (Valued done label value) _ = None
 step (Ended error) _ = None
 

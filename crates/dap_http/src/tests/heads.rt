@@ -22,7 +22,7 @@ fn first(alloc: Global, input: &[u8], piece: u32) -> Result<Option<Read>, Memory
         HeadRead::Gone => Some(Read::Gone),
         HeadRead::BadRequest => Some(Read::Bad),
         HeadRead::HeadTooLong => Some(Read::TooLong),
-        HeadRead::ReadFault | HeadRead::Memory => None,
+        HeadRead::ReadFault | HeadRead::Memory { .. } => None,
     })
 }
 

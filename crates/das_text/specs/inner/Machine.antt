@@ -3,6 +3,7 @@ use Rattle.std.specs.Prelude.{ℕ, Bool, ◌&&◌, ◌||◌, List, [], ◌∷◌
 use Rattle.std.specs.Option.{is_some}
 use Rattle.std.specs.Str.{bytes_eq}
 use Rattle.dap_types.specs.declared.declarations.BaseType.{BaseType}
+use Rattle.viable.specs.Characters.{byte}
 use Rattle.viable.specs.Quoted.{quoted_value}
 use Rattle.text_tokens.specs.Tokens.{Token, sign, word, quoted}
 use Rattle.das_text.specs.Grammar.{base_of_word, most_depth}
@@ -59,19 +60,19 @@ abbrev pub step : State → Token → Option State
 step (begun outer inner) (word w) = next_when (bytes_eq w (codes "Attributes")) (headed outer inner)
 step (begun outer inner) (sign b) = None
 step (begun outer inner) (quoted p) = None
-step (headed outer inner) (sign b) = next_when (b == 123) (inside outer inner)
+step (headed outer inner) (sign b) = next_when (b == byte "{") (inside outer inner)
 step (headed outer inner) (word w) = None
 step (headed outer inner) (quoted p) = None
 step (inside outer inner) (word w) = next_when (may_begin outer w) (worded outer inner w)
-step (inside outer inner) (sign b) = next_when (b == 125) (leave outer inner)
+step (inside outer inner) (sign b) = next_when (b == byte "}") (leave outer inner)
 step (inside outer inner) (quoted p) = None
-step (worded outer inner w) (sign b) = next_when (b == 123 && nat_lt (length outer) most_depth) (enter outer inner w)
+step (worded outer inner w) (sign b) = next_when (b == byte "{" && nat_lt (length outer) most_depth) (enter outer inner w)
 step (worded outer inner w) (word v) = begin_attribute outer inner w v
 step (worded outer inner w) (quoted p) = None
-step (named outer inner a) (sign b) = next_when (b == 59) (add outer inner a)
+step (named outer inner a) (sign b) = next_when (b == byte ";") (add outer inner a)
 step (named outer inner a) (word w) = Some (valued outer inner (with_value a (Plain w)))
 step (named outer inner a) (quoted p) = Some (valued outer inner (with_value a (Quoted (quoted_value p))))
-step (valued outer inner a) (sign b) = if b == 59 then Some (add outer inner a) else next_when (b == 44) (parted outer inner a)
+step (valued outer inner a) (sign b) = if b == byte ";" then Some (add outer inner a) else next_when (b == byte ",") (parted outer inner a)
 step (valued outer inner a) (word w) = None
 step (valued outer inner a) (quoted p) = None
 step (parted outer inner a) (sign b) = None

@@ -4,7 +4,9 @@ use Rattle.std.specs.Prelude.{◌≡◌, ℕ, Bool, true, false, ◌&&◌, ◌+�
 use Rattle.std.specs.Option.{option_or, option_map_or}
 use Rattle.std.specs.Str.{str_eq_ignore_ascii_case}
 use Rattle.std.specs.Str.Parse.{digits_value}
+use Rattle.viable.specs.Characters.{byte}
 use Rattle.viable.specs.Numerals.{is_numeral}
+use Rattle.dap_types.specs.Limits.{most_elements}
 use Rattle.dap_types.specs.Model.{members_of}
 use Rattle.dap_types.specs.declared.declarations.ArrayDecl.{ArrayDecl}
 use Rattle.dap_types.specs.declared.declarations.BaseType.{BaseType}
@@ -41,7 +43,7 @@ kind_of_word w = find (λ kind. str_eq_ignore_ascii_case (kind_word kind) w) (st
 
 -- 1 to 10 digits, with a value that is an Int32
 abbrev pub is_size_word : List ℕ → Bool
-is_size_word w = is_numeral 10 w && nat_le (digits_value 10 w) 2147483647
+is_size_word w = is_numeral 10 w && nat_le (digits_value 10 w) most_elements
 
 abbrev pub size_of_word : List ℕ → Option ℕ
 size_of_word w = if is_size_word w then Some (digits_value 10 w) else None
@@ -73,48 +75,48 @@ abbrev pub declare_step : Levels → Role → Stage → Token → Option Moved
 declare_step levels role (typed base) (token.word w) = Some (moved (declaring levels role (named (declared base w))) (repeats levels role w))
 declare_step levels role (typed base) (token.sign b) = None
 declare_step levels role (named a) (token.sign b) =
-    if 59 == b then option_map keeps (behind_declaration levels role a)
-    else if 91 == b then open_dim levels role a
+    if byte ";" == b then option_map keeps (behind_declaration levels role a)
+    else if byte "[" == b then open_dim levels role a
     else None
 declare_step levels role (named a) (token.word w) = None
 declare_step levels role (bracketed a) (token.word w) = Some (keeps (declaring levels role (worded a w)))
 declare_step levels role (bracketed a) (token.sign b) = None
 declare_step levels role (worded a w) (token.sign b) =
-    if 93 == b then option_map (end_size levels role a) (size_of_word w)
-    else if 61 == b then Some (keeps (declaring levels role (equated a w)))
+    if byte "]" == b then option_map (end_size levels role a) (size_of_word w)
+    else if byte "=" == b then Some (keeps (declaring levels role (equated a w)))
     else None
 declare_step levels role (worded a w) (token.word v) = None
 declare_step levels role (equated a dim) (token.word w) = option_map (take_size levels role a dim) (size_of_word w)
 declare_step levels role (equated a dim) (token.sign b) = None
-declare_step levels role (measured a dim) t = wants (sign 93) (declaring levels role (named (with_dim a dim))) t
+declare_step levels role (measured a dim) t = wants (sign (byte "]")) (declaring levels role (named (with_dim a dim))) t
 
 abbrev pub grid_step : Levels → GridStage → Token → Option Moved
 grid_step levels entered t = wants (keyword (codes "Array")) (in_grid levels arrayed) t
-grid_step levels arrayed t = wants (sign 58) (in_grid levels ready) t
+grid_step levels arrayed t = wants (sign (byte ":")) (in_grid levels ready) t
 grid_step levels ready (token.word w) = option_map (begin levels grid_array) (base_of_word w)
 grid_step levels ready (token.sign b) = None
 grid_step levels (filled a) t = wants (keyword (codes "Maps")) (in_grid levels (mapping a)) t
-grid_step levels (mapping a) t = wants (sign 58) (in_maps levels a []) t
+grid_step levels (mapping a) t = wants (sign (byte ":")) (in_maps levels a []) t
 
 -- the state after one more token, and whether the token breaks a rule
 abbrev pub step : State → Token → Option Moved
 step begun t = wants (keyword (codes "Dataset")) headed t
-step headed t = wants (sign 123) (inside (top [])) t
+step headed t = wants (sign (byte "{")) (inside (top [])) t
 step (inside levels) (token.word w) = option_or (option_map (begin levels variable) (base_of_word w)) (option_map (open_whole levels) (kind_of_word w))
-step (inside levels) (token.sign b) = wants (sign 125) (behind_level levels) (token.sign b)
+step (inside levels) (token.sign b) = wants (sign (byte "}")) (behind_level levels) (token.sign b)
 step (declaring levels role stage) t = declare_step levels role stage t
-step (opening levels kind) t = wants (sign 123) (behind_brace levels kind) t
+step (opening levels kind) t = wants (sign (byte "{")) (behind_brace levels kind) t
 step (in_sequence levels cs) (token.word w) = option_map (begin levels (column cs)) (base_of_word w)
-step (in_sequence levels cs) (token.sign b) = wants (sign 125) (closed levels (whole_sequence cs)) (token.sign b)
+step (in_sequence levels cs) (token.sign b) = wants (sign (byte "}")) (closed levels (whole_sequence cs)) (token.sign b)
 step (in_grid levels stage) t = grid_step levels stage t
 step (in_maps levels a maps) (token.word w) = option_map (begin levels (grid_map a maps)) (base_of_word w)
-step (in_maps levels a maps) (token.sign b) = if 125 == b then Some (moved (closed levels (whole_grid a maps)) (nat_lt (length maps) (length a.dims))) else None
+step (in_maps levels a maps) (token.sign b) = if byte "}" == b then Some (moved (closed levels (whole_grid a maps)) (nat_lt (length maps) (length a.dims))) else None
 step (closed levels whole) (token.word w) = Some (moved (called levels (with_name whole w)) (is_name_of (members_in levels) w))
 step (closed levels whole) (token.sign b) = None
-step (called levels m) t = wants (sign 59) (inside (add levels m)) t
+step (called levels m) t = wants (sign (byte ";")) (inside (add levels m)) t
 step (dataset_closed ms) (token.word w) = Some (keeps (dataset_called (record { name = w; members = members_of ms })))
 step (dataset_closed ms) (token.sign b) = None
-step (dataset_called d) t = wants (sign 59) (ended d) t
+step (dataset_called d) t = wants (sign (byte ";")) (ended d) t
 step (ended d) t = None
 
 -- no text of the grammar goes on with the token, or the token breaks a rule

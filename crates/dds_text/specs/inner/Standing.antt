@@ -14,6 +14,7 @@ use Rattle.dds_text.specs.declared.parser.Taken.TheVariants.{Next, Bad, Done}
 use Rattle.dds_text.specs.declared.front.Front.{Front}
 use Rattle.dds_text.specs.declared.front.Found.{Found}
 use Rattle.dds_text.specs.declared.front.Found.TheVariants as found
+use Rattle.viable.specs.Characters.{byte}
 
 -- the state behind tokens of which none breaks a rule
 abbrev pub run : State → List Token → Option State
@@ -41,7 +42,7 @@ LeadsTo p next = (s : State) × (next ≡ Some s) × Holds p s
 abbrev pub IsTaken : Parser → ℕ → Option State → Taken → Type 0
 IsTaken p b next Next = LeadsTo p next
 IsTaken p b next Bad = next ≡ None
-IsTaken p b next (Done d) = (next ≡ Some (ended (dataset_view d))) × (b ≡ 59)
+IsTaken p b next (Done d) = (next ≡ Some (ended (dataset_view d))) × (b ≡ byte ";")
 
 -- the tokens of the bytes lead to the state that the parser holds, and this word is not whole
 abbrev pub Reads : Parser → List ℕ → List ℕ → Type 0

@@ -2,6 +2,7 @@
 use Rattle.std.specs.Prelude.{ℕ, ◌+◌, Bool, true, false, ◌||◌, List, [], ◌∷◌, ◌++◌, length, nat_lt, Option, Some, None, if◌then◌else◌, slice_get}
 use Rattle.std.specs.List.{list_any}
 use Rattle.std.specs.Str.{bytes_eq}
+use Rattle.dap_types.specs.Limits.{most_depth, most_dimensions, most_members}
 use Rattle.dap_types.specs.Model.{Member, scalar, array, structure, grid, sequence, members_of, Dataset, name_of, count_all, sizes}
 use Rattle.dap_types.specs.declared.declarations.ArrayDecl.{ArrayDecl}
 use Rattle.dap_types.specs.declared.declarations.BaseType.{BaseType}
@@ -117,7 +118,7 @@ repeats levels (grid_map a maps) n = is_name_of_map a maps n
 
 -- too deep, or one member too many
 abbrev pub is_past : ℕ → ℕ → Bool
-is_past depth n = nat_lt 16 depth || nat_lt 1000000 n
+is_past depth n = nat_lt most_depth depth || nat_lt most_members n
 
 -- the size that a dimension has to have: that of the array's dimension of the map's number
 abbrev pub wanted_size : Role → Option ℕ
@@ -142,7 +143,7 @@ may_have_dims role = true
 
 abbrev pub most_dims : Role → ℕ
 most_dims (grid_map a maps) = 1
-most_dims role = 32
+most_dims role = most_dimensions
 
 -- an array with one more dimension
 abbrev pub with_dim : ArrayDecl → Dim → ArrayDecl

@@ -16,7 +16,6 @@ InTurn P before (x ∷ xs) = P before x × InTurn P (before ++ x ∷ []) xs
 
 pub record IsDimension (before : List Dimension) (d : Dimension) : Type 0 where
   pub is_new : list_any (bytes_eq d.name) (map (λ b. b.name) before) ≡ false
-  pub size : d.length ≤ 2147483647
   pub one_record : list_any is_record_dimension before ≡ true → d.length ≢ 0
 
 -- the record dimension stands first alone
@@ -44,7 +43,6 @@ abbrev pub most_members : Variable → ℕ
 most_members v = length v.dimensions + 2
 
 pub record IsSound (c : Contents) : Type 0 where
-  pub records : c.records ≤ 2147483647
   pub dimensions : InTurn IsDimension [] c.dimensions
   pub count : length c.variables < 2 ^ 32
   pub variables : InTurn (IsVariable c.dimensions) [] c.variables

@@ -27,8 +27,16 @@ pub fn push_word(bytes: &mut Vec<u8>, word: u32) -> Result<(), Fail> {
     Ok(())
 }
 
-fn push_name(bytes: &mut Vec<u8>, name: &[u8]) -> Result<(), Fail> {
-    push_word(bytes, (name.len() % 1000) as u32)?;
+/// A number of the version's width.
+fn push_number(bytes: &mut Vec<u8>, version: u8, number: u32) -> Result<(), Fail> {
+    if version == 5 {
+        push_word(bytes, 0)?;
+    }
+    push_word(bytes, number)
+}
+
+fn push_name(bytes: &mut Vec<u8>, version: u8, name: &[u8]) -> Result<(), Fail> {
+    push_number(bytes, version, (name.len() % 1000) as u32)?;
     bytes.extend_from_slice(name)?;
     for _ in 0..(4 - name.len() % 4) % 4 {
         bytes.push(0xff)?;
@@ -36,7 +44,24 @@ fn push_name(bytes: &mut Vec<u8>, name: &[u8]) -> Result<(), Fail> {
     Ok(())
 }
 
-/// A file of version 1 or 2 without attributes of its own, and behind its header so many zero bytes.
+fn push_variable(bytes: &mut Vec<u8>, version: u8, v: &Variable) -> Result<(), Fail> {
+    push_name(bytes, version, v.name)?;
+    push_number(bytes, version, (v.dimensions.len() % 1000) as u32)?;
+    for id in v.dimensions {
+        push_number(bytes, version, *id)?;
+    }
+    for word in v.attributes {
+        push_word(bytes, *word)?;
+    }
+    push_word(bytes, v.number)?;
+    push_number(bytes, version, 7)?;
+    if version == 2 {
+        push_word(bytes, 1)?;
+    }
+    push_number(bytes, version, v.begin)
+}
+
+/// A file of that version without attributes of its own, and behind its header so many zero bytes.
 pub fn file(
     alloc: Global,
     version: u8,
@@ -46,32 +71,19 @@ pub fn file(
     data: usize,
 ) -> Result<Vec<u8>, Fail> {
     let mut bytes = Vec::from_slice(alloc, &[0x43, 0x44, 0x46, version])?;
-    push_word(&mut bytes, records)?;
+    push_number(&mut bytes, version, records)?;
     push_word(&mut bytes, 10)?;
-    push_word(&mut bytes, (dimensions.len() % 1000) as u32)?;
+    push_number(&mut bytes, version, (dimensions.len() % 1000) as u32)?;
     for (name, length) in dimensions {
-        push_name(&mut bytes, name)?;
-        push_word(&mut bytes, *length)?;
+        push_name(&mut bytes, version, name)?;
+        push_number(&mut bytes, version, *length)?;
     }
     push_word(&mut bytes, 12)?;
-    push_word(&mut bytes, 0)?;
+    push_number(&mut bytes, version, 0)?;
     push_word(&mut bytes, 11)?;
-    push_word(&mut bytes, (variables.len() % 1000) as u32)?;
+    push_number(&mut bytes, version, (variables.len() % 1000) as u32)?;
     for v in variables {
-        push_name(&mut bytes, v.name)?;
-        push_word(&mut bytes, (v.dimensions.len() % 1000) as u32)?;
-        for id in v.dimensions {
-            push_word(&mut bytes, *id)?;
-        }
-        for word in v.attributes {
-            push_word(&mut bytes, *word)?;
-        }
-        push_word(&mut bytes, v.number)?;
-        push_word(&mut bytes, 7)?;
-        if version == 2 {
-            push_word(&mut bytes, 1)?;
-        }
-        push_word(&mut bytes, v.begin)?;
+        push_variable(&mut bytes, version, v)?;
     }
     for _ in 0..data {
         bytes.push(0)?;

@@ -15,7 +15,9 @@ fn type_word(base: BaseType) -> &'static [u8] {
     match base {
         BaseType::Byte => b"Byte ",
         BaseType::Int16 => b"Int16 ",
+        BaseType::UInt16 => b"UInt16 ",
         BaseType::Int32 => b"Int32 ",
+        BaseType::UInt32 => b"UInt32 ",
         BaseType::Float32 => b"Float32 ",
         BaseType::Float64 => b"Float64 ",
         BaseType::Text => b"String ",

@@ -1,9 +1,10 @@
 use Rattle.std.proofs.Common.{◌≡◌, ◌∙◌, ap, sym, true, false, [], ◌∷◌, ◌++◌}
 use Rattle.std.proofs.lemmas.Result.{err_from_is_err_and}
 use Rattle.text_tokens.specs.Tokens.{word}
+use Rattle.dap_errors.specs.Object.{signs}
 use Rattle.dap_errors.specs.inner.Machine.{Fields, Labelled, Assigned, Valued, field_of, step, may_label}
 use Rattle.dap_errors.specs.inner.Standing.{label_kind}
-use Rattle.dap_errors.proofs.Names.{word_slice}
+use Rattle.text_tokens.proofs.Slices.{word_slice}
 use Rattle.dap_errors.proofs.Live.{assigned_step}
 use Rattle.dap_errors.proofs.Finding.{labelled_step, no_label, not_false, not_true}
 use Rattle.dap_errors.proofs.Moves.{moves, stops_bad, stops_end, labelled_wants, valued_wants}
@@ -12,14 +13,14 @@ use Rattle.dap_errors.proofs.fields.field.Goals as goal
 -- the kind of the name, and that it may stand there
 pub returns-then-is_taken-clause-takes : goal.returns-then-is_taken-clause-takes
 returns-then-is_taken-clause-takes c = λ at done w st n h.
-    let slice = word_slice c.args.text.now c.args.name.now.place c.args.name.now.behind w n.token_at in
+    let slice = word_slice signs c.args.text.now c.args.name.now.place c.args.name.now.behind w n.token_at in
     let label : label_kind w ≡ c.label_of-label.result = sym (c.label_of-label.ensures ∙ ap label_kind slice) in
     let taken : may_label done w ≡ false = not_true _ (sym (c.is_taken.ensures done w label h) ∙ c.if-is_taken.true) in
     stops_bad c.args.text.now at c.args.name.now.place c.args.name.now.behind (word w) (Fields done) st n tt (no_label done w taken)
 
 pub returns-in_err-at-clause-takes : goal.returns-in_err-at-clause-takes
 returns-in_err-at-clause-takes c = λ at done w st n h.
-    let slice = word_slice c.args.text.now c.args.name.now.place c.args.name.now.behind w n.token_at in
+    let slice = word_slice signs c.args.text.now c.args.name.now.place c.args.name.now.behind w n.token_at in
     let label : label_kind w ≡ c.label_of-label.result = sym (c.label_of-label.ensures ∙ ap label_kind slice) in
     let free : may_label done w ≡ true = not_false _ (sym (c.is_taken.ensures done w label h) ∙ c.if-is_taken.false) in
     let named = moves c.args.text.now at c.args.name.now.place c.args.name.now.behind (word w) (Fields done) (Labelled done w) st n (labelled_step done w free) in
@@ -28,7 +29,7 @@ returns-in_err-at-clause-takes c = λ at done w st n h.
 
 pub returns-in_err-value-clause-takes : goal.returns-in_err-value-clause-takes
 returns-in_err-value-clause-takes c = λ at done w st n h.
-    let slice = word_slice c.args.text.now c.args.name.now.place c.args.name.now.behind w n.token_at in
+    let slice = word_slice signs c.args.text.now c.args.name.now.place c.args.name.now.behind w n.token_at in
     let label : label_kind w ≡ c.label_of-label.result = sym (c.label_of-label.ensures ∙ ap label_kind slice) in
     let free : may_label done w ≡ true = not_false _ (sym (c.is_taken.ensures done w label h) ∙ c.if-is_taken.false) in
     let named = moves c.args.text.now at c.args.name.now.place c.args.name.now.behind (word w) (Fields done) (Labelled done w) st n (labelled_step done w free) in
@@ -39,7 +40,7 @@ returns-in_err-value-clause-takes c = λ at done w st n h.
 
 pub returns-in_err-found-clause-takes : goal.returns-in_err-found-clause-takes
 returns-in_err-found-clause-takes c = λ at done w st n h.
-    let slice = word_slice c.args.text.now c.args.name.now.place c.args.name.now.behind w n.token_at in
+    let slice = word_slice signs c.args.text.now c.args.name.now.place c.args.name.now.behind w n.token_at in
     let label : label_kind w ≡ c.label_of-label.result = sym (c.label_of-label.ensures ∙ ap label_kind slice) in
     let free : may_label done w ≡ true = not_false _ (sym (c.is_taken.ensures done w label h) ∙ c.if-is_taken.false) in
     let named = moves c.args.text.now at c.args.name.now.place c.args.name.now.behind (word w) (Fields done) (Labelled done w) st n (labelled_step done w free) in
@@ -50,7 +51,7 @@ returns-in_err-found-clause-takes c = λ at done w st n h.
 
 pub returns-in_err-behind-clause-takes : goal.returns-in_err-behind-clause-takes
 returns-in_err-behind-clause-takes c = λ at done w st n h.
-    let slice = word_slice c.args.text.now c.args.name.now.place c.args.name.now.behind w n.token_at in
+    let slice = word_slice signs c.args.text.now c.args.name.now.place c.args.name.now.behind w n.token_at in
     let label : label_kind w ≡ c.label_of-label.result = sym (c.label_of-label.ensures ∙ ap label_kind slice) in
     let free : may_label done w ≡ true = not_false _ (sym (c.is_taken.ensures done w label h) ∙ c.if-is_taken.false) in
     let named = moves c.args.text.now at c.args.name.now.place c.args.name.now.behind (word w) (Fields done) (Labelled done w) st n (labelled_step done w free) in
@@ -63,7 +64,7 @@ returns-in_err-behind-clause-takes c = λ at done w st n h.
 
 pub returns-clause-takes : goal.returns-clause-takes
 returns-clause-takes c = λ at done w st n h.
-    let slice = word_slice c.args.text.now c.args.name.now.place c.args.name.now.behind w n.token_at in
+    let slice = word_slice signs c.args.text.now c.args.name.now.place c.args.name.now.behind w n.token_at in
     let label : label_kind w ≡ c.label_of-label.result = sym (c.label_of-label.ensures ∙ ap label_kind slice) in
     let free : may_label done w ≡ true = not_false _ (sym (c.is_taken.ensures done w label h) ∙ c.if-is_taken.false) in
     let named = moves c.args.text.now at c.args.name.now.place c.args.name.now.behind (word w) (Fields done) (Labelled done w) st n (labelled_step done w free) in

@@ -1,12 +1,10 @@
 use Rattle.std.proofs.Common.{◌∙◌, ap, sym, subst}
-use Rattle.viable.specs.Quoted.{unescape}
-use Rattle.viable.proofs.Pieces.{unescape_pieces}
 use Rattle.text_tokens.specs.Tokens.{Token, quoted, TokenAt}
 use Rattle.text_tokens.specs.Kinds.{IsKind}
 use Rattle.text_tokens.specs.declared.tokens.Kind.{Kind}
 use Rattle.dap_errors.specs.Object.{signs, text}
 use Rattle.dap_errors.specs.inner.Machine.{Assigned, step}
-use Rattle.dap_errors.proofs.Names.{quoted_slice}
+use Rattle.text_tokens.proofs.Slices.{quoted_is}
 use Rattle.dap_errors.proofs.Finding.{more_message, message_may, message_no_word}
 use Rattle.dap_errors.proofs.Moves.{stops_bad}
 use Rattle.dap_errors.proofs.fields.message_field.Goals as goal
@@ -16,7 +14,7 @@ returns-in-Quoted c = record {
   takes = λ at done w t code message st k n h may.
       let (p, t_is) = subst (λ (z : Kind). IsKind z t) c.in-Quoted.is k in
       let one : TokenAt signs c.args.text.now c.args.value.now.place c.args.value.now.behind (quoted p) = subst (λ (z : Token). TokenAt signs c.args.text.now c.args.value.now.place c.args.value.now.behind z) t_is n.token_at in
-      let value = c.from_vec.ensures ∙ c.in_ok-message-in-Quoted.ensures ∙ ap unescape (quoted_slice c.args.text.now c.args.value.now.place c.args.value.now.behind p one) ∙ unescape_pieces p one.is_one in
+      let value = c.from_vec.ensures ∙ c.in_ok-message-in-Quoted.ensures ∙ quoted_is signs c.args.text.now c.args.value.now.place c.args.value.now.behind p one in
       (text p, sym t_is, message_may w p code message, more_message c.args.found done w p _ code message may h value);
 }
 

@@ -1,5 +1,5 @@
 use Rattle.std.proofs.Common.{◌≡◌, ◌∙◌, sym, ap, arith, refl, inr, Some, None, Err}
-use Rattle.netcdf_source.specs.Header.{refusal_of, judgement, verdict}
+use Rattle.netcdf_source.specs.inner.Answering.{refusal_of, judgement, verdict}
 use Rattle.netcdf_source.specs.Parts.{past_end}
 use Rattle.netcdf_source.specs.inner.Reading.{contents_at}
 use Rattle.netcdf_source.proofs.Good.{read_sound}

@@ -12,20 +12,20 @@ returns-in_default-clause-only_cause c = none_cause c.args.front.now c.args.file
 
 pub returns-clause-header : goal.returns-clause-header
 returns-clause-header c =
-    let f : Front c.in-Some.version c.in-Some.body.now c.args.front.now = record { version_is = c.in-Some.ensures.found.0; begins = c.in-Some.ensures.found.1 } in
-    is_header c.in-Some.version c.in-Some.body.now c.args.front.now c.args.file_len c.judge.result (later_bytes (magic c.in-Some.version) c.in-Some.body.now (subst IsBytes c.in-Some.ensures.found.1 (λ i. omega (arith, c.type_inv.front i)))) f c.judge.ensures.verdict
+    let f : Front c.in-Some.version c.in-Some.body.now c.args.front.now = record { begins = c.in-Some.ensures.found } in
+    is_header c.in-Some.version c.in-Some.body.now c.args.front.now c.args.file_len c.judge.result (later_bytes (magic c.in-Some.version) c.in-Some.body.now (subst IsBytes c.in-Some.ensures.found (λ i. omega (arith, c.type_inv.front i)))) f c.judge.ensures.verdict
 
 pub returns-clause-first_cause : goal.returns-clause-first_cause
 returns-clause-first_cause c =
-    let f : Front c.in-Some.version c.in-Some.body.now c.args.front.now = record { version_is = c.in-Some.ensures.found.0; begins = c.in-Some.ensures.found.1 } in
-    is_first c.in-Some.version c.in-Some.body.now c.args.front.now c.args.file_len c.judge.result (later_bytes (magic c.in-Some.version) c.in-Some.body.now (subst IsBytes c.in-Some.ensures.found.1 (λ i. omega (arith, c.type_inv.front i)))) f c.judge.ensures.verdict
+    let f : Front c.in-Some.version c.in-Some.body.now c.args.front.now = record { begins = c.in-Some.ensures.found } in
+    is_first c.in-Some.version c.in-Some.body.now c.args.front.now c.args.file_len c.judge.result (later_bytes (magic c.in-Some.version) c.in-Some.body.now (subst IsBytes c.in-Some.ensures.found (λ i. omega (arith, c.type_inv.front i)))) f c.judge.ensures.verdict
 
 pub returns-clause-only_header : goal.returns-clause-only_header
 returns-clause-only_header c =
-    let f : Front c.in-Some.version c.in-Some.body.now c.args.front.now = record { version_is = c.in-Some.ensures.found.0; begins = c.in-Some.ensures.found.1 } in
+    let f : Front c.in-Some.version c.in-Some.body.now c.args.front.now = record { begins = c.in-Some.ensures.found } in
     only_header c.in-Some.version c.in-Some.body.now c.args.front.now c.args.file_len c.judge.result f c.judge.ensures.verdict
 
 pub returns-clause-only_cause : goal.returns-clause-only_cause
 returns-clause-only_cause c =
-    let f : Front c.in-Some.version c.in-Some.body.now c.args.front.now = record { version_is = c.in-Some.ensures.found.0; begins = c.in-Some.ensures.found.1 } in
+    let f : Front c.in-Some.version c.in-Some.body.now c.args.front.now = record { begins = c.in-Some.ensures.found } in
     only_cause c.in-Some.version c.in-Some.body.now c.args.front.now c.args.file_len c.judge.result f c.judge.ensures.verdict

@@ -1,4 +1,4 @@
-use Rattle.std.proofs.Common.{◌≡◌, ◌≤◌, ◌<◌, ◌++◌, ℕ, List, Some, All, OnOk, OnErr, refl, sym, ap, subst, length, arith}
+use Rattle.std.proofs.Common.{◌≡◌, ◌<◌, ◌++◌, Some, All, OnOk, OnErr, refl, sym, subst, length, arith}
 use Rattle.std.specs.Io.KnownBytes.{Appends}
 use Rattle.xdr_encode.proofs.Beginning.{stops-in-front}
 use Rattle.xdr_encode.proofs.Bodies.{at-file, at-file-err, apply-ok, apply-err, body-stops, body-streams, streams-alone, write-fault-alone}

@@ -1,6 +1,5 @@
-use Rattle.std.proofs.Common.{◌≡◌, ◌++◌, [], get_or, true, false, sym, ap, ◌∙◌, append-nil}
+use Rattle.std.proofs.Common.{◌≡◌, [], get_or, true, false, sym, ap, ◌∙◌, append-nil}
 use Rattle.dap_outside.proofs.Passing.{passes_as, passes_kept, puts_as}
-use Rattle.csv_source.specs.Lent.{lent_value}
 use Rattle.xdr_encode.proofs.Choosing.{cell_is_sent, cell_unsent}
 use Rattle.xdr_encode.proofs.Typing.{typed_at}
 use Rattle.xdr_encode.proofs.table_rows.put_chosen.Goals as goal

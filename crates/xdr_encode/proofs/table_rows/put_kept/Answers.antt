@@ -1,4 +1,4 @@
-use Rattle.std.proofs.Common.{◌≡◌, ◌++◌, [], get_or, true, false, sym, ap, ◌∙◌, append-nil}
+use Rattle.std.proofs.Common.{◌≡◌, [], get_or, true, false, sym, ap, ◌∙◌, append-nil}
 use Rattle.dap_outside.proofs.Passing.{passes_as, passes_kept, puts_as}
 use Rattle.xdr_encode.proofs.Choosing.{row_is_sent, row_unsent}
 use Rattle.xdr_encode.proofs.table_rows.put_kept.Goals as goal

@@ -1,4 +1,4 @@
-use Rattle.std.proofs.Common.{◌∷◌, [], ◌++◌}
+use Rattle.std.proofs.Common.{◌∷◌, []}
 use Rattle.dap_outside.proofs.Passing.{front_first, puts_failed, puts_two}
 use Rattle.xdr_encode.proofs.Choosing.{table_parts}
 use Rattle.xdr_encode.specs.RowSteps.{rows_from}

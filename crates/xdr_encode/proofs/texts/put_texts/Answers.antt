@@ -1,10 +1,7 @@
-use Rattle.std.proofs.Common.{◌≡◌, ◌≤◌, ◌<◌, ◌+◌, ◌-◌, ◌++◌, ℕ, List, [], ◌∙◌, arith, refl}
+use Rattle.std.proofs.Common.{◌+◌, ◌-◌, [], ◌∙◌, arith, refl}
 use Rattle.dap_model.specs.Xdr.{bytes_of, string_fields}
-use Rattle.dap_outside.proofs.Passing.{IsOnItsWay, puts_failed, way_begins, way_ends, way_failed, way_more}
-use Rattle.hyperslab_plan.specs.Batches.{Fetched}
-use Rattle.xdr_encode.proofs.Forms.{forms-none}
+use Rattle.dap_outside.proofs.Passing.{puts_failed, way_ends, way_failed, way_more}
 use Rattle.xdr_encode.proofs.TextForms.{text-here, texts-begin, texts-end, texts-step}
-use Rattle.xdr_encode.specs.Elements.{forms_from}
 use Rattle.xdr_encode.proofs.texts.put_texts.Goals as goal
 
 pub loop-j-init : goal.loop-j-init

@@ -1,4 +1,4 @@
-use Rattle.std.proofs.Common.{◌≡◌, ◌*◌, ◌≤◌, ◌+◌, drop, get_or, min, sym, ap, ◌∙◌, arith, length, ◌<◌}
+use Rattle.std.proofs.Common.{◌*◌, ◌+◌, drop, min, sym, ap, ◌∙◌, arith}
 use Rattle.std.proofs.lemmas.List.{drop_more}
 use Rattle.hyperslab_plan.specs.Picked.{count_of}
 use Rattle.netcdf_source.proofs.Limits.{stopped_step}

@@ -1,4 +1,3 @@
-use Rattle.std.proofs.Common.{◌≡◌, ℕ, arith}
 use Rattle.grid_projection.specs.Resolved.{marks_in}
 use Rattle.xdr_encode.proofs.Gathering.{wanted_ready, large_is, marked_is, too_large_as}
 use Rattle.xdr_encode.proofs.wanted.leaf_at.Goals as goal

@@ -1,4 +1,4 @@
-use Rattle.std.proofs.Common.{◌≡◌, ◌+◌, ◌<◌, ◌≤◌, ℕ, Some, length, sym, ap, ◌∙◌, subst, arith}
+use Rattle.std.proofs.Common.{◌+◌, ◌<◌, Some, length, sym, ap, ◌∙◌, subst, arith}
 use Rattle.grid_projection.specs.Resolved.{marks_in}
 use Rattle.netcdf_source.specs.Mapping.{leaves_from}
 use Rattle.xdr_encode.proofs.Gathering.{same_err, nothing_yet, one_more_found, is_too_large, all_asked, all_text, all_small}

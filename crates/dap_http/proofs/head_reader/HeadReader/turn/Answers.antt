@@ -1,6 +1,6 @@
 use Rattle.std.proofs.Common.{[]}
 use Rattle.std.proofs.KnownBytes.{Consumes-nil}
-use Rattle.dap_http.proofs.HeadReading.{bad-request, first-request}
+use Rattle.dap_http.proofs.HeadReading.{bad-request, first-request, wanted-request}
 use Rattle.dap_http.proofs.head_reader.HeadReader.turn.Goals as goal
 
 pub returns-in-Whole-clause-reads : goal.returns-in-Whole-clause-reads
@@ -9,3 +9,6 @@ returns-in-Whole-clause-reads g c =
 
 pub returns-in-Bad-clause-reads : goal.returns-in-Bad-clause-reads
 returns-in-Bad-clause-reads g c = ([], Consumes-nil _, bad-request c.args.self.now.kept.items (rw c.as_slice.ensures.value at c.in-Bad.ensures))
+
+pub returns-in-Memory-clause-reads : goal.returns-in-Memory-clause-reads
+returns-in-Memory-clause-reads g c = ([], Consumes-nil _, wanted-request c.args.self.now.kept.items c.in-Memory.head (rw c.as_slice.ensures.value at c.in-Memory.ensures) c.args.self.now.few)

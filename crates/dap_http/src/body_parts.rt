@@ -1,0 +1,207 @@
+ghost use Rattle.std.specs.Prelude.{◌≡◌, ◌≤◌, ◌<◌, ◌+◌, ◌++◌, ◌^◌, ℕ, List, [], Option, Some, None, IfOk, OnErr, IsTrue, false, length, take};
+ghost use Rattle.std.specs.Io.KnownBytes.{Consumes, IsAtEnd};
+ghost use Rattle.dap_outside.specs.Causes.{HasCause, Rose};
+
+use crate::Coding;
+use crate::unframer::{Unframed, Unframer};
+use dap_outside::{Failed, Source};
+use dap_types::Memory;
+use std::alloc::Global;
+use xdr_decode::BadField;
+
+/// How many bytes are taken at once.
+const ROOM: usize = 65_536;
+
+/// What comes next of the body of a reply.
+#[derive(Clone, Copy, Debug)]
+pub enum Arrived {
+    /// Some bytes of it, which `part` lends.
+    Part,
+    /// Its end.
+    End,
+    /// Its framing is bad, or the source has ended before it.
+    Refused(BadField),
+    ReadFault,
+}
+
+/// Reads the body of a reply from a source, part by part, without its framing.
+#[derive(Drop)]
+pub struct BodyParts {
+    unframer: Unframer,
+    room: Vec<u8>,
+    from: usize,
+    to: usize,
+    end: usize,
+    ghost size: { length room.items ≡ 65536 },
+    ghost filled: { end ≤ 65536 },
+    ghost within: { to ≤ end },
+    ghost lent: { from ≤ to },
+}
+
+impl BodyParts {
+    ghost use Rattle.dap_http.specs.After.{StandsAfter};
+    ghost use Rattle.dap_http.specs.Codings.{Goes};
+    ghost use Rattle.dap_http.specs.Delivered.{IsWholeBody};
+    ghost use Rattle.dap_http.specs.Following.{Arrives, Follows, IsShort, body_coding, part_of, waiting};
+    ghost use Rattle.dap_http.specs.inner.Parting.{IsUsedUp, Turns, Unframes, taken_by};
+
+    /// A reader of a body of that coding, whose first bytes were taken together with the head. Fails
+    /// where memory is wanted.
+    pub fn new(alloc: Global, coding: Coding, first: &[u8]) -> Result<BodyParts, Memory>
+        requires { length first.now ≤ 65536 }
+        ensures follows { IfOk result (λ p. Follows p first.now []) }
+        ensures coding { IfOk result (λ p. body_coding p ≡ coding) }
+    {
+        Ok(BodyParts {
+            unframer: Unframer::new(coding),
+            room: room_with(alloc, ROOM, first)?,
+            from: 0,
+            to: 0,
+            end: first.len(),
+        })
+    }
+
+    /// Reads up to the next bytes of the body, its end, a fault of its framing, or one of the source.
+    pub fn next<I: Source>(&mut self, source: &mut I) -> Arrived
+        requires { IsShort self.old }
+        ensures arrives { (taken : List ℕ) × Consumes (I.left source.old) (I.left source.new) taken
+            × ((bytes body : List ℕ) → Follows self.old bytes body →
+            Arrives self.new (bytes ++ taken) body (I.ended source.new) result) }
+        // Nothing is taken where the end of the body has come already.
+        ensures ended { (bytes body rest : List ℕ) → Follows self.old bytes body → IsWholeBody (body_coding self.old) bytes false body rest →
+            (result ≡ Arrived.End) × (source.new ≡ source.old) }
+        ensures coding { body_coding self.new ≡ body_coding self.old }
+        ensures fault { result ≡ Arrived.ReadFault → Rose (I.take_faults source.old) (I.take_faults source.new) }
+        ensures later { I.take_faults source.old ≤ I.take_faults source.new }
+        ensures stays { IsTrue (I.ended source.old) → IsTrue (I.ended source.new) }
+        ensures whole { I.whole source.new ≡ I.whole source.old }
+        ensures beside { I.beside_reading source.new ≡ I.beside_reading source.old }
+    {
+        loop {
+            if let Some(arrived) = self.turn(source) {
+                return arrived;
+            }
+        }
+    }
+
+    /// The bytes of the body that came last.
+    pub fn part(&self) -> &[u8]
+        ensures { result.now ≡ part_of self.now }
+    {
+        &self.room[self.from..self.to]
+    }
+
+    /// The bytes that were taken and are not used: behind the end of a body, those of what follows it.
+    pub fn rest(&self) -> &[u8]
+        ensures { result.now ≡ waiting self.now }
+    {
+        &self.room[self.to..self.end]
+    }
+
+    /// Unframes the bytes that wait, and takes more where they tell nothing.
+    fn turn<I: Source>(&mut self, source: &mut I) -> Option<Arrived>
+        requires { IsShort self.old }
+        ensures turns { (taken : List ℕ) × Consumes (I.left source.old) (I.left source.new) taken
+            × ((bytes body : List ℕ) → Follows self.old bytes body →
+            Turns self.new (bytes ++ taken) body (I.ended source.new) result) }
+        ensures ended { (bytes body rest : List ℕ) → Follows self.old bytes body → IsWholeBody (body_coding self.old) bytes false body rest →
+            (result ≡ Some Arrived.End) × (source.new ≡ source.old) }
+        ensures more { result ≡ None → taken_by self.old < taken_by self.new }
+        ensures coding { body_coding self.new ≡ body_coding self.old }
+        ensures fault { result ≡ Some Arrived.ReadFault → Rose (I.take_faults source.old) (I.take_faults source.new) }
+        ensures later { I.take_faults source.old ≤ I.take_faults source.new }
+        ensures stays { IsTrue (I.ended source.old) → IsTrue (I.ended source.new) }
+        ensures whole { I.whole source.new ≡ I.whole source.old }
+        ensures beside { I.beside_reading source.new ≡ I.beside_reading source.old }
+    {
+        match self.unframe() {
+            Some(arrived) => Some(arrived),
+            None => self.go_on(source),
+        }
+    }
+
+    /// Unframes the bytes that wait, up to bytes of the body, its end or a fault.
+    fn unframe(&mut self) -> Option<Arrived>
+        requires { IsShort self.old }
+        ensures unframes { (bytes body : List ℕ) → Follows self.old bytes body → Unframes self.new bytes body result }
+        ensures ended { (bytes body rest : List ℕ) → Follows self.old bytes body → IsWholeBody (body_coding self.old) bytes false body rest → result ≡ Some Arrived.End }
+        ensures no_fault { (result ≡ Some Arrived.ReadFault) → ⊥ }
+        ensures none { result ≡ None → taken_by self.new ≡ taken_by self.old }
+        ensures used { result ≡ None → self.new.to ≡ self.new.end }
+        ensures coding { body_coding self.new ≡ body_coding self.old }
+    {
+        match self.unframer.next(&self.room[self.to..self.end]) {
+            Unframed::Part { bytes, used } => {
+                self.from = self.to + (used - bytes.len());
+                self.to += used;
+                Some(Arrived::Part)
+            }
+            Unframed::More => {
+                self.to = self.end;
+                None
+            }
+            Unframed::End { used } => {
+                self.to += used;
+                Some(Arrived::End)
+            }
+            Unframed::Refused(bad) => Some(Arrived::Refused(bad)),
+        }
+    }
+
+    /// Takes more bytes where none wait.
+    fn go_on<I: Source>(&mut self, source: &mut I) -> Option<Arrived>
+        requires { self.old.to ≡ self.old.end }
+        ensures turns { (taken : List ℕ) × Consumes (I.left source.old) (I.left source.new) taken
+            × ((bytes body : List ℕ) → IsUsedUp self.old bytes body →
+            Turns self.new (bytes ++ taken) body (I.ended source.new) result) }
+        ensures more { result ≡ None → taken_by self.old < taken_by self.new }
+        ensures coding { body_coding self.new ≡ body_coding self.old }
+        ensures fault { result ≡ Some Arrived.ReadFault → Rose (I.take_faults source.old) (I.take_faults source.new) }
+        ensures later { I.take_faults source.old ≤ I.take_faults source.new }
+        ensures stays { IsTrue (I.ended source.old) → IsTrue (I.ended source.new) }
+        ensures whole { I.whole source.new ≡ I.whole source.old }
+        ensures beside { I.beside_reading source.new ≡ I.beside_reading source.old }
+    {
+        match fill(&mut self.room, source) {
+            Ok(0) => match self.unframer.finish() {
+                Ok(()) => Some(Arrived::End),
+                Err(bad) => Some(Arrived::Refused(bad)),
+            },
+            Ok(count) => {
+                self.from = 0;
+                self.to = 0;
+                self.end = count;
+                None
+            }
+            Err(_) => Some(Arrived::ReadFault),
+        }
+    }
+}
+
+/// Room for so many bytes, with these at its front.
+fn room_with(alloc: Global, size: usize, first: &[u8]) -> Result<Vec<u8>, Memory>
+    requires { length first.now ≤ size }
+    ensures size { IfOk result (λ v. length v.items ≡ size) }
+    ensures front { IfOk result (λ v. take (length first.now) v.items ≡ first.now) }
+{
+    let mut room = Vec::with_capacity(alloc, size)?;
+    room.extend_from_slice(first)?;
+    room.resize(size, 0u8)?;
+    Ok(room)
+}
+
+/// Takes some bytes into the room, and answers how many; 0 says that nothing is left.
+fn fill<I: Source>(room: &mut Vec<u8>, source: &mut I) -> Result<usize, Failed>
+    requires { length room.old.items ≡ 65536 }
+    ensures size { length room.new.items ≡ 65536 }
+    ensures most { IfOk result (λ n. n ≤ 65536) }
+    ensures bytes { IfOk result (λ n. Consumes (I.left source.old) (I.left source.new) (take n room.new.items)) }
+    ensures end { IfOk result (λ n. n ≡ 0 → IsTrue (I.ended source.new) × IsAtEnd (I.left source.new)) }
+    ensures err { OnErr result (I.left source.new ≡ I.left source.old) }
+    ensures stays { IsTrue (I.ended source.old) → IsTrue (I.ended source.new) }
+    ensures cause { HasCause (I.take_faults source.old) (I.take_faults source.new) result }
+    ensures whole { I.whole source.new ≡ I.whole source.old }
+    ensures beside { I.beside_reading source.new ≡ I.beside_reading source.old }
+{
+    source.take(room.as_mut_slice())
+}

@@ -1,0 +1,53 @@
+-- The limits of this project, by name. The standards that stand behind the formats name none of them, but for the
+-- sizes of arrays, which are Int32s (DAP 2.0, Array).
+use Rattle.std.specs.Prelude.{ℕ, ◌^◌}
+
+-- ---- datasets
+
+-- the members of a dataset
+abbrev pub most_members : ℕ
+most_members = 1000000
+
+-- how deep a member stands, where a top member has depth 1
+abbrev pub most_depth : ℕ
+most_depth = 16
+
+-- the dimensions of an array
+abbrev pub most_dimensions : ℕ
+most_dimensions = 32
+
+-- the size of a dimension, and the elements of an array that is sent
+abbrev pub most_elements : ℕ
+most_elements = 2147483647
+
+-- ---- texts and bodies
+
+-- the bytes of a DDS or a DAS
+abbrev pub most_text : ℕ
+most_text = 16777216
+
+-- the bytes of an Error object
+abbrev pub most_error : ℕ
+most_error = 65536
+
+-- a body has fewer bytes
+abbrev pub body_limit : ℕ
+body_limit = 2 ^ 40
+
+-- what is read or written at a time
+abbrev pub most_piece : ℕ
+most_piece = 65536
+
+-- ---- stored files
+
+-- the bytes of a table's file
+abbrev pub most_table : ℕ
+most_table = 67108864
+
+-- the columns of a table
+abbrev pub most_columns : ℕ
+most_columns = 1024
+
+-- the bytes of a netCDF file's header
+abbrev pub most_header : ℕ
+most_header = 1048576
