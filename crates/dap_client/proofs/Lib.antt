@@ -1,5 +1,12 @@
-pub mod Judged
-pub mod Rows
-pub mod Tables
-pub mod Taken
+pub mod Begun
+pub mod DataLines
+pub mod Ending
+pub mod EveryObject
+pub mod Filling
+pub mod FirstWords
+pub mod Lines
+pub mod Objects
+pub mod OneVerdict
 pub mod Texts
+pub mod Values
+pub mod Waiting

@@ -1,3 +1,4 @@
-pub mod Gathered
+pub mod Outcomes
 pub mod Shows
+pub mod Verdict
 pub mod inner

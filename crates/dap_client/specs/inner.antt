@@ -1,2 +1,5 @@
-pub mod Lines
-pub mod Showing
+pub mod DataLines
+pub mod FirstWords
+pub mod Objects
+pub mod Stages
+pub mod Readers

@@ -1,14 +1,19 @@
 //! Shows what a server sent (DAP 2.0). In come the bytes of a source, in any pieces; out go the DDS,
 //! a line for each element and a line that says that all came, as `shown` of `dap_model` defines
-//! them, or the verdict of `xdr_decode` on what is wrong.
+//! them, or what the verdict of `specs/Verdict` says is wrong.
 #![tactic(auto)]
 
-mod body;
-mod elements;
-mod gather;
+mod bytes;
+mod data_line;
+mod first_word;
+pub mod laws;
+mod object;
 mod outcome;
-mod shown;
-mod values;
+mod reader;
+mod showing;
+mod stage;
+#[cfg(test)]
+mod tests;
 
-pub use body::show;
 pub use outcome::Outcome;
+pub use showing::show;
