@@ -110,7 +110,7 @@ front_passes : (test : ℕ → Bool) (n : ℕ) (xs : List ℕ) → list_all test
 front_passes test n xs all =
     (and_parts (list_all test (take n xs)) (list_all test (drop n xs)) (sym (list_all-append test (take n xs) (drop n xs)) ∙ ap (list_all test) (take-append-drop n xs) ∙ all)).0
 
-whites : (ws : List ℕ) → AllPass dds.is_white ws → list_all is_white ws ≡ true
+pub whites : (ws : List ℕ) → AllPass dds.is_white ws → list_all is_white ws ≡ true
 whites [] all = refl
 whites (w ∷ ws) all =
     let first : is_white w ≡ true = sym (white_same w) ∙ All-head (λ b. dds.is_white b ≡ true) w ws all in

@@ -51,14 +51,14 @@ line_ends bytes n b o long is = by n refl
     by (suc (suc (suc (suc (suc zero))))) e = record {
       white = o.white;
       end = codes "\n";
-      parts = whole ∙ ap (λ k. o.white ++ (take k (codes "Data:\r") ++ 10 ∷ [])) (sym e);
+      parts = whole ∙ ap (λ k. o.white ++ (take k (codes "Data:\r") ++ 10 ∷ [])) (sym e) ∙ sym (append_assoc o.white (codes "Data:") (codes "\n"));
       is_white = o.is_white;
       is_end = inl refl;
     }
     by (suc (suc (suc (suc (suc (suc zero)))))) e = record {
       white = o.white;
       end = codes "\r\n";
-      parts = whole ∙ ap (λ k. o.white ++ (take k (codes "Data:\r") ++ 10 ∷ [])) (sym e);
+      parts = whole ∙ ap (λ k. o.white ++ (take k (codes "Data:\r") ++ 10 ∷ [])) (sym e) ∙ sym (append_assoc o.white (codes "Data:") (codes "\r\n"));
       is_white = o.is_white;
       is_end = inr refl;
     }
@@ -86,7 +86,7 @@ differs bytes n b o first end next more l = by n refl
     laid : (k : ℕ) → k ≡ n → o.white ++ (take k (codes "Data:\r") ++ b ∷ more) ≡ l.white ++ 68 ∷ (codes "ata:" ++ l.end)
     laid k e =
         ap (λ j. o.white ++ (take j (codes "Data:\r") ++ b ∷ more)) e ∙ sym (append_assoc o.white (take n (codes "Data:\r")) (b ∷ more))
-        ∙ ap (λ z. z ++ b ∷ more) (sym o.parts) ∙ l.parts
+        ∙ ap (λ z. z ++ b ∷ more) (sym o.parts) ∙ l.parts ∙ append_assoc l.white (codes "Data:") l.end
 
     begun : (k : ℕ) (rs : List ℕ) → k ≡ n → take k (codes "Data:\r") ++ b ∷ more ≡ 68 ∷ rs → rs ≡ codes "ata:" ++ l.end
     begun k rs e is = cons_tail 68 68 rs (codes "ata:" ++ l.end) (same_behind o.white l.white 68 rs (codes "ata:" ++ l.end) o.is_white l.is_white refl (ap (λ z. o.white ++ z) (sym is) ∙ laid k e))
@@ -135,7 +135,7 @@ unended n bytes o =
       record {
         white = o.white;
         end = end;
-        parts = ap (λ l. l ++ next ∷ more) o.parts ∙ append_assoc o.white (take n (codes "Data:\r")) (next ∷ more) ∙ ap (λ l. o.white ++ l) whole;
+        parts = ap (λ l. l ++ next ∷ more) o.parts ∙ append_assoc o.white (take n (codes "Data:\r")) (next ∷ more) ∙ ap (λ l. o.white ++ l) whole ∙ sym (append_assoc o.white (codes "Data:") end);
         is_white = o.is_white;
         is_end = is_end;
       },

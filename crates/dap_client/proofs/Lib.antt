@@ -1,12 +1,11 @@
 pub mod Begun
+pub mod DasBodies
 pub mod DataLines
-pub mod Ending
+pub mod DdsBodies
 pub mod EveryObject
-pub mod Filling
 pub mod FirstWords
 pub mod Lines
 pub mod Objects
 pub mod OneVerdict
 pub mod Texts
 pub mod Values
-pub mod Waiting

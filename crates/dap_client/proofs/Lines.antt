@@ -143,6 +143,3 @@ line_refused d line bytes piece place at o long none bad =
 -- nothing of it is wrong while it goes on
 pub line_cut : (d : Dataset) (line : DataLine) (bytes : List ℕ) (o : IsInLine d line bytes) → EndsInDataLine o.rest → EndsInHead bytes
 line_cut d line bytes o cut = inr (d, o.text, o.rest, o.has_text, cut)
-
-pub differs_within : (rest piece : List ℕ) (at : ℕ) → IsBadDataLine (rest ++ piece) (length rest + at) → at < length piece
-differs_within rest piece at bad = omega (arith, bad.is_place, ap length bad.parts, length-append rest piece, length-append bad.front (bad.next ∷ bad.rest))

@@ -1,9 +1,7 @@
 -- What stands behind a piece of the values, by what the decoder says of it.
 use Rattle.std.proofs.Common.{◌≡◌, ℕ, zero, suc, ◌+◌, ◌-◌, ◌<◌, ◌≤◌, true, false, List, [], ◌∷◌, ◌++◌, length, take, drop, Option, refl, sym, ap, subst, ◌∙◌, append_assoc, append-nil, length-append, length-drop, inl, inr, ◌⊎◌, ⊎_elim, arith, Some}
-use Rattle.std.proofs.KnownBytes.{Appends-nil, Appends-trans}
 use Rattle.std.proofs.Math.Seq.{take-append-add, take-append_seam}
 use Rattle.std.proofs.lemmas.List.{length-take-le, take-append-drop, take_all}
-use Rattle.std.specs.Io.KnownBytes.{Appends}
 use Rattle.dap_types.specs.Model.{Dataset, Tree}
 use Rattle.dap_model.proofs.OneVerdict.{bad_not_open, ended_not_bad, one_bad}
 use Rattle.dap_model.specs.Body.{IsHead}
@@ -23,8 +21,7 @@ use Rattle.xdr_decode.specs.declared.decoder.State.TheVariants as state
 use Rattle.dap_client.specs.Shows.{StopsWithin}
 use Rattle.dap_client.specs.Verdict.{is_fault}
 use Rattle.dap_client.specs.inner.FirstWords.{IsNoError}
-use Rattle.dap_client.specs.inner.Stages.{HasValues, IsInValues, IsRefused, IsStage, Moves}
-use Rattle.dap_client.specs.declared.stage.Stage.{Stage}
+use Rattle.dap_client.specs.inner.Stages.{HasValues, IsInValues, IsRefused}
 
 -- a good front is not ended, or it is whole
 pub front_open : (d : Dataset) (bs whole more : List ℕ) → IsFront d bs whole more → IsOpen d bs ⊎ decoding.EndsBehind d bs (length bs)
@@ -82,7 +79,7 @@ more_front d bs more n ts at less = by (drop n bs) (take-append-drop n bs) (leng
     }
 
 -- the good bytes of values without a bad field are all
-pub all_good : (d : Dataset) (bs good : List ℕ) → HasGood d bs good → ((fault : Fault) (place : ℕ) → IsBadField d bs fault place → ⊥) → bs ≡ good
+all_good : (d : Dataset) (bs good : List ℕ) → HasGood d bs good → ((fault : Fault) (place : ℕ) → IsBadField d bs fault place → ⊥) → bs ≡ good
 all_good d bs good has none = ⊎_elim (λ empty. has.parts ∙ ap (λ l. good ++ l) empty ∙ append-nil good) (λ bad. absurd (none bad.0 (length good) bad.1)) has.whole
 
 -- and those of values with one stand before it
@@ -254,44 +251,3 @@ pub fault_piece : (decoder : Decoder) (bytes piece put gained : List ℕ) (o : H
 fault_piece decoder bytes piece put gained o some =
     let d = decoding.dataset_of decoder in
     values_fault d (bytes ++ piece) o.head (o.values ++ piece) (o.lines ++ gained) (put ++ gained) (piece_head d bytes piece o.head o.values o.has_head) some (put_more decoder bytes put gained o)
-
--- ---- before the first piece
-pub first_values : (decoder : Decoder) (d : Dataset) (bytes put : List ℕ) (place : ℕ) → decoding.dataset_of decoder ≡ d → decoding.StandsAfter decoder [] [] → decoding.start_of decoder ≡ place → decoding.place_of decoder ≡ place
-    → length bytes ≡ place → IsHead bytes d → put ≡ dds d → HasValues decoder bytes put
-first_values decoder d bytes put place same stands start at long h is_put = record {
-  head = bytes;
-  values = [];
-  lines = [];
-  has_head = subst (λ e. HasHeadOf bytes e bytes []) (sym same) (h, sym (append-nil bytes));
-  stands = stands;
-  starts = start ∙ sym long;
-  room = same_at (decoding.place_of decoder) place (length bytes) at long;
-  is_put = is_put ∙ ap dds (sym same) ∙ sym (append-nil (dds (decoding.dataset_of decoder)));
-}
-  where
-    same_at : (a b c : ℕ) → a ≡ b → c ≡ b → a ≤ c
-    same_at a b c one two = omega (arith, one, two)
-
--- a text was put before
-pub moves_on : (before between now : Option (List ℕ)) (first bytes : List ℕ) (s : Stage) → Appends before between first → Moves between now bytes first s → Moves before now bytes [] s
-moves_on before between now first bytes s one (text, two, stage) = (first ++ text, Appends-trans before between now first text one two, stage)
-
-pub moves_none : (at : Option (List ℕ)) (bytes : List ℕ) (s : Stage) → IsStage s bytes [] → Moves at at bytes [] s
-moves_none at bytes s stage = ([], Appends-nil at, stage)
-
--- ---- a piece in two parts
-pub seam : (bytes piece : List ℕ) (used : ℕ) → (bytes ++ take used piece) ++ drop used piece ≡ bytes ++ piece
-seam bytes piece used = append_assoc bytes (take used piece) (drop used piece) ∙ ap (λ l. bytes ++ l) (take-append-drop used piece)
-
-pub taken_front : (bytes piece : List ℕ) (place used : ℕ) → length bytes ≡ place → used ≤ length piece → length (bytes ++ take used piece) ≡ place + used
-taken_front bytes piece place used long le = omega (arith, long, length-append bytes (take used piece), length-take-le used piece le)
-
--- the second part of a piece, as a slice of it is written
-pub slice_rest : (piece : List ℕ) (used : ℕ) → used ≤ length piece → take (length piece - used) (drop used piece) ≡ drop used piece
-slice_rest piece used le = take_all (length piece - used) (drop used piece) (omega (arith, le, length-drop used piece))
-
-pub slice_seam : (bytes piece : List ℕ) (used : ℕ) → used ≤ length piece → (bytes ++ take used piece) ++ take (length piece - used) (drop used piece) ≡ bytes ++ piece
-slice_seam bytes piece used le = ap (λ l. (bytes ++ take used piece) ++ l) (slice_rest piece used le) ∙ seam bytes piece used
-
-pub slice_small : (piece : List ℕ) (place used most : ℕ) → used ≤ length piece → place + length piece < most → place + used + length (take (length piece - used) (drop used piece)) < most
-slice_small piece place used most le small = omega (arith, le, small, ap length (slice_rest piece used le), length-drop used piece)

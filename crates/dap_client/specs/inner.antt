@@ -1,4 +1,6 @@
+pub mod DasBodies
 pub mod DataLines
+pub mod DdsBodies
 pub mod FirstWords
 pub mod Objects
 pub mod Stages

@@ -4,7 +4,9 @@
 #![tactic(auto)]
 
 mod bytes;
+mod das_body;
 mod data_line;
+mod dds_body;
 mod first_word;
 pub mod laws;
 mod object;

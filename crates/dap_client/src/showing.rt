@@ -1,4 +1,4 @@
-ghost use Rattle.std.specs.Prelude.{◌≡◌, ◌⊎◌, ℕ, List, [], ◌++◌, Some, IfOk, IsTrue, take, length};
+ghost use Rattle.std.specs.Prelude.{◌≡◌, ℕ, List, [], ◌++◌, Some, IfOk, IsTrue, take, length};
 ghost use Rattle.std.specs.Io.KnownBytes.{Appends, Consumes, IsAtEnd};
 ghost use Rattle.dap_model.specs.Partly.{ShowsLines};
 ghost use Rattle.dap_model.specs.Shown.{shown};
@@ -8,6 +8,7 @@ ghost use Rattle.dap_errors.specs.declared.object.ErrorObject.{ErrorObject};
 ghost use Rattle.dap_client.specs.Outcomes.{Answers, OnBadReply, OnComplete, OnMemory, OnReadFault, OnServerError, OnWriteFault, WhereNothingPut, WhereWhole};
 ghost use Rattle.dap_client.specs.Shows.{BreaksOff, Gains, HasFewValues, StopsWithin, Takes};
 ghost use Rattle.dap_client.specs.Verdict.{Verdict, IsVerdict, bad, dods_form, good, server_error};
+ghost use Rattle.xdr_decode.specs.declared.bad.Bad.TheVariants.{Cut};
 
 use crate::Outcome;
 use crate::reader::BodyReader;
@@ -52,11 +53,10 @@ pub fn show<I: Source, O: Sink>(alloc: Global, source: &mut I, out: &mut O) -> O
         (λ body. IsVerdict dods_form body (server_error (record { code = code; message = message })))) result }
     ensures ended { WhereWhole (IsTrue (I.ended source.new) × IsAtEnd (I.left source.new)) result }
 
-    // What is wrong is so of all bytes of a source that is at its end, or stays so, whatever follows
-    // those that were taken. The sink gained what may be shown of the bytes before it.
+    // What is wrong stays so, whatever follows the bytes that were taken, or they are all. The sink
+    // gained what may be shown of the bytes before it.
     ensures bad_reply { OnBadReply (λ field. Takes (I.left source.old) (I.left source.new) (λ taken.
-        ((IsTrue (I.ended source.new) × IsAtEnd (I.left source.new) × IsVerdict dods_form taken (bad field.kind field.place))
-        ⊎ ((more : List ℕ) → IsVerdict dods_form (taken ++ more) (bad field.kind field.place)))
+        ((more : List ℕ) → (field.kind ≡ Cut → more ≡ []) → IsVerdict dods_form (taken ++ more) (bad field.kind field.place))
         × Gains (O.written out.old) (O.written out.new) (ShowsLines (take field.place taken)))) result }
 
     // Whatever the verdict on the bytes is, it is told, but for a fault or want of memory.

@@ -195,7 +195,6 @@ fn read_object(alloc: Global, object: Object, place: u64, piece: &[u8]) -> Stage
     requires stands { (bytes : List ℕ) × (length bytes ≡ place) × IsObjectOf bytes object }
     requires small { place + length piece.now < 2 ^ 63 }
     ensures stage { (bytes : List ℕ) → length bytes ≡ place → IsError (bytes ++ piece.now) → IsObjectOf bytes object → IsStage result (bytes ++ piece.now) [] }
-    ensures cause { WhereFailed ⊥ result }
 {
     match object.read(alloc, place, piece) {
         Ok(Object::Bad(place)) => refused(Bad::BadError, place),
@@ -210,7 +209,6 @@ fn begin_object(alloc: Global, word: FirstWord, front: Vec<u8>, place: u64, piec
     requires small { place + length piece.now < 2 ^ 63 }
     ensures stage { (bytes : List ℕ) → length bytes ≡ place → IsOpenWord word bytes → front.items ≡ take limit bytes → IsError (bytes ++ piece.now) →
         IsStage result (bytes ++ piece.now) [] }
-    ensures cause { WhereFailed ⊥ result }
 {
     if front.len() == LIMIT {
         return refused(Bad::BadError, LIMIT as u64);
@@ -219,7 +217,6 @@ fn begin_object(alloc: Global, word: FirstWord, front: Vec<u8>, place: u64, piec
 }
 
 /// Keeps the bytes of a piece for which there is room in the front of an Error object.
-#[tactic(auto, using(crate::proofs::Waiting::keep_short, crate::proofs::Waiting::keep_full))]
 fn keep(front: &mut Vec<u8>, piece: &[u8]) -> Result<(), Memory>
     requires { length front.old.items ≤ 65536 }
     ensures { (bytes : List ℕ) → front.old.items ≡ take limit bytes → IfOk result (λ _. front.new.items ≡ take limit (bytes ++ piece.now)) }
@@ -227,28 +224,24 @@ fn keep(front: &mut Vec<u8>, piece: &[u8]) -> Result<(), Memory>
     let room = LIMIT - front.len();
     if piece.len() < room {
         front.extend_from_slice(piece)?;
-        return Ok(());
+    } else {
+        front.extend_from_slice(&piece[..room])?;
     }
-    front.extend_from_slice(&piece[..room])?;
     Ok(())
 }
 
 /// Waits for more of the first word.
 fn wait(word: FirstWord, front: Vec<u8>, reader: DdsReader, piece: &[u8]) -> Stage
     requires { length front.items ≤ 65536 }
-    ensures stage { (bytes : List ℕ) → IsOpenWord word (bytes ++ piece.now) → front.items ≡ take limit bytes → HadAll reader bytes →
+    ensures { (bytes : List ℕ) → IsOpenWord word (bytes ++ piece.now) → front.items ≡ take limit bytes → HadAll reader bytes →
         IsStage result (bytes ++ piece.now) [] }
-    ensures cause { WhereFailed ⊥ result }
 {
     let mut front = front;
     let mut reader = reader;
-    match keep(&mut front, piece) {
-        Ok(()) => match reader.push(piece) {
-            Ok(_) => Stage::First(word, front, reader),
-            Err(Memory) => Stage::Spent,
-        },
-        Err(Memory) => Stage::Spent,
+    if keep(&mut front, piece).is_err() || reader.push(piece).is_err() {
+        return Stage::Spent;
     }
+    Stage::First(word, front, reader)
 }
 
 /// Reads a piece before the first word is known, which begins at this place.
@@ -281,27 +274,12 @@ fn read_first<O: Sink>(
 fn fill_first(reader: DdsReader) -> Stage
     ensures stage { (bytes : List ℕ) → length bytes ≡ budget → (word : FirstWord) → IsOpenWord word bytes → HadAll reader bytes → IsStage result bytes [] }
     ensures closed { is_open_stage result ≡ false }
-    ensures cause { WhereFailed ⊥ result }
 {
     let mut reader = reader;
     match reader.push(&[]) {
         Ok(DdsStep::Bad { place }) => full(Bad::BadDds, place),
-        Ok(DdsStep::More) => full(Bad::TooLong, BUDGET),
-        Ok(DdsStep::Done { used: _ }) => full(Bad::TooLong, BUDGET),
+        Ok(DdsStep::More) | Ok(DdsStep::Done { used: _ }) => full(Bad::TooLong, BUDGET),
         Err(Memory) => Stage::Spent,
-    }
-}
-
-/// The same of an Error object.
-fn fill_object(object: Object) -> Stage
-    ensures stage { (bytes : List ℕ) → length bytes ≡ budget → IsError bytes → IsObjectOf bytes object → IsStage result bytes [] }
-    ensures closed { is_open_stage result ≡ false }
-    ensures cause { WhereFailed ⊥ result }
-{
-    match object {
-        Object::Bad(place) => refused(Bad::BadError, place),
-        Object::Behind(_, _) => full(Bad::TooLong, BUDGET),
-        Object::Front(_) => full(Bad::TooLong, BUDGET),
     }
 }
 
@@ -351,18 +329,17 @@ impl Stage {
     pub fn filled(self) -> Stage
         ensures stage { (bytes put : List ℕ) → length bytes ≡ budget → IsStage self bytes put → IsStage result bytes put }
         ensures closed { is_open_stage result ≡ false }
-        ensures cause { WhereFailed (self ≡ Stage.Failed) result }
     {
         match self {
             Stage::First(_, _, reader) => fill_first(reader),
-            Stage::Error(object) => fill_object(object),
-            Stage::Text(_) => full(Bad::TooLong, BUDGET),
-            Stage::Line(_, _) => full(Bad::TooLong, BUDGET),
-            Stage::Values(_) => full(Bad::TooLong, BUDGET),
+            Stage::Error(Object::Bad(place)) => refused(Bad::BadError, place),
             Stage::Refused(field) => Stage::Refused(field),
             Stage::Full(field) => Stage::Full(field),
             Stage::Failed => Stage::Failed,
             Stage::Spent => Stage::Spent,
+            Stage::Error(_) | Stage::Text(_) | Stage::Line(..) | Stage::Values(_) => {
+                full(Bad::TooLong, BUDGET)
+            }
         }
     }
 }

@@ -1,10 +1,11 @@
 -- Which bytes a reader of a body was given and what it has put of them, and what it says of them where they end.
-use Rattle.std.specs.Prelude.{◌≡◌, ℕ, ◌<◌, ◌≤◌, ⊤, Bool, true, List, [], ◌++◌, length, take, codes}
+use Rattle.std.specs.Prelude.{◌≡◌, ℕ, ◌<◌, ⊤, Bool, true, List, [], ◌++◌, length, take, codes}
 use Rattle.std.specs.Fmt.{decimal}
 use Rattle.dap_types.specs.Model.{Dataset, Tree}
 use Rattle.dap_model.specs.Partly.{ShowsLines}
 use Rattle.dap_model.specs.Shown.{shown}
 use Rattle.xdr_decode.specs.Verdict.{budget}
+use Rattle.xdr_decode.specs.declared.bad.Bad.TheVariants.{Cut}
 use Rattle.dap_client.specs.Shows.{BreaksOff, HasFewValues, StopsWithin}
 use Rattle.dap_client.specs.Verdict.{IsVerdict, bad, dods_form, good, server_error}
 use Rattle.dap_client.specs.inner.Stages.{IsStage, is_open_stage, piece_length}
@@ -29,7 +30,6 @@ HasFailed r = r.stage ≡ stage.Failed
 pub record StandsAfter (reader : BodyReader) (bytes put : List ℕ) : Type 0 where
   pub taken : length bytes ≡ taken_of reader
   pub is_stage : IsStage reader.stage bytes put
-  pub most : length bytes ≤ budget
   pub within : is_open reader ≡ true → length bytes < budget
 
 -- some bytes
@@ -44,22 +44,14 @@ completed n = codes "complete " ++ decimal n ++ codes "\n"
 abbrev pub IsEnded : List ℕ → List ℕ → Ended → Type 0
 IsEnded bytes put ended.Whole = (d : Dataset) × (ts : List Tree) × IsVerdict dods_form bytes (good d ts) × (shown d ts (length bytes) ≡ put ++ completed (length bytes))
 IsEnded bytes put (ended.ServerError e) = IsVerdict dods_form bytes (server_error e) × (put ≡ [])
-IsEnded bytes put (ended.Bad field) = IsVerdict dods_form bytes (bad field.kind field.place) × ShowsLines (take field.place bytes) put
+IsEnded bytes put (ended.Bad field) =
+    ((more : List ℕ) → (field.kind ≡ Cut → more ≡ []) → IsVerdict dods_form (bytes ++ more) (bad field.kind field.place)) × ShowsLines (take field.place bytes) put
 IsEnded bytes put ended.WriteFault = StopsWithin bytes put
 IsEnded bytes put ended.Memory = HasFewValues piece_length bytes × (put ≡ [])
-
--- what is wrong stays so, whatever follows
-abbrev pub StaysBad : List ℕ → Ended → Type 0
-StaysBad bytes (ended.Bad field) = (more : List ℕ) → IsVerdict dods_form (bytes ++ more) (bad field.kind field.place)
-StaysBad bytes e = ⊤
 
 abbrev pub WhereWriteFault : Type 0 → Ended → Type 0
 WhereWriteFault P ended.WriteFault = P
 WhereWriteFault P e = ⊤
-
-abbrev pub StaysBadReply : List ℕ → Outcome → Type 0
-StaysBadReply bytes (outcome.BadReply field) = (more : List ℕ) → IsVerdict dods_form (bytes ++ more) (bad field.kind field.place)
-StaysBadReply bytes o = ⊤
 
 -- the bytes have this outcome: they had put the one text, and the other was put at their end
 abbrev pub IsFinished : List ℕ → List ℕ → List ℕ → Outcome → Type 0

@@ -103,7 +103,7 @@ WhereFailed P stage.Failed = P
 WhereFailed P s = ⊤
 
 -- it looks at further bytes
-abbrev pub is_open_stage : Stage → Bool
+unfoldable pub is_open_stage : Stage → Bool
 is_open_stage (stage.Refused field) = false
 is_open_stage (stage.Full field) = false
 is_open_stage stage.Failed = false
