@@ -1,11 +1,7 @@
-pub mod Begun
-pub mod DasBodies
 pub mod DataLines
-pub mod DdsBodies
-pub mod EveryObject
 pub mod FirstWords
-pub mod Lines
 pub mod Objects
 pub mod OneVerdict
-pub mod Texts
-pub mod Values
+pub mod Behind
+pub mod Told
+pub mod Lifted

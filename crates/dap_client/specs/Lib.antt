@@ -1,4 +1,8 @@
+pub mod After
+pub mod Answered
+pub mod Following
 pub mod Outcomes
+pub mod Replies
 pub mod Shows
 pub mod Verdict
 pub mod inner

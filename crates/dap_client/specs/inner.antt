@@ -1,7 +1,5 @@
-pub mod DasBodies
+pub mod Behind
 pub mod DataLines
-pub mod DdsBodies
 pub mod FirstWords
 pub mod Objects
 pub mod Stages
-pub mod Readers

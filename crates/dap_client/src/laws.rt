@@ -1,16 +1,13 @@
-//! Laws of verdicts, apart from any run of a reader.
-
-ghost use Rattle.std.specs.Prelude.{ℕ, List, ◌⊎◌};
-ghost use Rattle.dap_errors.specs.Reading.{ErrorOf, IsBad, IsCut};
-ghost use Rattle.dap_errors.specs.declared.object.ErrorObject.{ErrorObject};
+//! What the definitions promise of each other. These functions do nothing: their clauses are laws.
+ghost use Rattle.dap_client.specs.Replies.{OneReplyVerdict};
 ghost use Rattle.dap_client.specs.Verdict.{OneVerdict};
 
-/// Of whatever form a body is, one verdict at most is on its bytes.
-pub fn bytes_have_one_verdict()
+/// A body has one verdict at most.
+pub fn one_verdict()
     ensures { OneVerdict }
 {}
 
-/// Each text is an Error object (DAP 2.0, Error objects), bad at a place, or cut.
-pub fn each_text_is_judged()
-    ensures { (text : List ℕ) → ((error : ErrorObject) × ErrorOf text error) ⊎ ((place : ℕ) × IsBad text place) ⊎ IsCut text }
+/// A reply has one verdict at most, where its final head tells how the body is coded.
+pub fn one_reply_verdict()
+    ensures { OneReplyVerdict }
 {}

@@ -4,18 +4,20 @@
 #![tactic(auto)]
 
 mod bytes;
-mod das_body;
 mod data_line;
-mod dds_body;
 mod first_word;
 pub mod laws;
 mod object;
 mod outcome;
 mod reader;
+mod replies;
+mod reply;
 mod showing;
 mod stage;
 #[cfg(test)]
 mod tests;
 
 pub use outcome::Outcome;
+pub use replies::{Replies, Stop};
+pub use reply::read_reply;
 pub use showing::show;

@@ -3,7 +3,7 @@
 ghost use Rattle.std.specs.Prelude.{◌≡◌, ℕ, ◌+◌, ◌^◌, ◌<◌, ◌≤◌, List, [], ◌++◌, ◌∷◌, true, false, not, length, IfOk, MatchOption};
 ghost use Rattle.dap_errors.specs.Reading.{ErrorOf, IsBad, limit};
 ghost use Rattle.dap_errors.specs.declared.object.ErrorObject.{ErrorObject as ErrorValue};
-ghost use Rattle.dap_client.specs.inner.Objects.{IsBehind, IsObjectOf, IsShort};
+ghost use Rattle.dap_client.specs.inner.Objects.{IsBehind, IsObjectOf};
 
 use crate::bytes::is_white;
 use dap_errors::{ErrorObject, ErrorRefusal, read_error};
@@ -44,8 +44,7 @@ fn takes_semicolon(alloc: Global, front: Vec<u8>) -> Result<bool, Memory>
 #[tactic(auto, using(crate::proofs::Objects::bad_stays))]
 fn judged(alloc: Global, front: Vec<u8>) -> Result<Object, Memory>
     requires { length front.items ≡ 65536 }
-    ensures object { IfOk result (IsObjectOf front.items) }
-    ensures short { IfOk result IsShort }
+    ensures { IfOk result (IsObjectOf front.items) }
 {
     match read_error(alloc, front.as_slice()) {
         Ok(object) => {
@@ -77,8 +76,7 @@ fn with_byte(semicolon: bool, byte: u8) -> Option<bool>
 /// Looks at what follows an object. The piece begins at this place.
 fn trail(object: ErrorObject, semicolon: bool, place: u64, piece: &[u8]) -> Object
     requires { place + length piece.now < 2 ^ 64 }
-    ensures object { (bytes : List ℕ) → length bytes ≡ place → IsBehind bytes object semicolon → IsObjectOf (bytes ++ piece.now) result }
-    ensures short { IsShort result }
+    ensures { (bytes : List ℕ) → length bytes ≡ place → IsBehind bytes object semicolon → IsObjectOf (bytes ++ piece.now) result }
 {
     let mut semicolon = semicolon;
     for (at, byte) in piece.iter().enumerate() {
@@ -92,9 +90,9 @@ fn trail(object: ErrorObject, semicolon: bool, place: u64, piece: &[u8]) -> Obje
 
 /// Gathers a piece behind the bytes of an object.
 fn gather(alloc: Global, front: Vec<u8>, piece: &[u8]) -> Result<Object, Memory>
-    requires { length front.items < 65536 }
-    ensures object { IfOk result (IsObjectOf (front.items ++ piece.now)) }
-    ensures short { IfOk result IsShort }
+    requires short { length front.items < 65536 }
+    requires small { length front.items + length piece.now < 2 ^ 63 }
+    ensures { IfOk result (IsObjectOf (front.items ++ piece.now)) }
 {
     let mut front = front;
     let room = LIMIT - front.len();
@@ -110,8 +108,7 @@ impl Object {
     /// What follows a piece of the object, where that begins at this place.
     fn followed(self, place: u64, piece: &[u8]) -> Object
         requires { place + length piece.now < 2 ^ 64 }
-        ensures object { (bytes : List ℕ) → length bytes ≡ place → limit ≤ length bytes → IsObjectOf bytes self → IsObjectOf (bytes ++ piece.now) result }
-        ensures short { IsShort self → IsShort result }
+        ensures { (bytes : List ℕ) → length bytes ≡ place → limit ≤ length bytes → IsObjectOf bytes self → IsObjectOf (bytes ++ piece.now) result }
     {
         match self {
             Object::Behind(object, semicolon) => trail(object, semicolon, place, piece),
@@ -122,10 +119,8 @@ impl Object {
 
     /// Reads one more piece, which begins at this place.
     pub fn read(self, alloc: Global, place: u64, piece: &[u8]) -> Result<Object, Memory>
-        requires small { place + length piece.now < 2 ^ 64 }
-        requires short { IsShort self }
-        ensures object { (bytes : List ℕ) → length bytes ≡ place → IsObjectOf bytes self → IfOk result (IsObjectOf (bytes ++ piece.now)) }
-        ensures short { IfOk result IsShort }
+        requires { place + length piece.now < 2 ^ 64 }
+        ensures { (bytes : List ℕ) → length bytes ≡ place → IsObjectOf bytes self → IfOk result (IsObjectOf (bytes ++ piece.now)) }
     {
         match self {
             Object::Front(front) => gather(alloc, front, piece),

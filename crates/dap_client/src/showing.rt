@@ -11,8 +11,8 @@ ghost use Rattle.dap_client.specs.Verdict.{Verdict, IsVerdict, bad, dods_form, g
 ghost use Rattle.xdr_decode.specs.declared.bad.Bad.TheVariants.{Cut};
 
 use crate::Outcome;
-use crate::reader::BodyReader;
-use crate::stage::BUDGET;
+use crate::reader::{BUDGET, BodyReader};
+use dap_http::Kind;
 use dap_outside::{Failed, Sink, Source};
 use dap_types::Memory;
 use std::alloc::Global;
@@ -77,14 +77,17 @@ pub fn show<I: Source, O: Sink>(alloc: Global, source: &mut I, out: &mut O) -> O
     let Ok(mut room) = piece_room(alloc) else {
         return Outcome::Memory;
     };
-    let mut reader = BodyReader::new(alloc);
-    while reader.is_open() {
-        let most = piece_length(reader.taken());
+    let mut reader = BodyReader::new(alloc, Kind::Dods);
+    loop {
+        let most = piece_length(reader.taken);
         match source.take(&mut room[..most]) {
-            Ok(0) => break,
-            Ok(count) => reader.push(&room[..count], out),
-            Err(Failed) => return Outcome::ReadFault,
+            Ok(0) => return reader.finish(out),
+            Ok(count) => {
+                if let Some(outcome) = reader.push(&room[..count], out) {
+                    return outcome;
+                }
+            }
+            Err(Failed) => return reader.leave(),
         }
     }
-    reader.finish(out)
 }

@@ -1,17 +1,18 @@
 //! The stages of a data response (DAP 2.0, DODS): its DDS, its `Data:` line, its values; or an Error
 //! object in its place. Each takes a piece and says which stage stands behind it.
 
-ghost use Rattle.std.specs.Prelude.{◌≡◌, ℕ, ◌+◌, ◌^◌, ◌<◌, ◌≤◌, List, [], ◌++◌, length, take, true, false, IfOk};
+ghost use Rattle.std.specs.Prelude.{◌≡◌, ℕ, ◌+◌, ◌^◌, ◌<◌, ◌≤◌, List, [], ◌++◌, length};
 ghost use Rattle.dap_types.specs.View.{dataset_view};
 ghost use Rattle.dap_types.specs.WellFormed.{IsWellFormed};
 ghost use Rattle.dap_outside.specs.Causes.{Rose};
-ghost use Rattle.dap_errors.specs.Reading.{limit};
 ghost use Rattle.dap_model.specs.Body.{IsHead};
 ghost use Rattle.dap_model.specs.Received.{HasHead};
-ghost use Rattle.xdr_decode.specs.Verdict.{budget};
+ghost use Rattle.dap_client.specs.Shows.{Gains};
 ghost use Rattle.dap_client.specs.inner.FirstWords.{IsError, IsNoError, IsOpenWord};
 ghost use Rattle.dap_client.specs.inner.Objects.{IsObjectOf};
-ghost use Rattle.dap_client.specs.inner.Stages.{EndsText, HadAll, HasValues, IsFirst, IsInLine, IsStage, Moves, WhereFailed, is_open_stage};
+ghost use Rattle.dap_client.specs.inner.Stages.{HadAll, HasRoom, IsFirst, IsInLine, IsInValues, IsStage, WhereFailed};
+ghost use Rattle.dds_text.specs.Reading.{IsUnfinished};
+ghost use Rattle.xdr_decode.specs.After.{place_of};
 
 use crate::data_line::{DataLine, LineRead};
 use crate::first_word::{FirstWord, Found};
@@ -21,9 +22,6 @@ use dap_types::{Dataset, Memory};
 use dds_text::{DdsReader, DdsStep, print};
 use std::alloc::Global;
 use xdr_decode::{Bad, BadField, Decoder, Pushed};
-
-/// Of a body no more bytes are looked at.
-pub const BUDGET: u64 = 1 << 40;
 
 /// How far the reader of a body is.
 #[derive(Drop)]
@@ -41,8 +39,8 @@ pub enum Stage {
     Values(Decoder),
     /// Something is wrong.
     Refused(BadField),
-    /// As many bytes came as are looked at, and this is wrong.
-    Full(BadField),
+    /// As many bytes came as are looked at, and nothing is wrong.
+    Full,
     /// The sink failed.
     Failed,
     /// Memory was wanted.
@@ -55,20 +53,14 @@ fn refused(kind: Bad, place: u64) -> Stage
     Stage::Refused(BadField { kind, place })
 }
 
-fn full(kind: Bad, place: u64) -> Stage
-    ensures { result ≡ Stage.Full (record { kind = kind; place = place }) }
-{
-    Stage::Full(BadField { kind, place })
-}
-
 /// Reads a piece of the values, which begins at this place.
 fn read_values<O: Sink>(decoder: Decoder, place: u64, piece: &[u8], out: &mut O) -> Stage
-    requires stands { (bytes : List ℕ) × (put : List ℕ) × (length bytes ≡ place) × HasValues decoder bytes put }
+    requires within { place_of decoder ≤ place }
     requires small { place + length piece.now < 2 ^ 63 }
-    ensures stage { (bytes put : List ℕ) → length bytes ≡ place → IsNoError (bytes ++ piece.now) → HasValues decoder bytes put →
-        Moves (O.written out.old) (O.written out.new) (bytes ++ piece.now) put result }
+    ensures stage { (bytes put : List ℕ) → length bytes ≡ place → IsInValues decoder bytes put →
+        Gains (O.written out.old) (O.written out.new) (λ text. IsStage result (bytes ++ piece.now) (put ++ text)) }
+    ensures room { HasRoom (place + length piece.now) result }
     ensures cause { WhereFailed (Rose (O.put_faults out.old) (O.put_faults out.new)) result }
-    ensures counts { O.put_faults out.old ≤ O.put_faults out.new }
     ensures beside { O.beside_writing out.new ≡ O.beside_writing out.old }
 {
     let mut decoder = decoder;
@@ -94,13 +86,13 @@ fn begin_values<O: Sink>(
     piece: &[u8],
     out: &mut O,
 ) -> Stage
-    requires stands { (bytes : List ℕ) × (length bytes ≡ place) × IsHead bytes (dataset_view dataset) × IsWellFormed (dataset_view dataset) }
+    requires well_formed { IsWellFormed (dataset_view dataset) }
     requires small { place + length piece.now < 2 ^ 63 }
     requires few { length piece.now ≤ 65536 }
-    ensures stage { (bytes : List ℕ) → length bytes ≡ place → IsNoError (bytes ++ piece.now) → IsHead bytes (dataset_view dataset) →
-        Moves (O.written out.old) (O.written out.new) (bytes ++ piece.now) [] result }
+    ensures stage { (bytes : List ℕ) → length bytes ≡ place → IsNoError bytes → IsHead bytes (dataset_view dataset) →
+        Gains (O.written out.old) (O.written out.new) (λ text. IsStage result (bytes ++ piece.now) text) }
+    ensures room { HasRoom (place + length piece.now) result }
     ensures cause { WhereFailed (Rose (O.put_faults out.old) (O.put_faults out.new)) result }
-    ensures counts { O.put_faults out.old ≤ O.put_faults out.new }
     ensures beside { O.beside_writing out.new ≡ O.beside_writing out.old }
 {
     let Ok(text) = print(alloc, &dataset) else {
@@ -121,13 +113,13 @@ fn read_line<O: Sink>(
     piece: &[u8],
     out: &mut O,
 ) -> Stage
-    requires stands { (bytes : List ℕ) × (length bytes ≡ place) × IsInLine (dataset_view dataset) line bytes }
+    requires well_formed { IsWellFormed (dataset_view dataset) }
     requires small { place + length piece.now < 2 ^ 63 }
     requires few { length piece.now ≤ 65536 }
-    ensures stage { (bytes : List ℕ) → length bytes ≡ place → IsNoError (bytes ++ piece.now) → IsInLine (dataset_view dataset) line bytes →
-        Moves (O.written out.old) (O.written out.new) (bytes ++ piece.now) [] result }
+    ensures stage { (bytes : List ℕ) → length bytes ≡ place → IsInLine (dataset_view dataset) line bytes →
+        Gains (O.written out.old) (O.written out.new) (λ text. IsStage result (bytes ++ piece.now) text) }
+    ensures room { HasRoom (place + length piece.now) result }
     ensures cause { WhereFailed (Rose (O.put_faults out.old) (O.put_faults out.new)) result }
-    ensures counts { O.put_faults out.old ≤ O.put_faults out.new }
     ensures beside { O.beside_writing out.new ≡ O.beside_writing out.old }
 {
     match line.read(piece) {
@@ -139,29 +131,6 @@ fn read_line<O: Sink>(
     }
 }
 
-/// Goes on behind a DDS, which ended behind so many bytes of a piece.
-fn end_text<O: Sink>(
-    alloc: Global,
-    reader: DdsReader,
-    place: u64,
-    piece: &[u8],
-    out: &mut O,
-) -> Stage
-    requires stands { (bytes : List ℕ) × (length bytes ≡ place) × EndsText reader bytes }
-    requires small { place + length piece.now < 2 ^ 63 }
-    requires few { length piece.now ≤ 65536 }
-    ensures stage { (bytes : List ℕ) → length bytes ≡ place → IsNoError (bytes ++ piece.now) → EndsText reader bytes →
-        Moves (O.written out.old) (O.written out.new) (bytes ++ piece.now) [] result }
-    ensures cause { WhereFailed (Rose (O.put_faults out.old) (O.put_faults out.new)) result }
-    ensures counts { O.put_faults out.old ≤ O.put_faults out.new }
-    ensures beside { O.beside_writing out.new ≡ O.beside_writing out.old }
-{
-    match reader.dataset() {
-        Some(dataset) => read_line(alloc, dataset, DataLine::new(), place, piece, out),
-        None => unreachable!(),
-    }
-}
-
 /// Reads a piece of the DDS, which begins at this place.
 fn read_text<O: Sink>(
     alloc: Global,
@@ -170,21 +139,28 @@ fn read_text<O: Sink>(
     piece: &[u8],
     out: &mut O,
 ) -> Stage
-    requires stands { (bytes : List ℕ) × (length bytes ≡ place) × HadAll reader bytes }
     requires small { place + length piece.now < 2 ^ 63 }
     requires few { length piece.now ≤ 65536 }
     ensures stage { (bytes : List ℕ) → length bytes ≡ place → IsNoError (bytes ++ piece.now) → HadAll reader bytes → ¬ (HasHead bytes) →
-        Moves (O.written out.old) (O.written out.new) (bytes ++ piece.now) [] result }
+        Gains (O.written out.old) (O.written out.new) (λ text. IsStage result (bytes ++ piece.now) text) }
+    ensures room { HasRoom (place + length piece.now) result }
     ensures cause { WhereFailed (Rose (O.put_faults out.old) (O.put_faults out.new)) result }
-    ensures counts { O.put_faults out.old ≤ O.put_faults out.new }
     ensures beside { O.beside_writing out.new ≡ O.beside_writing out.old }
 {
     let mut reader = reader;
     match reader.push(piece) {
         Ok(DdsStep::More) => Stage::Text(reader),
-        Ok(DdsStep::Done { used }) => {
-            end_text(alloc, reader, place + used as u64, &piece[used..], out)
-        }
+        Ok(DdsStep::Done { used }) => match reader.dataset() {
+            Some(dataset) => read_line(
+                alloc,
+                dataset,
+                DataLine::new(),
+                place + used as u64,
+                &piece[used..],
+                out,
+            ),
+            None => unreachable!(),
+        },
         Ok(DdsStep::Bad { place }) => refused(Bad::BadDds, place),
         Err(Memory) => Stage::Spent,
     }
@@ -192,7 +168,6 @@ fn read_text<O: Sink>(
 
 /// Reads a piece of an Error object, which begins at this place.
 fn read_object(alloc: Global, object: Object, place: u64, piece: &[u8]) -> Stage
-    requires stands { (bytes : List ℕ) × (length bytes ≡ place) × IsObjectOf bytes object }
     requires small { place + length piece.now < 2 ^ 63 }
     ensures stage { (bytes : List ℕ) → length bytes ≡ place → IsError (bytes ++ piece.now) → IsObjectOf bytes object → IsStage result (bytes ++ piece.now) [] }
 {
@@ -204,11 +179,8 @@ fn read_object(alloc: Global, object: Object, place: u64, piece: &[u8]) -> Stage
 }
 
 /// Goes on with an Error object, of whose front this much was kept.
-fn begin_object(alloc: Global, word: FirstWord, front: Vec<u8>, place: u64, piece: &[u8]) -> Stage
-    requires stands { (bytes : List ℕ) × (length bytes ≡ place) × IsOpenWord word bytes × (front.items ≡ take limit bytes) }
+fn begin_object(alloc: Global, front: Vec<u8>, place: u64, piece: &[u8]) -> Stage
     requires small { place + length piece.now < 2 ^ 63 }
-    ensures stage { (bytes : List ℕ) → length bytes ≡ place → IsOpenWord word bytes → front.items ≡ take limit bytes → IsError (bytes ++ piece.now) →
-        IsStage result (bytes ++ piece.now) [] }
 {
     if front.len() == LIMIT {
         return refused(Bad::BadError, LIMIT as u64);
@@ -217,10 +189,7 @@ fn begin_object(alloc: Global, word: FirstWord, front: Vec<u8>, place: u64, piec
 }
 
 /// Keeps the bytes of a piece for which there is room in the front of an Error object.
-fn keep(front: &mut Vec<u8>, piece: &[u8]) -> Result<(), Memory>
-    requires { length front.old.items ≤ 65536 }
-    ensures { (bytes : List ℕ) → front.old.items ≡ take limit bytes → IfOk result (λ _. front.new.items ≡ take limit (bytes ++ piece.now)) }
-{
+fn keep(front: &mut Vec<u8>, piece: &[u8]) -> Result<(), Memory> {
     let room = LIMIT - front.len();
     if piece.len() < room {
         front.extend_from_slice(piece)?;
@@ -231,11 +200,7 @@ fn keep(front: &mut Vec<u8>, piece: &[u8]) -> Result<(), Memory>
 }
 
 /// Waits for more of the first word.
-fn wait(word: FirstWord, front: Vec<u8>, reader: DdsReader, piece: &[u8]) -> Stage
-    requires { length front.items ≤ 65536 }
-    ensures { (bytes : List ℕ) → IsOpenWord word (bytes ++ piece.now) → front.items ≡ take limit bytes → HadAll reader bytes →
-        IsStage result (bytes ++ piece.now) [] }
-{
+fn wait(word: FirstWord, front: Vec<u8>, reader: DdsReader, piece: &[u8]) -> Stage {
     let mut front = front;
     let mut reader = reader;
     if keep(&mut front, piece).is_err() || reader.push(piece).is_err() {
@@ -253,49 +218,17 @@ fn read_first<O: Sink>(
     place: u64,
     piece: &[u8],
     out: &mut O,
-) -> Stage
-    requires stands { (bytes : List ℕ) × (length bytes ≡ place) × IsFirst word front.items reader bytes }
-    requires small { place + length piece.now < 2 ^ 63 }
-    requires few { length piece.now ≤ 65536 }
-    ensures stage { (bytes : List ℕ) → length bytes ≡ place → IsFirst word front.items reader bytes →
-        Moves (O.written out.old) (O.written out.new) (bytes ++ piece.now) [] result }
-    ensures cause { WhereFailed (Rose (O.put_faults out.old) (O.put_faults out.new)) result }
-    ensures counts { O.put_faults out.old ≤ O.put_faults out.new }
-    ensures beside { O.beside_writing out.new ≡ O.beside_writing out.old }
-{
+) -> Stage {
     match word.read(piece) {
         Found::Open(word) => wait(word, front, reader, piece),
-        Found::Error => begin_object(alloc, word, front, place, piece),
+        Found::Error => begin_object(alloc, front, place, piece),
         Found::Other => read_text(alloc, reader, place, piece, out),
-    }
-}
-
-/// The same before the first word is known.
-fn fill_first(reader: DdsReader) -> Stage
-    ensures stage { (bytes : List ℕ) → length bytes ≡ budget → (word : FirstWord) → IsOpenWord word bytes → HadAll reader bytes → IsStage result bytes [] }
-    ensures closed { is_open_stage result ≡ false }
-{
-    let mut reader = reader;
-    match reader.push(&[]) {
-        Ok(DdsStep::Bad { place }) => full(Bad::BadDds, place),
-        Ok(DdsStep::More) | Ok(DdsStep::Done { used: _ }) => full(Bad::TooLong, BUDGET),
-        Err(Memory) => Stage::Spent,
     }
 }
 
 impl Stage {
     /// Reads one more piece, which begins at this place.
-    pub fn read<O: Sink>(self, alloc: Global, place: u64, piece: &[u8], out: &mut O) -> Stage
-        requires stands { (bytes : List ℕ) × (put : List ℕ) × (length bytes ≡ place) × IsStage self bytes put }
-        requires still_open { is_open_stage self ≡ true }
-        requires small { place + length piece.now < 2 ^ 63 }
-        requires few { length piece.now ≤ 65536 }
-        ensures stage { (bytes put : List ℕ) → length bytes ≡ place → IsStage self bytes put →
-            Moves (O.written out.old) (O.written out.new) (bytes ++ piece.now) put result }
-        ensures cause { WhereFailed (Rose (O.put_faults out.old) (O.put_faults out.new)) result }
-        ensures counts { O.put_faults out.old ≤ O.put_faults out.new }
-        ensures beside { O.beside_writing out.new ≡ O.beside_writing out.old }
-    {
+    pub fn read<O: Sink>(self, alloc: Global, place: u64, piece: &[u8], out: &mut O) -> Stage {
         match self {
             Stage::First(word, front, reader) => {
                 read_first(alloc, word, front, reader, place, piece, out)
@@ -305,41 +238,24 @@ impl Stage {
             Stage::Line(dataset, line) => read_line(alloc, dataset, line, place, piece, out),
             Stage::Values(decoder) => read_values(decoder, place, piece, out),
             Stage::Refused(field) => Stage::Refused(field),
-            Stage::Full(field) => Stage::Full(field),
+            Stage::Full => Stage::Full,
             Stage::Failed => Stage::Failed,
             Stage::Spent => Stage::Spent,
-        }
-    }
-
-    /// Whether it looks at further bytes.
-    pub fn is_open(&self) -> bool
-        ensures { result ≡ is_open_stage self.now }
-    {
-        match self {
-            Stage::First(..)
-            | Stage::Error(_)
-            | Stage::Text(_)
-            | Stage::Line(..)
-            | Stage::Values(_) => true,
-            Stage::Refused(_) | Stage::Full(_) | Stage::Failed | Stage::Spent => false,
         }
     }
 
     /// The stage once as many bytes came as are looked at.
-    pub fn filled(self) -> Stage
-        ensures stage { (bytes put : List ℕ) → length bytes ≡ budget → IsStage self bytes put → IsStage result bytes put }
-        ensures closed { is_open_stage result ≡ false }
-    {
+    pub fn filled(self) -> Stage {
         match self {
-            Stage::First(_, _, reader) => fill_first(reader),
-            Stage::Error(Object::Bad(place)) => refused(Bad::BadError, place),
             Stage::Refused(field) => Stage::Refused(field),
-            Stage::Full(field) => Stage::Full(field),
             Stage::Failed => Stage::Failed,
             Stage::Spent => Stage::Spent,
-            Stage::Error(_) | Stage::Text(_) | Stage::Line(..) | Stage::Values(_) => {
-                full(Bad::TooLong, BUDGET)
-            }
+            Stage::First(..)
+            | Stage::Error(_)
+            | Stage::Text(_)
+            | Stage::Line(..)
+            | Stage::Values(_)
+            | Stage::Full => Stage::Full,
         }
     }
 }

@@ -20,11 +20,6 @@ pub record IsBehind (bytes : List ℕ) (object : ErrorObject) (semicolon : Bool)
   pub ends : EndsAt bytes behind object
   pub trail : IsTrail semicolon (drop behind bytes)
 
--- what it says apart from any bytes: a front is shorter than the limit
-abbrev pub IsShort : Object → Type 0
-IsShort (Front front) = length front.items < limit
-IsShort object = ⊤
-
 abbrev pub IsObjectOf : List ℕ → Object → Type 0
 IsObjectOf bytes (Front front) = (front.items ≡ bytes) × (length bytes < limit)
 IsObjectOf bytes (Behind object semicolon) = IsBehind bytes object semicolon
