@@ -216,6 +216,9 @@ fn fronts_are_cut_and_want_more(rt: HostRuntime) -> Result<(), Fail> {
         );
     }
     let long = changed(alloc, 68, 0, 257)?;
+    if long.len() < 76 || bytes.len() < 187 {
+        return Err(Fail::new("too short"));
+    }
     let fronts: [(&[u8], u64, Result<bool, HeaderRefusal>); 6] = [
         (&long[..75], 220, Ok(true)),
         (&long[..76], 220, Err(HeaderRefusal::BadField { place: 68 })),
