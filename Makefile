@@ -1,8 +1,9 @@
-# Builds the proved program, answers the sample, and shows the answer.
+# Builds the proved program, answers the samples, a whole table and a part of a netCDF file, and shows the answers.
 
 .PHONY: demo
 demo: bin/dap2
 	cd examples && ../bin/dap2 answer buoys.csv.dods | ../bin/dap2 show
+	cd examples && ../bin/dap2 answer 'sea.nc.dds?sst[0:1][1:2][0:3:3]'
 
 # rt proves what has changed and builds the program; run with no words the program ends with 2, which is no failure of
 # the build. What an earlier build left is removed first, so that a failed one leaves nothing to copy.

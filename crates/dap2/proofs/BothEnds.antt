@@ -12,7 +12,7 @@ use Rattle.dap_model.specs.Xdr.{Spells, xdr}
 use Rattle.dap_types.specs.Model.{Dataset, scalar, Tree}
 use Rattle.dap_types.specs.WellFormed.{Place, place, leaf_places, places_of, elements_of}
 use Rattle.dap_types.specs.declared.declarations.Column.{Column}
-use Rattle.xdr_decode.specs.Verdict.{budget, IsGood}
+use Rattle.plain_decode.specs.Verdict.{budget, IsGood}
 use Rattle.dap2.specs.Laws.{AnsweredIsGood}
 use Rattle.dap2.proofs.PlainNames.{plain-dataset}
 

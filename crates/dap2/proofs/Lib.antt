@@ -1,6 +1,7 @@
+pub mod Answering
 pub mod BothEnds
-pub mod Causes
+pub mod Commanding
+pub mod Obeying
 pub mod Pieces
 pub mod PlainNames
-pub mod Tables
-pub mod Whole
+pub mod Visiting

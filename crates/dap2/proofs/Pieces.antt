@@ -8,8 +8,8 @@ use Rattle.dap_outside.proofs.Fronts.{front_more, front_of}
 use Rattle.dap_outside.specs.Causes.{HasCause, Rose}
 use Rattle.dap_outside.specs.Streams.{AppendsFront}
 use Rattle.dap2.specs.Lines.{IsSaid, bad_reply_line}
-use Rattle.xdr_decode.specs.Bads.{bad_name}
-use Rattle.xdr_decode.specs.declared.bad.BadField.{BadField}
+use Rattle.plain_decode.specs.Bads.{bad_name}
+use Rattle.plain_decode.specs.declared.bad.BadField.{BadField}
 
 -- all pieces, from the ones before a place, that one, and those behind it
 pieces-at : (pieces : List (Bor (List ℕ))) (i : ℕ) (d : Bor (List ℕ)) → i < length pieces

@@ -1,176 +1,120 @@
--- What the command `answer` answers: a plain target names a file, and the file is a table, which is sent
--- or too large, or it is damaged. Where a shelf does not tell its files, it may have any.
-use Rattle.std.specs.Prelude.{◌≡◌, ℕ, ◌⊎◌, List, Option, Some, None, Ok, Err, ⊤}
-use Rattle.std.specs.Io.KnownBytes.{Appends}
-use Rattle.dap_errors.specs.Causes.{error_code, message_text}
-use Rattle.dap_errors.specs.Printed.{error_text}
+-- What the command `answer` says: the result of a target, by its text or by the Error object for its first
+-- cause. Where a shelf does not tell its files, it may have any.
+use Rattle.std.specs.Prelude.{◌≡◌, ℕ, ◌+◌, ◌≤◌, ⊤, ◌⊎◌, Bool, true, false, ◌&&◌, List, [], Option, Some, None, IsTrue, Result, Ok, Err}
+use Rattle.std.specs.Option.{option_map_or}
+use Rattle.dap_errors.specs.Causes.{message_text}
 use Rattle.dap_errors.specs.declared.cause.Cause.{Cause}
-use Rattle.dap_errors.specs.declared.cause.Cause.TheVariants.{TooLarge, NoFile, Damaged}
+use Rattle.dap_errors.specs.declared.cause.Cause.TheVariants as causes
 use Rattle.dap_errors.specs.declared.file_cause.FileCause.{FileCause}
-use Rattle.dap_errors.specs.declared.file_cause.FileCause.TheVariants as file
-use Rattle.dap_outside.specs.Causes.{Rose}
+use Rattle.dap_http.specs.Targets.{Asked, target_of}
+use Rattle.dap_http.specs.declared.kind.Kind.{Kind}
+use Rattle.dap_http.specs.declared.kind.Kind.TheVariants.{Dds, Das, Dods, Ver}
 use Rattle.dap_outside.specs.Files.{Told}
-use Rattle.csv_source.specs.Causes.{table_of}
-use Rattle.csv_source.specs.Dataset.{table_dataset, table_trees}
-use Rattle.csv_source.specs.Table.{CsvTable}
-use Rattle.csv_source.specs.declared.refusal.TableRefusal.{TableRefusal}
-use Rattle.csv_source.specs.declared.refusal.TableRefusal.TheVariants as table
-use Rattle.dap_model.specs.Body.{body, too_large}
-use Rattle.dap2.specs.Lines.{IsSaid, damaged_line, refused_line}
-use Rattle.dap2.specs.Words.{AreAnswer, Names}
-use Rattle.dap2.specs.declared.no_body.NoBody.{NoBody}
-use Rattle.dap2.specs.declared.no_body.NoBody.TheVariants as why
+use Rattle.dap_server.specs.Costs.{IsCost, IsCostAt, asks_shelf, most_first}
+use Rattle.dap_server.specs.Files.{Files, Form, MayHave, form_of, netcdf, table}
+use Rattle.dap_server.specs.Prepared.{MayGive}
+use Rattle.dap_server.specs.Results.{Results, Text, error_object, put_of, text_of}
+use Rattle.xdr_encode.specs.Streamed.{Stops}
+use Rattle.dap2.specs.Lines.{damaged_line, refused_line}
 use Rattle.dap2.specs.declared.status.Status.{Status}
-use Rattle.dap2.specs.declared.status.Status.TheVariants.{WriteFault, Memory}
+use Rattle.dap2.specs.declared.status.Status.TheVariants.{Complete, Words, Refused, Damaged, BadReply, ReadFault, WriteFault, LinkFault, Memory, Unbuilt}
 
--- the files hold one of that name, of these bytes
-abbrev pub HasFile : Told → List ℕ → List ℕ → Type 0
-HasFile None file bytes = ⊤
-HasFile (Some files) file bytes = files file ≡ Some bytes
+-- the files that the shelf may have give that result
+abbrev pub MayResult : Told → List ℕ → Result Text Cause → Type 0
+MayResult told target r = (files : Files) × MayHave told files × Results target files r
 
-abbrev pub HasNoFile : Told → List ℕ → Type 0
-HasNoFile None file = ⊤
-HasNoFile (Some files) file = files file ≡ None
+-- all files that it may have give it
+abbrev pub MustResult : Told → List ℕ → Result Text Cause → Type 0
+MustResult told target r = (files : Files) → MayHave told files → Results target files r
 
--- the bytes that a file tells, or any where it tells none
-abbrev pub IsRead : Option (List ℕ) → List ℕ → Type 0
-IsRead None bytes = ⊤
-IsRead (Some told) bytes = bytes ≡ told
+-- a cause in a file, or another one
+abbrev pub status_of : Cause → Status
+status_of (causes.Damaged why) = Damaged
+status_of (causes.Syntax place) = Refused
+status_of (causes.UnknownName spot) = Refused
+status_of (causes.NotArray spot) = Refused
+status_of (causes.SlabCount spot) = Refused
+status_of (causes.BadSlab spot) = Refused
+status_of (causes.TwoSlabs spot) = Refused
+status_of (causes.TooMany spot) = Refused
+status_of (causes.NotColumn spot) = Refused
+status_of (causes.TypeMismatch spot) = Refused
+status_of (causes.FloatCompared spot) = Refused
+status_of (causes.Unsupported spot) = Refused
+status_of (causes.BigNumber spot) = Refused
+status_of (causes.TooLarge leaf) = Refused
+status_of causes.BadTarget = Refused
+status_of causes.NoFile = Refused
+status_of causes.BadMethod = Refused
+status_of causes.BadRequest = Refused
+status_of causes.HeadTooLong = Refused
+status_of causes.ReadFailed = Refused
+status_of causes.OutOfMemory = Refused
 
--- the bytes of a file of that name are a table that is not too large, and the text is the body of its
--- data response
-pub record IsBodyOf (file bytes text : List ℕ) : Type 0 where
-  pub table : CsvTable
-  pub is_table : table_of file bytes ≡ Ok table
-  pub is_small : too_large (table_dataset table) ≡ None
-  pub is_body : text ≡ body (table_dataset table) (table_trees table)
+abbrev pub status_for : Result Text Cause → Status
+status_for (Ok t) = Complete
+status_for (Err cause) = status_of cause
 
--- they are a table that is not sent, because of this leaf of its dataset, or of its DDS where it is 0
-pub record IsTooLargeBy (file bytes : List ℕ) (leaf : ℕ) : Type 0 where
-  pub table : CsvTable
-  pub is_table : table_of file bytes ≡ Ok table
-  pub is_large : too_large (table_dataset table) ≡ Some leaf
+-- the target looks for a file
+abbrev pub looks_up : List ℕ → Bool
+looks_up target = option_map_or asks_shelf (target_of target) false
 
--- the first cause of a table as that of a file. Want of memory is none
-abbrev pub file_cause : TableRefusal → Option FileCause
-file_cause table.TooLong = Some file.TooLong
-file_cause table.NoHeader = Some file.NoHeader
-file_cause table.TooWide = Some file.TooWide
-file_cause (table.RepeatedColumn column) = Some (file.RepeatedColumn column)
-file_cause (table.Ragged row) = Some (file.Ragged row)
-file_cause (table.BadCell row column) = Some (file.BadCell row column)
-file_cause table.Memory = None
+-- the values of a netCDF file are read as they are put, all else before
+abbrev pub is_data : Kind → Bool
+is_data Dods = true
+is_data Dds = false
+is_data Das = false
+is_data Ver = false
 
--- the bytes of a file of that name have this first cause
-pub record IsDamagedBy (file bytes : List ℕ) (cause : FileCause) : Type 0 where
-  pub refusal : TableRefusal
-  pub is_first : table_of file bytes ≡ Err refusal
-  pub is_cause : file_cause refusal ≡ Some cause
+abbrev pub is_netcdf : Option Form → Bool
+is_netcdf (Some netcdf) = true
+is_netcdf (Some table) = false
+is_netcdf None = false
 
--- why there is no body for a table
-abbrev pub IsWhyOfTable : CsvTable → NoBody → Type 0
-IsWhyOfTable t (why.TooLarge leaf) = too_large (table_dataset t) ≡ Some leaf
-IsWhyOfTable t why.Memory = ⊤
-IsWhyOfTable t why.NoFile = ⊥
-IsWhyOfTable t (why.Damaged cause) = ⊥
-IsWhyOfTable t why.ReadFault = ⊥
+abbrev pub is_read_late : List ℕ → Bool
+is_read_late target = option_map_or (λ a. is_data a.kind && is_netcdf (form_of a.name)) (target_of target) false
 
--- why there is no body for the bytes of a file, why they were not read, why there is no body for a file
--- with this content, and for a name of one; the counts of faults are those of the shelf before and after
-abbrev pub IsWhyOfBytes : List ℕ → List ℕ → NoBody → Type 0
-IsWhyOfBytes file bytes (why.TooLarge leaf) = IsTooLargeBy file bytes leaf
-IsWhyOfBytes file bytes (why.Damaged cause) = IsDamagedBy file bytes cause
-IsWhyOfBytes file bytes why.Memory = ⊤
-IsWhyOfBytes file bytes why.NoFile = ⊥
-IsWhyOfBytes file bytes why.ReadFault = ⊥
+-- what is put of an answer is known where the files are told; else where it was read before
+abbrev pub WhereKnown : Told → List ℕ → Result Text Cause → Type 0 → Type 0
+WhereKnown (Some files) target r P = P
+WhereKnown None target (Err cause) P = P
+WhereKnown None target (Ok t) P = is_read_late target ≡ false → P
 
-abbrev pub IsWhyNotRead : ℕ → ℕ → NoBody → Type 0
-IsWhyNotRead before now why.ReadFault = Rose before now
-IsWhyNotRead before now why.Memory = ⊤
-IsWhyNotRead before now why.NoFile = ⊥
-IsWhyNotRead before now (why.TooLarge leaf) = ⊥
-IsWhyNotRead before now (why.Damaged cause) = ⊥
+-- by the status: what was put of which result, whole or a front of it, and the line that says a cause
+abbrev pub AnswerSays : Told → List ℕ → (List ℕ → Type 0) → (List ℕ → Type 0) → (List ℕ → Type 0) → Status → Type 0
+AnswerSays told target Out Front Line Complete = (t : Text) × MayResult told target (Ok t) × WhereKnown told target (Ok t) (Out t.text)
+AnswerSays told target Out Front Line Refused =
+    (cause : Cause) × MayResult told target (Err cause) × (status_of cause ≡ Refused) × Out (error_object cause) × Line (refused_line (message_text cause))
+AnswerSays told target Out Front Line Damaged =
+    (why : FileCause) × MayResult told target (Err (causes.Damaged why)) × Out (error_object (causes.Damaged why)) × Line (damaged_line (message_text (causes.Damaged why)))
+AnswerSays told target Out Front Line ReadFault =
+    IsTrue (looks_up target)
+    × (Out [] ⊎ ((text : List ℕ) × MayResult told target (Ok (text_of Dods text)) × WhereKnown told target (Ok (text_of Dods text)) (Front text)))
+AnswerSays told target Out Front Line WriteFault = (r : Result Text Cause) × MayResult told target r × WhereKnown told target r (Front (put_of r))
+AnswerSays told target Out Front Line Memory = Out []
+AnswerSays told target Out Front Line Words = ⊥
+AnswerSays told target Out Front Line BadReply = ⊥
+AnswerSays told target Out Front Line LinkFault = ⊥
+AnswerSays told target Out Front Line Unbuilt = ⊥
 
-abbrev pub IsWhyOfFile : List ℕ → Option (List ℕ) → ℕ → ℕ → NoBody → Type 0
-IsWhyOfFile file content before now (why.TooLarge leaf) = (bytes : List ℕ) × IsRead content bytes × IsTooLargeBy file bytes leaf
-IsWhyOfFile file content before now (why.Damaged cause) = (bytes : List ℕ) × IsRead content bytes × IsDamagedBy file bytes cause
-IsWhyOfFile file content before now why.ReadFault = Rose before now
-IsWhyOfFile file content before now why.Memory = ⊤
-IsWhyOfFile file content before now why.NoFile = ⊥
+-- the values of a data response may be asked for, and of no other answer
+abbrev pub IsCostOf : Told → Asked → ℕ → Type 0
+IsCostOf told a cost = (cost ≡ 0) ⊎ (((text : List ℕ) × MayGive told a (Ok (text_of Dods text))) × IsCost told a cost)
 
-abbrev pub IsWhy : Told → List ℕ → ℕ → ℕ → NoBody → Type 0
-IsWhy files file before now why.NoFile = HasNoFile files file
-IsWhy files file before now (why.TooLarge leaf) = (bytes : List ℕ) × HasFile files file bytes × IsTooLargeBy file bytes leaf
-IsWhy files file before now (why.Damaged cause) = (bytes : List ℕ) × HasFile files file bytes × IsDamagedBy file bytes cause
-IsWhy files file before now why.ReadFault = Rose before now
-IsWhy files file before now why.Memory = ⊤
+-- the most that is asked for a target: the first read of its file, and the cost of its values
+abbrev pub MayAskAs : Told → Option Asked → ℕ → Type 0
+MayAskAs told None most = most ≡ 0
+MayAskAs told (Some a) most = (cost : ℕ) × IsCostOf told a cost × (most ≡ most_first told a.name + cost)
 
--- the Error object for a cause
-abbrev pub error_object : Cause → List ℕ
-error_object cause = error_text (error_code cause) (message_text cause)
+abbrev pub MayAskFor : Told → List ℕ → ℕ → Type 0
+MayAskFor told target most = MayAskAs told (target_of target) most
 
--- the target names a file that is a table, and the text is the body of the data response for its
--- dataset and trees
-pub record AnswersBody (target : List ℕ) (files : Told) (text : List ℕ) : Type 0 where
-  pub file : List ℕ
-  pub bytes : List ℕ
-  pub names : Names target file
-  pub there : HasFile files file bytes
-  pub is_body : IsBodyOf file bytes text
+-- the same where a write failed: of the values no more than the batches that begin in what was put
+abbrev pub MayHaveAskedAs : Told → Option Asked → Option (List ℕ) → Option (List ℕ) → ℕ → ℕ → Type 0
+MayHaveAskedAs told None old new before now = now ≤ before
+MayHaveAskedAs told (Some a) old new before now =
+    (now ≤ before + most_first told a.name)
+    ⊎ ((text : List ℕ) × MayGive told a (Ok (text_of Dods text)) × Stops text (IsCostAt told a) old new (before + most_first told a.name) now)
 
--- the target names a file that is not there
-pub record IsMissing (target : List ℕ) (files : Told) : Type 0 where
-  pub file : List ℕ
-  pub names : Names target file
-  pub not_there : HasNoFile files file
-
--- the target names a file that is a table, and it is too large in this way
-pub record IsTooLarge (target : List ℕ) (files : Told) (leaf : ℕ) : Type 0 where
-  pub file : List ℕ
-  pub bytes : List ℕ
-  pub names : Names target file
-  pub there : HasFile files file bytes
-  pub is_large : IsTooLargeBy file bytes leaf
-
--- it is refused for this cause
-abbrev pub IsRefused : List ℕ → Told → Cause → Type 0
-IsRefused target files cause = ((cause ≡ NoFile) × IsMissing target files) ⊎ ((leaf : ℕ) × (cause ≡ TooLarge leaf) × IsTooLarge target files leaf)
-
--- the target names a file that is damaged in this way
-pub record IsDamaged (target : List ℕ) (files : Told) (cause : FileCause) : Type 0 where
-  pub file : List ℕ
-  pub bytes : List ℕ
-  pub names : Names target file
-  pub there : HasFile files file bytes
-  pub is_damaged : IsDamagedBy file bytes cause
-
--- the text that a target is answered with: a body, or the Error object for the first cause
-abbrev pub Answers : List ℕ → Told → List ℕ → Type 0
-Answers target files text =
-    AnswersBody target files text
-    ⊎ (((cause : Cause) × IsRefused target files cause × (text ≡ error_object cause))
-    ⊎ ((cause : FileCause) × IsDamaged target files cause × (text ≡ error_object (Damaged cause))))
-
--- the text was put, and this is the status; or a put failed, or memory was wanted
-abbrev pub IsPut : Status → Status → Type 0
-IsPut done status = (status ≡ done) ⊎ ((status ≡ WriteFault) ⊎ (status ≡ Memory))
-
--- the target is refused for this cause, the sink of the output gained the Error object for it, and that
--- of the errors the line that says it, or where its count rose a front of it
-pub record TellsRefusal (target : List ℕ) (files : Told) (out_old out_new : Option (List ℕ)) (before now : ℕ) (err_old err_new : Option (List ℕ)) : Type 0 where
-  pub cause : Cause
-  pub is_refused : IsRefused target files cause
-  pub object : Appends out_old out_new (error_object cause)
-  pub line : IsSaid (refused_line (message_text cause)) before now err_old err_new
-
--- the file has this cause, the sink of the output gained the Error object for it, and that of the
--- errors the line that says it, or where its count rose a front of it
-pub record TellsDamage (target : List ℕ) (files : Told) (out_old out_new : Option (List ℕ)) (before now : ℕ) (err_old err_new : Option (List ℕ)) : Type 0 where
-  pub cause : FileCause
-  pub is_damaged : IsDamaged target files cause
-  pub object : Appends out_old out_new (error_object (Damaged cause))
-  pub line : IsSaid (damaged_line (message_text (Damaged cause))) before now err_old err_new
-
--- the words are `answer` and such a target
-abbrev pub Asks : List (List ℕ) → (List ℕ → Type 0) → Type 0
-Asks words P = (target : List ℕ) × AreAnswer words target × P target
+abbrev pub MayHaveAsked : Told → List ℕ → Option (List ℕ) → Option (List ℕ) → ℕ → ℕ → Type 0
+MayHaveAsked told target old new before now = MayHaveAskedAs told (target_of target) old new before now

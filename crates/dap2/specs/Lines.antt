@@ -5,9 +5,9 @@ use Rattle.std.specs.Io.KnownBytes.{Appends}
 use Rattle.dap_outside.specs.Causes.{Rose}
 use Rattle.dap_outside.specs.Streams.{AppendsFront}
 use Rattle.dap2.specs.declared.status.Status.{Status}
-use Rattle.dap2.specs.declared.status.Status.TheVariants.{Complete, Words, Refused, Damaged, BadReply, ReadFault, WriteFault, Memory, Unbuilt}
-use Rattle.xdr_decode.specs.Bads.{bad_name}
-use Rattle.xdr_decode.specs.declared.bad.BadField.{BadField}
+use Rattle.dap2.specs.declared.status.Status.TheVariants.{Complete, Words, Refused, Damaged, BadReply, ReadFault, WriteFault, LinkFault, Memory, Unbuilt}
+use Rattle.plain_decode.specs.Bads.{bad_name}
+use Rattle.plain_decode.specs.declared.bad.BadField.{BadField}
 
 -- with which the program ends
 abbrev pub number_of : Status → ℕ
@@ -18,18 +18,20 @@ number_of Damaged = 4
 number_of BadReply = 5
 number_of ReadFault = 7
 number_of WriteFault = 8
+number_of LinkFault = 9
 number_of Memory = 10
 number_of Unbuilt = 11
 
 -- for standard error. Those of a refusal, of a damaged file and of a bad reply say what is wrong
 abbrev pub line_of : Status → Option (List ℕ)
 line_of Complete = None
-line_of Words = Some (codes "usage: dap2 answer TARGET | show\n")
+line_of Words = Some (codes "usage: dap2 answer TARGET [WORKERS] | show | serve PORT WORKERS REQUESTS | ver\n")
 line_of Refused = None
 line_of Damaged = None
 line_of BadReply = None
 line_of ReadFault = Some (codes "dap2: read fault\n")
 line_of WriteFault = Some (codes "dap2: write fault\n")
+line_of LinkFault = Some (codes "dap2: link fault\n")
 line_of Memory = Some (codes "dap2: out of memory\n")
 line_of Unbuilt = Some (codes "dap2: not built\n")
 

@@ -1,7 +1,7 @@
 -- What the command `show` answers: the verdict on the data response that comes in.
 use Rattle.std.specs.Prelude.{◌≡◌, ℕ, List, Option, ⊤}
-use Rattle.xdr_decode.specs.Verdict.{Verdict, good, wrong, unbuilt, IsVerdict}
-use Rattle.xdr_decode.specs.declared.bad.BadField.{BadField}
+use Rattle.plain_decode.specs.Verdict.{Verdict, good, wrong, unbuilt, IsVerdict}
+use Rattle.plain_decode.specs.declared.bad.BadField.{BadField}
 use Rattle.dap2.specs.declared.status.Status.{Status}
 use Rattle.dap2.specs.declared.status.Status.TheVariants.{Complete, BadReply, ReadFault, WriteFault, Memory, Unbuilt}
 use Rattle.dap2.specs.Lines.{IsSaid, bad_reply_line}

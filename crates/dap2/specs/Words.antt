@@ -1,29 +1,46 @@
--- The words of a command line, and the targets that are built.
-use Rattle.std.specs.Prelude.{◌≡◌, ℕ, List, [], ◌∷◌, ◌++◌, ◌⊎◌, codes}
-use Rattle.dap_model.specs.Plain.{IsPlainName}
+-- The words of a command line (this project's).
+use Rattle.std.specs.Prelude.{◌≡◌, ℕ, ◌≤◌, List, [], ◌∷◌, ◌⊎◌, IsTrue, codes}
+use Rattle.std.specs.Str.Parse.{digits_value}
+use Rattle.viable.specs.Numerals.{is_numeral}
 use Rattle.dap2.specs.declared.command.Command.{Command}
-use Rattle.dap2.specs.declared.command.Command.TheVariants.{Answer, Show, Other}
+use Rattle.dap2.specs.declared.command.Command.TheVariants.{Answer, Show, Serve, Ver, Other}
 
--- `answer TARGET`
-abbrev pub AreAnswer : List (List ℕ) → List ℕ → Type 0
-AreAnswer words target = words ≡ codes "answer" ∷ target ∷ []
+-- the word is a number from 1 to that one, in 1 to 20 digits
+abbrev pub IsNumber : ℕ → List ℕ → ℕ → Type 0
+IsNumber most word n = IsTrue (is_numeral 20 word) × (n ≡ digits_value 10 word) × (1 ≤ n) × (n ≤ most)
+
+-- `answer TARGET`, which is with 1 worker, or `answer TARGET WORKERS`
+abbrev pub AreAnswer : List (List ℕ) → List ℕ → ℕ → Type 0
+AreAnswer words target workers =
+    ((words ≡ codes "answer" ∷ target ∷ []) × (workers ≡ 1))
+    ⊎ ((word : List ℕ) × (words ≡ codes "answer" ∷ target ∷ word ∷ []) × IsNumber 64 word workers)
 
 -- `show`
 abbrev pub IsShow : List (List ℕ) → Type 0
 IsShow words = words ≡ codes "show" ∷ []
 
+-- `serve PORT WORKERS REQUESTS`
+abbrev pub AreServe : List (List ℕ) → ℕ → ℕ → ℕ → Type 0
+AreServe words port workers requests =
+    (port_word : List ℕ) × (workers_word : List ℕ) × (requests_word : List ℕ)
+    × (words ≡ codes "serve" ∷ port_word ∷ workers_word ∷ requests_word ∷ [])
+    × IsNumber 65535 port_word port × IsNumber 64 workers_word workers × IsNumber 1000000000 requests_word requests
+
+-- `ver`
+abbrev pub IsVer : List (List ℕ) → Type 0
+IsVer words = words ≡ codes "ver" ∷ []
+
+-- `serve` with some numbers
+abbrev pub IsServe : List (List ℕ) → Type 0
+IsServe words = (port : ℕ) × (workers : ℕ) × (requests : ℕ) × AreServe words port workers requests
+
 abbrev pub IsCommand : List (List ℕ) → Type 0
-IsCommand words = ((target : List ℕ) × AreAnswer words target) ⊎ IsShow words
+IsCommand words = ((target : List ℕ) × (workers : ℕ) × AreAnswer words target workers) ⊎ (IsShow words ⊎ (IsServe words ⊎ IsVer words))
 
 -- what the words ask for
 abbrev pub Reads : List (List ℕ) → Command → Type 0
-Reads words (Answer target) = AreAnswer words target.now
+Reads words (Answer target workers) = AreAnswer words target.now workers × (1 ≤ workers) × (workers ≤ 64)
 Reads words Show = IsShow words
+Reads words (Serve port workers requests) = AreServe words port workers requests
+Reads words Ver = IsVer words
 Reads words Other = ¬ (IsCommand words)
-
--- the target asks for the values of that file: a plain name, `.csv`, and `.dods` behind them
-abbrev pub Names : List ℕ → List ℕ → Type 0
-Names target file = (name : List ℕ) × IsPlainName name × (file ≡ name ++ codes ".csv") × (target ≡ file ++ codes ".dods")
-
-abbrev pub IsBuilt : List ℕ → Type 0
-IsBuilt target = (file : List ℕ) × Names target file

@@ -6,11 +6,11 @@ ghost use Rattle.dap_outside.specs.Streams.{AppendsFront};
 ghost use Rattle.dap2.specs.Lines.{IsSaid, bad_reply_line, cause_line};
 
 use dap_outside::{Failed, Sink, put_all};
-use xdr_decode::BadField;
+use plain_decode::BadField;
 
 /// Puts the pieces, one after the other. Fails only where the count of faults rose, and then a front
 /// of them is put.
-fn put_each<O: Sink>(out: &mut O, pieces: &[&[u8]]) -> Result<(), Failed>
+pub fn put_each<O: Sink>(out: &mut O, pieces: &[&[u8]]) -> Result<(), Failed>
     ensures ok { OnOk result (Appends (O.written out.old) (O.written out.new) (flat_map (λ piece. piece.now) pieces.now)) }
     ensures err { OnErr result (AppendsFront (O.written out.old) (O.written out.new) (flat_map (λ piece. piece.now) pieces.now)) }
     ensures cause { HasCause (O.put_faults out.old) (O.put_faults out.new) result }

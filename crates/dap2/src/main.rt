@@ -5,19 +5,19 @@
 
 mod answer;
 mod command;
-mod file_body;
 mod folder_shelf;
 mod laws;
 mod lines;
-mod no_body;
+mod numbers;
 mod run;
+mod serve;
 mod show;
 mod status;
 mod std_streams;
-mod table_body;
+mod tcp;
 #[cfg(test)]
 mod tests;
-mod words;
+mod ver;
 
 use dap_types::{List, Memory, Name};
 use folder_shelf::FolderShelf;
@@ -29,6 +29,7 @@ use std::process::ExitCode;
 use std::rt::Env;
 use std::thread::Threads;
 use std_streams::{StdSink, StdSource};
+use tcp::{TcpDial, TcpDoor};
 
 /// The words after the program's name.
 fn words_of<R: Env + AllocGlobal>(rt: &R) -> Result<List<Name>, Memory> {
@@ -52,6 +53,10 @@ fn status_of<T: Threads + Sync>(threads: &T, rt: &HostRuntime) -> Status {
     let mut input: StdSource<Stdin> = StdSource::new(rt.stdin());
     let mut out: StdSink<Stdout> = StdSink::new(rt.stdout());
     let mut err: StdSink<Stderr> = StdSink::new(rt.stderr());
+    let mut door = TcpDoor::new(rt);
+    let Ok(mut dial) = TcpDial::new(rt.alloc(), rt) else {
+        return Status::Memory;
+    };
     run(
         threads,
         rt.alloc(),
@@ -60,6 +65,8 @@ fn status_of<T: Threads + Sync>(threads: &T, rt: &HostRuntime) -> Status {
         &mut input,
         &mut out,
         &mut err,
+        &mut door,
+        &mut dial,
     )
 }
 

@@ -1,28 +1,32 @@
-ghost use Rattle.std.specs.Prelude.{◌≡◌, ◌≢◌, ◌⊎◌, ◌↔◌, ℕ, List, IfSome, IsSome, Some};
+ghost use Rattle.std.specs.Prelude.{◌≡◌, ◌≢◌, ◌+◌, ◌≤◌, ◌⊎◌, ◌↔◌, ℕ, List, [], IfSome, IsSome, Some, false, Result};
 ghost use Rattle.std.specs.Io.KnownBytes.{Appends, IsAtEnd};
 ghost use Rattle.dap_client.specs.Shows.{IsShownBy};
+ghost use Rattle.dap_errors.specs.declared.cause.Cause.{Cause};
 ghost use Rattle.dap_outside.specs.Causes.{Rose};
 ghost use Rattle.dap_outside.specs.Streams.{AppendsFront};
-ghost use Rattle.dap_errors.specs.declared.cause.Cause.{Cause};
-ghost use Rattle.dap_errors.specs.declared.file_cause.FileCause.{FileCause};
-ghost use Rattle.dap2.specs.Answer.{Answers, AnswersBody, Asks, IsDamaged, IsRefused, TellsDamage, TellsRefusal};
+ghost use Rattle.dap_server.specs.Results.{Text};
+ghost use Rattle.dap2.specs.Answer as answers;
+ghost use Rattle.dap2.specs.Answer.{AnswerSays, MayAskFor, MayHaveAsked, MustResult, looks_up};
 ghost use Rattle.dap2.specs.Lines.{IsSaid, line_of};
 ghost use Rattle.dap2.specs.Show.{IsFor, IsRefusedBy, SaysBadReply, status_for};
-ghost use Rattle.dap2.specs.Words.{IsBuilt, IsCommand, IsShow};
-ghost use Rattle.xdr_decode.specs.Verdict.{Verdict, IsVerdict, unbuilt};
+ghost use Rattle.dap2.specs.Serve.{Serves, VerSays, Visit};
+ghost use Rattle.dap2.specs.Words.{AreAnswer, AreServe, IsCommand, IsServe, IsShow, IsVer};
+ghost use Rattle.plain_decode.specs.Verdict.{Verdict, IsVerdict, unbuilt};
 
 use crate::answer::answer;
 use crate::command::{Command, command_of};
 use crate::lines::say;
+use crate::serve::serve;
 use crate::show::show_input;
 use crate::status::Status;
-use dap_outside::{Shelf, Sink, Source};
+use crate::ver::ver;
+use dap_outside::{Dial, Door, Shelf, Sink, Source};
 use dap_types::Name;
 use std::alloc::Global;
 use std::thread::Threads;
 
 /// Does what the words say.
-fn obey<R: Threads + Sync, S: Shelf, I: Source, O: Sink, E: Sink>(
+fn obey<R: Threads + Sync, S: Shelf, I: Source, O: Sink, E: Sink, D: Door>(
     rt: &R,
     alloc: Global,
     words: &[Name],
@@ -30,34 +34,43 @@ fn obey<R: Threads + Sync, S: Shelf, I: Source, O: Sink, E: Sink>(
     input: &mut I,
     out: &mut O,
     err: &mut E,
+    door: &mut D,
 ) -> Status
-    ensures complete { result ≡ Status.Complete →
-        Asks words.now (λ target. (text : List ℕ) × AnswersBody target (S.files shelf.old) text × Appends (O.written out.old) (O.written out.new) text)
-        ⊎ IsShow words.now × IfSome (I.left input.old) (λ body. IsShownBy body (Appends (O.written out.old) (O.written out.new))) × IsAtEnd (I.left input.new) }
-    ensures refused { result ≡ Status.Refused → Asks words.now (λ target.
-        TellsRefusal target (S.files shelf.old) (O.written out.old) (O.written out.new) (E.put_faults err.old) (E.put_faults err.new) (E.written err.old) (E.written err.new)) }
-    ensures damaged { result ≡ Status.Damaged → Asks words.now (λ target.
-        TellsDamage target (S.files shelf.old) (O.written out.old) (O.written out.new) (E.put_faults err.old) (E.put_faults err.new) (E.written err.old) (E.written err.new)) }
-    ensures unbuilt { result ≡ Status.Unbuilt →
-        Asks words.now (λ target. ¬ (IsBuilt target))
-        ⊎ IsShow words.now × IfSome (I.left input.old) (λ body. IsVerdict body unbuilt) }
-    ensures unbuilds { Asks words.now (λ target. ¬ (IsBuilt target)) → result ≡ Status.Unbuilt }
-    ensures unasked { Asks words.now (λ target. ¬ (IsBuilt target)) → shelf.new ≡ shelf.old }
-    ensures no_command { ¬ (IsCommand words.now) → shelf.new ≡ shelf.old }
+    ensures answer { (target : List ℕ) (workers : ℕ) → AreAnswer words.now target workers →
+        AnswerSays (S.files shelf.old) target (Appends (O.written out.old) (O.written out.new)) (AppendsFront (O.written out.old) (O.written out.new))
+        (λ line. IsSaid line (E.put_faults err.old) (E.put_faults err.new) (E.written err.old) (E.written err.new)) result }
+    ensures answered { (target : List ℕ) (workers : ℕ) → AreAnswer words.now target workers → (r : Result Text Cause) → MustResult (S.files shelf.old) target r
+        → ¬ (Rose (S.faults shelf.old) (S.faults shelf.new)) → ¬ (Rose (O.put_faults out.old) (O.put_faults out.new))
+        → result ≢ Status.Memory → result ≡ answers.status_for r }
+    ensures answer_asks { (target : List ℕ) (workers : ℕ) → AreAnswer words.now target workers → (most : ℕ) × MayAskFor (S.files shelf.old) target most × (S.asked shelf.new ≤ S.asked shelf.old + most) }
+    ensures answer_asked { (target : List ℕ) (workers : ℕ) → AreAnswer words.now target workers → IsSome (S.files shelf.old) → result ≡ Status.WriteFault →
+        MayHaveAsked (S.files shelf.old) target (O.written out.old) (O.written out.new) (S.asked shelf.old) (S.asked shelf.new) }
+    ensures answer_untouched { (target : List ℕ) (workers : ℕ) → AreAnswer words.now target workers → looks_up target ≡ false → shelf.new ≡ shelf.old }
+    ensures answer_read_fault { (target : List ℕ) (workers : ℕ) → AreAnswer words.now target workers → result ≡ Status.ReadFault → Rose (S.faults shelf.old) (S.faults shelf.new) }
+    ensures files { S.files shelf.new ≡ S.files shelf.old }
+    ensures serve { (port workers requests : ℕ) → AreServe words.now port workers requests → (visits : List (Visit D.Wire))
+        × Serves (S.files shelf.old) (λ l. record { whole = D.Wire.whole l; left = D.Wire.left l; ended = D.Wire.ended l; written = D.Wire.written l; take_faults = D.Wire.take_faults l; put_faults = D.Wire.put_faults l }) requests
+        (record { back = D.back door.old; faults = S.faults shelf.old; written = O.written out.old })
+        (record { back = D.back door.new; faults = S.faults shelf.new; written = O.written out.new }) visits result
+        × (visits ≢ [] → D.listens_at door.new ≡ Some port) }
+    ensures link_fault { result ≡ Status.LinkFault → Rose (D.faults door.old) (D.faults door.new) }
+    ensures ver { IsVer words.now → VerSays (Appends (O.written out.old) (O.written out.new)) (AppendsFront (O.written out.old) (O.written out.new)) result }
+    ensures ver_shelf { IsVer words.now → shelf.new ≡ shelf.old }
+    ensures door { ¬ (IsServe words.now) → door.new ≡ door.old }
+    ensures complete { IsShow words.now → result ≡ Status.Complete → IfSome (I.left input.old) (λ body. IsShownBy body (Appends (O.written out.old) (O.written out.new))) × IsAtEnd (I.left input.new) }
+    ensures unbuilt { result ≡ Status.Unbuilt → IsShow words.now × IfSome (I.left input.old) (λ body. IsVerdict body unbuilt) }
     ensures bad_reply { result ≡ Status.BadReply → IsShow words.now
         × IfSome (I.left input.old) (λ body. IsRefusedBy body (E.put_faults err.old) (E.put_faults err.new) (E.written err.old) (E.written err.new)) }
     ensures bad_line { result ≡ Status.BadReply → SaysBadReply (E.put_faults err.old) (E.put_faults err.new) (E.written err.old) (E.written err.new) }
     ensures verdict { IsShow words.now → (body : List ℕ) (v : Verdict) → I.left input.old ≡ Some body → IsVerdict body v → IsFor v result }
-    ensures words { (result ≡ Status.Words) ↔ (¬ (IsCommand words.now)) }
-    ensures read_fault { result ≡ Status.ReadFault →
-        Asks words.now (λ target. Rose (S.faults shelf.old) (S.faults shelf.new))
-        ⊎ IsShow words.now × Rose (I.take_faults input.old) (I.take_faults input.new) }
-    ensures write_fault { result ≡ Status.WriteFault → Rose (O.put_faults out.old) (O.put_faults out.new) }
-    ensures prefix { result ≡ Status.WriteFault →
-        Asks words.now (λ target. (text : List ℕ) × Answers target (S.files shelf.old) text × AppendsFront (O.written out.old) (O.written out.new) text)
-        ⊎ IsShow words.now × IfSome (I.left input.old) (λ body. IsShownBy body (AppendsFront (O.written out.old) (O.written out.new))) }
-    ensures unchanged { result ≢ Status.Complete → result ≢ Status.Refused → result ≢ Status.Damaged → result ≢ Status.WriteFault → O.written out.new ≡ O.written out.old }
+    ensures read_fault { IsShow words.now → result ≡ Status.ReadFault → Rose (I.take_faults input.old) (I.take_faults input.new) }
+    ensures prefix { IsShow words.now → result ≡ Status.WriteFault → IfSome (I.left input.old) (λ body. IsShownBy body (AppendsFront (O.written out.old) (O.written out.new))) }
+    ensures unchanged { IsShow words.now → result ≢ Status.Complete → result ≢ Status.WriteFault → O.written out.new ≡ O.written out.old }
     ensures shelf { IsShow words.now → shelf.new ≡ shelf.old }
+    ensures show_says { IsShow words.now → (result ≢ Status.Refused) × (result ≢ Status.Damaged) × (result ≢ Status.LinkFault) }
+    ensures words { (result ≡ Status.Words) ↔ (¬ (IsCommand words.now)) }
+    ensures no_command { ¬ (IsCommand words.now) → (shelf.new ≡ shelf.old) × (out.new ≡ out.old) }
+    ensures write_fault { result ≡ Status.WriteFault → Rose (O.put_faults out.old) (O.put_faults out.new) }
     ensures input { ¬ (IsShow words.now) → input.new ≡ input.old }
     ensures whole { I.whole input.new ≡ I.whole input.old }
     ensures beside_input { I.beside_reading input.new ≡ I.beside_reading input.old }
@@ -66,17 +79,24 @@ fn obey<R: Threads + Sync, S: Shelf, I: Source, O: Sink, E: Sink>(
     ensures beside_err { E.beside_writing err.new ≡ E.beside_writing err.old }
 {
     match command_of(words) {
-        Command::Answer(target) => answer(rt, alloc, target, shelf, out, err),
+        Command::Answer(target, workers) => answer(rt, alloc, target, workers, shelf, out, err),
         Command::Show => show_input(alloc, input, out, err),
+        Command::Serve {
+            port,
+            workers,
+            requests,
+        } => serve(rt, alloc, port, workers, requests, shelf, out, door),
+        Command::Ver => ver(out),
         Command::Other => Status::Words,
     }
 }
 
-/// Does all that the program does with the words after its name. `answer TARGET` finds a file on the
-/// shelf and puts its data response to `out`, or the Error object that says why there is none; `show`
-/// reads a data response from `input` and shows it on `out`. For each status but `Complete` a line
-/// goes to `err`.
-pub fn run<R: Threads + Sync, S: Shelf, I: Source, O: Sink, E: Sink>(
+/// Does all that the program does with the words after its name. `answer TARGET [WORKERS]` puts what a
+/// target asks of the shelf's files to `out`, or the Error object for the first cause for which there is
+/// no such text; `show` reads a data response from `input` and shows it on `out`; `serve PORT WORKERS
+/// REQUESTS` serves so many links that come in at the door, and puts a line for each to `out`; `ver` puts
+/// the version text. For each status but `Complete` a line goes to `err`.
+pub fn run<R: Threads + Sync, S: Shelf, I: Source, O: Sink, E: Sink, D: Door, C: Dial>(
     rt: &R,
     alloc: Global,
     words: &[Name],
@@ -84,60 +104,70 @@ pub fn run<R: Threads + Sync, S: Shelf, I: Source, O: Sink, E: Sink>(
     input: &mut I,
     out: &mut O,
     err: &mut E,
+    door: &mut D,
+    dial: &mut C,
 ) -> Status
-    ensures complete { result ≡ Status.Complete →
-        Asks words.now (λ target. (text : List ℕ) × AnswersBody target (S.files shelf.old) text × Appends (O.written out.old) (O.written out.new) text)
-        ⊎ IsShow words.now × IfSome (I.left input.old) (λ body. IsShownBy body (Appends (O.written out.old) (O.written out.new))) × IsAtEnd (I.left input.new) }
-    ensures refused { result ≡ Status.Refused → Asks words.now (λ target.
-        TellsRefusal target (S.files shelf.old) (O.written out.old) (O.written out.new) (E.put_faults err.old) (E.put_faults err.new) (E.written err.old) (E.written err.new)) }
-    ensures damaged { result ≡ Status.Damaged → Asks words.now (λ target.
-        TellsDamage target (S.files shelf.old) (O.written out.old) (O.written out.new) (E.put_faults err.old) (E.put_faults err.new) (E.written err.old) (E.written err.new)) }
-    ensures unbuilt { result ≡ Status.Unbuilt →
-        Asks words.now (λ target. ¬ (IsBuilt target))
-        ⊎ IsShow words.now × IfSome (I.left input.old) (λ body. IsVerdict body unbuilt) }
-    ensures unbuilds { Asks words.now (λ target. ¬ (IsBuilt target)) → result ≡ Status.Unbuilt }
-    ensures unasked { Asks words.now (λ target. ¬ (IsBuilt target)) → shelf.new ≡ shelf.old }
-    ensures no_command { ¬ (IsCommand words.now) → shelf.new ≡ shelf.old }
+    // What each status of `answer` says of the target's result, of the output and of the line on `err`.
+    ensures answer { (target : List ℕ) (workers : ℕ) → AreAnswer words.now target workers →
+        AnswerSays (S.files shelf.old) target (Appends (O.written out.old) (O.written out.new)) (AppendsFront (O.written out.old) (O.written out.new))
+        (λ line. IsSaid line (E.put_faults err.old) (E.put_faults err.new) (E.written err.old) (E.written err.new)) result }
+
+    // Over a shelf that tells its files, each of these comes wherever its result stands, no count of a fault
+    // rose and memory was had.
+    ensures answered { (target : List ℕ) (workers : ℕ) → AreAnswer words.now target workers → (r : Result Text Cause) → MustResult (S.files shelf.old) target r
+        → ¬ (Rose (S.faults shelf.old) (S.faults shelf.new)) → ¬ (Rose (O.put_faults out.old) (O.put_faults out.new))
+        → result ≢ Status.Memory → result ≡ answers.status_for r }
+
+    // What is asked of the shelf for a target, and where the output failed.
+    ensures answer_asks { (target : List ℕ) (workers : ℕ) → AreAnswer words.now target workers → (most : ℕ) × MayAskFor (S.files shelf.old) target most × (S.asked shelf.new ≤ S.asked shelf.old + most) }
+    ensures answer_asked { (target : List ℕ) (workers : ℕ) → AreAnswer words.now target workers → IsSome (S.files shelf.old) → result ≡ Status.WriteFault →
+        MayHaveAsked (S.files shelf.old) target (O.written out.old) (O.written out.new) (S.asked shelf.old) (S.asked shelf.new) }
+    ensures answer_untouched { (target : List ℕ) (workers : ℕ) → AreAnswer words.now target workers → looks_up target ≡ false → shelf.new ≡ shelf.old }
+    ensures answer_read_fault { (target : List ℕ) (workers : ℕ) → AreAnswer words.now target workers → result ≡ Status.ReadFault → Rose (S.faults shelf.old) (S.faults shelf.new) }
+    ensures files { S.files shelf.new ≡ S.files shelf.old }
+
+    // The links that came in at the port of `serve`, each served by itself over its whole input, and a line
+    // for each; the shelf failed at least as often as they say.
+    ensures serve { (port workers requests : ℕ) → AreServe words.now port workers requests → (visits : List (Visit D.Wire))
+        × Serves (S.files shelf.old) (λ l. record { whole = D.Wire.whole l; left = D.Wire.left l; ended = D.Wire.ended l; written = D.Wire.written l; take_faults = D.Wire.take_faults l; put_faults = D.Wire.put_faults l }) requests
+        (record { back = D.back door.old; faults = S.faults shelf.old; written = O.written out.old })
+        (record { back = D.back door.new; faults = S.faults shelf.new; written = O.written out.new }) visits result
+        × (visits ≢ [] → D.listens_at door.new ≡ Some port) }
+    ensures link_fault { result ≡ Status.LinkFault → Rose (D.faults door.old) (D.faults door.new) }
+    ensures ver { IsVer words.now → VerSays (Appends (O.written out.old) (O.written out.new)) (AppendsFront (O.written out.old) (O.written out.new)) result }
+    ensures ver_shelf { IsVer words.now → shelf.new ≡ shelf.old }
+    ensures door { ¬ (IsServe words.now) → door.new ≡ door.old }
+
+    ensures complete { IsShow words.now → result ≡ Status.Complete → IfSome (I.left input.old) (λ body. IsShownBy body (Appends (O.written out.old) (O.written out.new))) × IsAtEnd (I.left input.new) }
+    ensures unbuilt { result ≡ Status.Unbuilt → IsShow words.now × IfSome (I.left input.old) (λ body. IsVerdict body unbuilt) }
     ensures bad_reply { result ≡ Status.BadReply → IsShow words.now
         × IfSome (I.left input.old) (λ body. IsRefusedBy body (E.put_faults err.old) (E.put_faults err.new) (E.written err.old) (E.written err.new)) }
     ensures bad_line { result ≡ Status.BadReply → SaysBadReply (E.put_faults err.old) (E.put_faults err.new) (E.written err.old) (E.written err.new) }
-    ensures words { (result ≡ Status.Words) ↔ (¬ (IsCommand words.now)) }
-    ensures read_fault { result ≡ Status.ReadFault →
-        Asks words.now (λ target. Rose (S.faults shelf.old) (S.faults shelf.new))
-        ⊎ IsShow words.now × Rose (I.take_faults input.old) (I.take_faults input.new) }
-    ensures write_fault { result ≡ Status.WriteFault → Rose (O.put_faults out.old) (O.put_faults out.new) }
-    ensures prefix { result ≡ Status.WriteFault →
-        Asks words.now (λ target. (text : List ℕ) × Answers target (S.files shelf.old) text × AppendsFront (O.written out.old) (O.written out.new) text)
-        ⊎ IsShow words.now × IfSome (I.left input.old) (λ body. IsShownBy body (AppendsFront (O.written out.old) (O.written out.new))) }
-    ensures unchanged { result ≢ Status.Complete → result ≢ Status.Refused → result ≢ Status.Damaged → result ≢ Status.WriteFault → O.written out.new ≡ O.written out.old }
-
-    // Over a shelf that tells its files, each of these comes wherever its cause stands, no count of
-    // a fault rose and memory was had.
-    ensures completes { IsSome (S.files shelf.old) → Asks words.now (λ target. (text : List ℕ) × AnswersBody target (S.files shelf.old) text)
-        → ¬ (Rose (S.faults shelf.old) (S.faults shelf.new)) → ¬ (Rose (O.put_faults out.old) (O.put_faults out.new))
-        → result ≢ Status.Memory → result ≡ Status.Complete }
-    ensures refuses { IsSome (S.files shelf.old) → Asks words.now (λ target. (reason : Cause) × IsRefused target (S.files shelf.old) reason)
-        → ¬ (Rose (S.faults shelf.old) (S.faults shelf.new)) → ¬ (Rose (O.put_faults out.old) (O.put_faults out.new))
-        → result ≢ Status.Memory → result ≡ Status.Refused }
-    ensures damages { IsSome (S.files shelf.old) → Asks words.now (λ target. (reason : FileCause) × IsDamaged target (S.files shelf.old) reason)
-        → ¬ (Rose (S.faults shelf.old) (S.faults shelf.new)) → ¬ (Rose (O.put_faults out.old) (O.put_faults out.new))
-        → result ≢ Status.Memory → result ≡ Status.Damaged }
 
     // The same for the verdict on what a source that tells has left.
     ensures shows { IsShow words.now → (body : List ℕ) (v : Verdict) → I.left input.old ≡ Some body → IsVerdict body v
         → ¬ (Rose (I.take_faults input.old) (I.take_faults input.new)) → ¬ (Rose (O.put_faults out.old) (O.put_faults out.new))
         → result ≢ Status.Memory → result ≡ status_for v }
 
+    ensures read_fault { IsShow words.now → result ≡ Status.ReadFault → Rose (I.take_faults input.old) (I.take_faults input.new) }
+    ensures prefix { IsShow words.now → result ≡ Status.WriteFault → IfSome (I.left input.old) (λ body. IsShownBy body (AppendsFront (O.written out.old) (O.written out.new))) }
+    ensures unchanged { IsShow words.now → result ≢ Status.Complete → result ≢ Status.WriteFault → O.written out.new ≡ O.written out.old }
     ensures shelf { IsShow words.now → shelf.new ≡ shelf.old }
+    ensures show_says { IsShow words.now → (result ≢ Status.Refused) × (result ≢ Status.Damaged) × (result ≢ Status.LinkFault) }
+
+    ensures words { (result ≡ Status.Words) ↔ (¬ (IsCommand words.now)) }
+    ensures no_command { ¬ (IsCommand words.now) → (shelf.new ≡ shelf.old) × (out.new ≡ out.old) }
+    ensures write_fault { result ≡ Status.WriteFault → Rose (O.put_faults out.old) (O.put_faults out.new) }
     ensures input { ¬ (IsShow words.now) → input.new ≡ input.old }
     ensures whole { I.whole input.new ≡ I.whole input.old }
     ensures beside_input { I.beside_reading input.new ≡ I.beside_reading input.old }
     ensures beside_out { O.beside_writing out.new ≡ O.beside_writing out.old }
     ensures said { IfSome (line_of result) (λ line. IsSaid line (E.put_faults err.old) (E.put_faults err.new) (E.written err.old) (E.written err.new)) }
     ensures silent { result ≡ Status.Complete → err.new ≡ err.old }
+    ensures dial { dial.new ≡ dial.old }
     ensures beside_err { E.beside_writing err.new ≡ E.beside_writing err.old }
 {
-    let status = obey(rt, alloc, words, shelf, input, out, err);
+    let status = obey(rt, alloc, words, shelf, input, out, err, door);
     if let Some(line) = status.line() {
         say(err, &[line.as_bytes()]);
     }

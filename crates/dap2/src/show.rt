@@ -4,7 +4,7 @@ ghost use Rattle.dap_client.specs.Shows.{IsShownBy};
 ghost use Rattle.dap_outside.specs.Causes.{Rose};
 ghost use Rattle.dap_outside.specs.Streams.{AppendsFront};
 ghost use Rattle.dap2.specs.Show.{IsFor, IsRefusedBy, SaysBadReply};
-ghost use Rattle.xdr_decode.specs.Verdict.{Verdict, IsVerdict, unbuilt};
+ghost use Rattle.plain_decode.specs.Verdict.{Verdict, IsVerdict, unbuilt};
 
 use crate::lines::say_bad_reply;
 use crate::status::Status;
@@ -34,6 +34,7 @@ pub fn show_input<I: Source, O: Sink, E: Sink>(
     ensures words { result ≢ Status.Words }
     ensures refused { result ≢ Status.Refused }
     ensures damaged { result ≢ Status.Damaged }
+    ensures link { result ≢ Status.LinkFault }
     ensures quiet { result ≢ Status.BadReply → err.new ≡ err.old }
     ensures beside_err { E.beside_writing err.new ≡ E.beside_writing err.old }
 {

@@ -21,6 +21,8 @@ pub enum Status {
     ReadFault,
     /// A write of the output failed; a front of it may be out.
     WriteFault,
+    /// The door failed: no link came in.
+    LinkFault,
     /// Memory was wanted.
     Memory,
     /// The target, the file or the data response is of a form that is not built yet.
@@ -40,6 +42,7 @@ impl Status {
             Status::BadReply => 5,
             Status::ReadFault => 7,
             Status::WriteFault => 8,
+            Status::LinkFault => 9,
             Status::Memory => 10,
             Status::Unbuilt => 11,
         }
@@ -59,9 +62,12 @@ impl Status {
     {
         match self {
             Status::Complete | Status::Refused | Status::Damaged | Status::BadReply => None,
-            Status::Words => Some("usage: dap2 answer TARGET | show\n"),
+            Status::Words => Some(
+                "usage: dap2 answer TARGET [WORKERS] | show | serve PORT WORKERS REQUESTS | ver\n",
+            ),
             Status::ReadFault => Some("dap2: read fault\n"),
             Status::WriteFault => Some("dap2: write fault\n"),
+            Status::LinkFault => Some("dap2: link fault\n"),
             Status::Memory => Some("dap2: out of memory\n"),
             Status::Unbuilt => Some("dap2: not built\n"),
         }

@@ -4,7 +4,7 @@ use crate::folder_shelf::FolderShelf;
 use crate::run::run;
 use crate::status::Status;
 use crate::std_streams::{StdSink, StdSource};
-use dap_outside::{MemFile, MemShelf, MemSink, MemSource, Shelf, Sink, Source};
+use dap_outside::{MemDial, MemDoor, MemFile, MemShelf, MemSink, MemSource, Shelf, Sink, Source};
 use dap_types::{Bytes, List, Memory, Name};
 use std::alloc::Global;
 use std::fs;
@@ -37,6 +37,8 @@ const ALL_BODY: &[u8] =
     b"Dataset {\n    Sequence {\n        Byte b;\n        Int16 i;\n        UInt32 u;\n        Float32 f;\n        Float64 d;\n    } all;\n} all.csv;\nData:\n\x5a\0\0\0\0\0\0\xff\xff\xff\x80\0\xff\xff\xff\xff\x7f\xc0\0\x01\x40\x09\x21\xfb\x54\x44\x2d\x18\xa5\0\0\0";
 
 const MISSING: &[u8] = b"Error {\n    code = 15;\n    message = \"no such file\";\n};\n";
+
+const BAD_TARGET: &[u8] = b"Error {\n    code = 14;\n    message = \"bad target\";\n};\n";
 
 const BAD_CELL: &[u8] =
     b"Error {\n    code = 19;\n    message = \"damaged file: bad cell in row 1 column 1\";\n};\n";
@@ -123,7 +125,11 @@ fn ran<R: Threads + AllocGlobal + Sync>(
     let mut out = MemSink::new(alloc, outside.room, piece, out_fails)?;
     let mut err = MemSink::new(alloc, 100, 7, numbers(alloc, &[])?)?;
     let words = named.items();
-    let status = run(rt, alloc, words, &mut shelf, &mut input, &mut out, &mut err);
+    let mut door = MemDoor::new(alloc, List::new(alloc), numbers(alloc, &[])?)?;
+    let mut dial = MemDial::new(alloc, List::new(alloc), numbers(alloc, &[])?)?;
+    let status = run(
+        rt, alloc, words, &mut shelf, &mut input, &mut out, &mut err, &mut door, &mut dial,
+    );
     Ok(Written {
         status,
         out: Bytes::new(alloc, out.bytes())?,
@@ -156,14 +162,14 @@ fn each_status_comes_from_its_cause(rt: HostRuntime) -> Result<(), Fail> {
             SURE,
             Status::Words,
             none,
-            b"usage: dap2 answer TARGET | show\n",
+            b"usage: dap2 answer TARGET [WORKERS] | show | serve PORT WORKERS REQUESTS | ver\n",
         ),
         (
             &["show", "head.csv.dods"],
             SURE,
             Status::Words,
             none,
-            b"usage: dap2 answer TARGET | show\n",
+            b"usage: dap2 answer TARGET [WORKERS] | show | serve PORT WORKERS REQUESTS | ver\n",
         ),
         (
             &["answer", "none.csv.dods"],
@@ -230,16 +236,16 @@ fn each_status_comes_from_its_cause(rt: HostRuntime) -> Result<(), Fail> {
         (
             &["answer", "buoys.csv.dds"],
             SURE,
-            Status::Unbuilt,
+            Status::Complete,
+            &BUOYS_BODY[..96],
             none,
-            b"dap2: not built\n",
         ),
         (
             &["answer", "../buoys.csv.dods"],
             SURE,
-            Status::Unbuilt,
-            none,
-            b"dap2: not built\n",
+            Status::Refused,
+            BAD_TARGET,
+            b"dap2: refused: bad target\n",
         ),
         (
             &buoys,
@@ -475,7 +481,7 @@ fn a_run_over_broken_streams_is_a_fault(rt: HostRuntime) -> Result<(), Fail> {
         (["show", ""], Status::ReadFault),
         (["answer", "buoys.csv.dods"], Status::WriteFault),
         (["answer", "none.csv.dods"], Status::WriteFault),
-        (["answer", "buoys.csv.dds"], Status::Unbuilt),
+        (["answer", "buoys.csv.dds"], Status::WriteFault),
     ] {
         let mut named = List::new(rt.alloc());
         for word in words {
@@ -483,14 +489,19 @@ fn a_run_over_broken_streams_is_a_fault(rt: HostRuntime) -> Result<(), Fail> {
                 named.push(Name::new(rt.alloc(), word)?)?;
             }
         }
+        let alloc = rt.alloc();
+        let mut door = MemDoor::new(alloc, List::new(alloc), numbers(alloc, &[])?)?;
+        let mut dial = MemDial::new(alloc, List::new(alloc), numbers(alloc, &[])?)?;
         let ended = run(
             &rt,
-            rt.alloc(),
+            alloc,
             named.items(),
             &mut shelf,
             &mut input,
             &mut out,
             &mut err,
+            &mut door,
+            &mut dial,
         );
         assert_eq!(rt; ended, status);
     }

@@ -1,7 +1,5 @@
-pub mod DataLines
-pub mod FirstWords
-pub mod Objects
-pub mod OneVerdict
-pub mod Behind
-pub mod Told
-pub mod Lifted
+pub mod Judged
+pub mod Rows
+pub mod Tables
+pub mod Taken
+pub mod Texts

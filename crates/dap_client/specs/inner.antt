@@ -1,5 +1,2 @@
-pub mod Behind
-pub mod DataLines
-pub mod FirstWords
-pub mod Objects
-pub mod Stages
+pub mod Lines
+pub mod Showing

@@ -1,23 +1,14 @@
 //! Shows what a server sent (DAP 2.0). In come the bytes of a source, in any pieces; out go the DDS,
 //! a line for each element and a line that says that all came, as `shown` of `dap_model` defines
-//! them, or what the verdict of `specs/Verdict` says is wrong.
+//! them, or the verdict of `plain_decode` on what is wrong.
 #![tactic(auto)]
 
-mod bytes;
-mod data_line;
-mod first_word;
-pub mod laws;
-mod object;
+mod body;
+mod elements;
+mod gather;
 mod outcome;
-mod reader;
-mod replies;
-mod reply;
-mod showing;
-mod stage;
-#[cfg(test)]
-mod tests;
+mod shown;
+mod values;
 
+pub use body::show;
 pub use outcome::Outcome;
-pub use replies::{Replies, Stop};
-pub use reply::read_reply;
-pub use showing::show;

@@ -1,19 +1,18 @@
-use dap_types::Bytes;
-use xdr_decode::BadField;
+use plain_decode::BadField;
 
 /// How the showing of a reply ended.
-#[derive(Debug, Drop)]
+#[derive(Clone, Copy, Debug, PartialEq, Eq)]
 pub enum Outcome {
     /// The body is good and was shown; it has so many bytes.
     Complete { bytes: u64 },
-    /// The body is an Error object (DAP 2.0, Error objects) of this code and message.
-    ServerError { code: i32, message: Bytes },
     /// What is wrong with it, and where.
     BadReply(BadField),
+    /// The body of no plain table, nor the front of one.
+    Unbuilt,
     /// The source failed.
     ReadFault,
     /// The sink failed.
     WriteFault,
-    /// No memory was left. Nothing was put to the sink.
+    /// No memory was left.
     Memory,
 }

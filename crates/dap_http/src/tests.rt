@@ -1,5 +1,6 @@
 mod framing;
 mod heads;
+mod parts;
 mod replies;
 mod targets;
 mod texts;

@@ -1,9 +1,7 @@
 mod attributes;
 mod climate;
 mod files;
-mod joining;
 mod made;
 mod mapping;
 mod refusals;
 mod seen;
-mod version_five;

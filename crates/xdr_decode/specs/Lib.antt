@@ -1,3 +1,5 @@
+pub mod After
 pub mod Bads
+pub mod Shown
 pub mod Verdict
 pub mod inner

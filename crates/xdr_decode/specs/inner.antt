@@ -1,2 +1,11 @@
-pub mod Heads
-pub mod Progress
+pub mod Asked
+pub mod Buffered
+pub mod Deciding
+pub mod Leaves
+pub mod Lined
+pub mod Lines
+pub mod Moving
+pub mod Places
+pub mod Pushing
+pub mod Taken
+pub mod Turning

@@ -1,51 +1,76 @@
-ghost use Rattle.std.specs.Prelude.{◌≡◌, ◌+◌, ◌≤◌, ◌++◌, ◌∷◌, [], map, codes, IfOk, IfErr, MatchBool};
-ghost use Rattle.dap_types.specs.Model.{many, trees_of};
+//! The verdict on a body that stands in memory.
+
+ghost use Rattle.std.specs.Prelude.{◌≡◌, ◌≤◌, length, map, IfOk, IfErr, MatchBool};
 ghost use Rattle.dap_types.specs.View.{dataset_view, tree_view};
 ghost use Rattle.dap_model.specs.Body.{IsBody};
-ghost use Rattle.dap_model.specs.Plain.{plain_dataset};
-ghost use Rattle.xdr_decode.specs.Verdict.{Gives, IsGood, IsRefusal, IsRefusalIn, IsVerdict, RanOut, Verdict, budget, good_of};
-ghost use Rattle.xdr_decode.specs.declared.filled.AllRefusal.TheVariants.{Refused, Memory};
+ghost use Rattle.dap_model.specs.Xdr.{Spells};
+ghost use Rattle.dds_text.specs.Reading.{IsDone};
+ghost use Rattle.xdr_decode.specs.Verdict.{Gives, IsGood, IsRefusal, IsVerdict, Verdict, budget, good_of};
+ghost use Rattle.xdr_decode.specs.declared.filled.AllRefusal.TheVariants.{Refused};
 ghost use Rattle.xdr_decode.specs.declared.bad.Bad.TheVariants.{TooLong};
+ghost use Rattle.xdr_decode.specs.inner.Deciding.{IsRefusalIn, IsValuesRefusal, RanOut};
 
-use crate::head::{HeadStop, read_head};
-use crate::values::rows;
+use crate::data_line::{LineStop, data_line};
+use crate::trees::members;
+use crate::values::Stop;
 use crate::{AllRefusal, Bad, BadField, Filled};
-use dap_types::{Column, Dataset, Decl, Id, List, Memory, Tree};
+use dap_types::Dataset;
+use dds_text::{DdsReader, DdsStep};
 use std::alloc::Global;
 
 /// A body has fewer bytes.
 const BUDGET: usize = 1 << 40;
 
-/// The name of the file of a table.
-fn file_name(alloc: Global, table: &[u8]) -> Result<Id, Memory>
-    ensures { IfOk result (λ name. name ≡ table.now ++ codes ".csv") }
+/// This is wrong, at a place.
+fn refused(kind: Bad, place: usize) -> AllRefusal
+    ensures { result ≡ Refused (record { kind = kind; place = place }) }
 {
-    let mut file = Vec::from_slice(alloc, table)?;
-    file.extend_from_slice(b".csv")?;
-    Id::raw(alloc, file.as_slice())
+    AllRefusal::Refused(BadField {
+        kind,
+        place: place as u64,
+    })
 }
 
-/// The dataset of a plain table, and its values.
-fn fill(
-    alloc: Global,
-    table: &[u8],
-    columns: List<Column>,
-    rows: List<Tree>,
-) -> Result<Filled, Memory>
-    ensures dataset { IfOk result
-        (λ f. dataset_view f.dataset ≡ plain_dataset table.now columns) }
-    ensures values { IfOk result
-        (λ f. map tree_view f.values ≡ many (trees_of (map tree_view rows)) ∷ []) }
+/// The dataset whose text begins a body, and how many bytes the text has.
+fn dataset(alloc: Global, body: &[u8]) -> Result<(Dataset, usize), AllRefusal>
+    ensures within { IfOk result (λ r. r.1 ≤ length body.now) }
+    ensures read { IfOk result (λ r. IsDone body.now r.1 (dataset_view r.0)) }
+    ensures refused { IfErr result (IsRefusalIn body.now) }
 {
-    let mut members = List::new(alloc);
-    members.push(Decl::Sequence(Id::raw(alloc, table)?, columns))?;
-    let mut values = List::new(alloc);
-    values.push(Tree::Many(rows))?;
-    let name = file_name(alloc, table)?;
-    Ok(Filled {
-        dataset: Dataset { name, members },
-        values,
-    })
+    let mut reader = DdsReader::new(alloc, 0);
+    match reader.push(body)? {
+        DdsStep::More => Err(refused(Bad::Cut, body.len())),
+        DdsStep::Bad { place } => Err(AllRefusal::Refused(BadField {
+            kind: Bad::BadDds,
+            place,
+        })),
+        DdsStep::Done { used } => match reader.dataset() {
+            Some(dataset) => Ok((dataset, used)),
+            None => unreachable!(),
+        },
+    }
+}
+
+/// A dataset and its values, with which a body of so many bytes ends.
+fn fill(alloc: Global, dataset: Dataset, whole: usize, values: &[u8]) -> Result<Filled, AllRefusal>
+    requires { length values.now ≤ whole }
+    ensures dataset { IfOk result (λ f. dataset_view f.dataset ≡ dataset_view dataset) }
+    ensures values { IfOk result (λ f. Spells (dataset_view f.dataset) (map tree_view f.values) values.now) }
+    ensures refused { IfErr result (IsValuesRefusal (dataset_view dataset) whole values.now) }
+{
+    match members(alloc, dataset.members.items(), values) {
+        Ok((trees, rest)) => {
+            if rest.is_empty() {
+                return Ok(Filled {
+                    dataset,
+                    values: trees,
+                });
+            }
+            Err(refused(Bad::Trailing, whole.saturating_sub(rest.len())))
+        }
+        Err(Stop::Wrong(kind, left)) => Err(refused(kind, whole.saturating_sub(left))),
+        Err(Stop::Memory) => Err(AllRefusal::Memory),
+    }
 }
 
 /// The verdict on a body, whatever its length.
@@ -54,28 +79,15 @@ fn decode_front(alloc: Global, body: &[u8]) -> Result<Filled, AllRefusal>
         (λ f. IsGood body.now (dataset_view f.dataset) (map tree_view f.values)) }
     ensures refused { IfErr result (IsRefusalIn body.now) }
 {
-    let head = match read_head(alloc, body) {
-        Ok(head) => head,
-        Err(HeadStop::Cut) => {
-            return Err(AllRefusal::Refused(BadField {
-                kind: Bad::Cut,
-                place: body.len() as u64,
-            }));
-        }
-        Err(HeadStop::Differs) => return Err(AllRefusal::Unbuilt),
-        Err(HeadStop::Memory) => return Err(AllRefusal::Memory),
-    };
-    let (rows, end) = match rows(alloc, body, head.start, head.columns.items()) {
-        Ok(read) => read,
-        Err(refusal) => return Err(refusal),
-    };
-    if end < body.len() {
-        return Err(AllRefusal::Refused(BadField {
-            kind: Bad::Trailing,
-            place: end as u64,
-        }));
+    let (dataset, used) = dataset(alloc, body)?;
+    match data_line(&body[used..]) {
+        Ok(values) => fill(alloc, dataset, body.len(), values),
+        Err(LineStop::Cut) => Err(refused(Bad::Cut, body.len())),
+        Err(LineStop::Differs(left)) => Err(refused(
+            Bad::BadDataLine,
+            body.len().saturating_sub(left),
+        )),
     }
-    Ok(fill(alloc, head.table, head.columns, rows)?)
 }
 
 /// There are too many bytes.
@@ -115,10 +127,9 @@ fn decode_body(alloc: Global, body: &[u8]) -> Result<Filled, AllRefusal>
     answer
 }
 
-/// The dataset and the values of a body, which is a plain head and a spelling of values behind it
-/// (DAP 2.0, DODS; RFC 4506). `Refused` says what is wrong first; `Unbuilt` comes where the bytes are
-/// neither the body of a plain table nor the front of one; `Memory` where memory is wanted, and in
-/// place of any other answer.
+/// The dataset and the values of a body (DAP 2.0, DODS; RFC 4506): a DDS, the line `Data:`, and a
+/// spelling of values of its dataset. `Refused` says what is wrong first, with its place; `Memory` comes
+/// where memory is wanted, and in place of any other answer.
 pub fn decode_all(alloc: Global, body: &[u8]) -> Result<Filled, AllRefusal>
     ensures body { IfOk result (λ filled.
         IsBody body.now (dataset_view filled.dataset) (map tree_view filled.values)) }

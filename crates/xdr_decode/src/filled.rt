@@ -16,8 +16,6 @@ pub struct Filled {
 pub enum AllRefusal {
     /// Something is wrong with the body.
     Refused(BadField),
-    /// The body of no plain table, nor the front of one.
-    Unbuilt,
     /// No memory was left.
     Memory,
 }

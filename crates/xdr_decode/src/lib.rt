@@ -1,16 +1,28 @@
-//! Reads a data response (DAP 2.0, DODS) that stands in memory. In come the bytes of a body; out go
-//! its dataset and the values of its variables, or the first thing that is wrong with its kind and
-//! its place: the one verdict that `specs/Verdict` defines.
+//! Reads the values of a data response (DAP 2.0, DODS; RFC 4506). In come the bytes of a body: out of
+//! memory, whole, and then its dataset and the values of its variables go out; or in pieces of any
+//! length behind its `Data:` line, and then a line for each element goes to a sink, and no memory is
+//! taken. Either way the first thing that is wrong is told with its kind and its place: the one
+//! verdict that `specs/Verdict` and `specs/After` define.
 #![tactic(auto)]
 
 mod bad;
+mod buffer;
+mod data_line;
 mod decode;
+mod decoder;
+mod field;
 mod filled;
-mod head;
+mod line;
+mod path;
+mod place;
 #[cfg(test)]
 mod tests;
+mod trees;
+mod turn;
+mod value_text;
 mod values;
 
 pub use bad::{Bad, BadField};
 pub use decode::decode_all;
+pub use decoder::{Decoder, Pushed};
 pub use filled::{AllRefusal, Filled};

@@ -1,248 +1,133 @@
-ghost use Rattle.std.specs.Prelude.{◌≡◌, ◌≢◌, ◌∷◌, [], ℕ, ◌+◌, ◌-◌, ◌%◌, ◌<◌, ◌≤◌, ◌^◌, List as Items, ◌++◌, length, drop, All, map, replicate, IfOk, IfErr, OnOk, MatchBool, MatchOption};
-ghost use Rattle.std.specs.List.{AllPass, flat_map};
-ghost use Rattle.dap_types.specs.Model.{kids};
-ghost use Rattle.dap_types.specs.View.{tree_view};
-ghost use Rattle.dap_types.specs.declared.declarations.BaseType.TheVariants.{Int32, Text};
-ghost use Rattle.dap_types.specs.declared.declarations.Column.{Column as ColumnValue};
-ghost use Rattle.dap_types.specs.declared.values.Value.TheVariants.{Whole};
-ghost use Rattle.dap_model.specs.Fits.{FitsRow, IsOf};
-ghost use Rattle.dap_model.specs.Plain.{IsPlainType};
-ghost use Rattle.dap_model.specs.Xdr.{cell_fields, mark, number, padding, row_fields, size, string_fields, text, value_fields, word, zeros};
-ghost use Rattle.xdr_decode.specs.declared.bad.Bad.TheVariants.{Cut};
-ghost use Rattle.xdr_decode.specs.declared.filled.AllRefusal.TheVariants.{Refused};
-ghost use Rattle.xdr_decode.specs.inner.Progress.{AreAllPlain, Reads, Refuses, StopsAt, at_cell, before, between, ended, in_padding, in_text};
+//! One value out of bytes that stand in memory.
 
-use crate::{AllRefusal, Bad, BadField};
-use dap_types::{BaseType, Bytes, Column, List, Tree, Value};
+ghost use Rattle.std.specs.Prelude.{◌≡◌, ◌≢◌, ℕ, ◌+◌, ◌<◌, ◌++◌, ◌∷◌, [], List as Items, length, IfOk, IfErr, MatchBool};
+ghost use Rattle.dap_types.specs.declared.declarations.BaseType.TheVariants.{Byte};
+ghost use Rattle.dap_types.specs.declared.declarations.Column.{Column as ColumnValue};
+ghost use Rattle.dap_types.specs.declared.values.Value.TheVariants.{Whole, Text as Characters, Bits32, Bits64};
+ghost use Rattle.dap_model.specs.Fits.{IsOf};
+ghost use Rattle.dap_model.specs.Xdr.{Field, mark as field_of_mark, packed as field_of_byte, padding, text, value_fields};
+ghost use Rattle.xdr_decode.specs.declared.bad.Bad.TheVariants.{Cut};
+ghost use Rattle.xdr_decode.specs.declared.values.Stop.TheVariants.{Wrong, Memory};
+ghost use Rattle.xdr_decode.specs.inner.Asked.{Asks, Is};
+ghost use Rattle.xdr_decode.specs.inner.Taken.{IsTaken, Spelt, Stops, element_fields, element_want};
+ghost use Rattle.xdr_fields.specs.Wants.{Want, a_byte, a_padding, a_text, a_value, rows};
+
+use crate::Bad;
+use crate::field::{Ask, Token, judge};
+use crate::place::fill;
+use dap_types::{BaseType, Bytes, Memory, Value};
 use std::alloc::Global;
 
-/// The word at a place (RFC 4506, unsigned integer), where it is whole.
-fn word_at(values: &[u8], at: usize) -> Option<u32>
-    requires { at ≤ length values.now }
-    ensures { MatchOption result (length (drop at values.now) < 4)
-        (λ n. (at + 4 ≤ length values.now)
-        × (drop at values.now ≡ word n ++ drop (at + 4) values.now) × (n < 2 ^ 32)) }
-{
-    if values.len() - at < 4 {
-        return None;
-    }
-    let bytes = [values[at], values[at + 1], values[at + 2], values[at + 3]];
-    Some(u32::from_be_bytes(bytes))
+/// Why nothing was read.
+#[derive(Clone, Copy)]
+pub enum Stop {
+    /// What is wrong first, and how many bytes stand from there on.
+    Wrong(Bad, usize),
+    /// No memory was left.
+    Memory,
 }
 
-/// The values end inside a field.
-fn cut(values: &[u8]) -> AllRefusal
-    ensures { result ≡ Refused (record { kind = Cut; place = length values.now }) }
-{
-    AllRefusal::Refused(BadField {
-        kind: Bad::Cut,
-        place: values.len() as u64,
-    })
-}
+impl From<Memory> for Stop {
+    ghost from_gives = { λ _ e. e ≡ Memory };
 
-/// A field at a place is bad.
-fn bad(kind: Bad, at: usize) -> AllRefusal
-    ensures { result ≡ Refused (record { kind = kind; place = at }) }
-{
-    AllRefusal::Refused(BadField {
-        kind,
-        place: at as u64,
-    })
-}
-
-/// Whether the mark at a place is that of a row; else it is that of the end (DAP 2.0, Sequence).
-fn is_row(values: &[u8], at: usize) -> Result<bool, AllRefusal>
-    requires { at ≤ length values.now }
-    ensures within { OnOk result (at + 4 ≤ length values.now) }
-    ensures read { (columns : Items ColumnValue) → IfOk result (λ row. MatchBool row
-        (Reads columns between (drop at values.now) (mark 0x5a ∷ []) (before columns)
-        (drop (at + 4) values.now))
-        (Reads columns between (drop at values.now) (mark 0xa5 ∷ []) ended
-        (drop (at + 4) values.now))) }
-    ensures refused { (columns : Items ColumnValue) →
-        IfErr result (StopsAt columns between values.now at) }
-{
-    match word_at(values, at) {
-        None => Err(cut(values)),
-        Some(0x5a00_0000) => Ok(true),
-        Some(0xa500_0000) => Ok(false),
-        Some(_) => Err(bad(Bad::WrongMark, at)),
+    fn from(_: Memory) -> Self {
+        Stop::Memory
     }
 }
 
-/// The length of the string at a place (RFC 4506, string).
-fn size_at(values: &[u8], at: usize) -> Result<usize, AllRefusal>
-    requires { at ≤ length values.now }
-    ensures within { IfOk result (λ n. (at + 4 ≤ length values.now) × (n < 2 ^ 31)) }
-    ensures read { (columns : Items ColumnValue) (c : ColumnValue) (cs : Items ColumnValue)
-        → c.base ≡ Text → IfOk result (λ n. Reads columns (at_cell c cs) (drop at values.now)
-        (size n ∷ []) (in_text n cs) (drop (at + 4) values.now)) }
-    ensures refused { (columns : Items ColumnValue) (c : ColumnValue) (cs : Items ColumnValue)
-        → c.base ≡ Text → IfErr result (StopsAt columns (at_cell c cs) values.now at) }
+/// So many bytes, and what stands behind them.
+fn split(bytes: &[u8], width: usize) -> Result<(&[u8], &[u8]), Stop>
+    ensures parts { IfOk result (λ r. bytes.now ≡ r.0.now ++ r.1.now) }
+    ensures wide { IfOk result (λ r. length r.0.now ≡ width) }
+    ensures short { IfErr result (λ e. (e ≡ Wrong Cut 0) × (length bytes.now < width)) }
 {
-    match word_at(values, at) {
-        None => Err(cut(values)),
-        Some(size) if size > 0x7fff_ffff => Err(bad(Bad::BadCount, at)),
-        Some(size) => Ok(size as usize),
+    if bytes.len() < width {
+        return Err(Stop::Wrong(Bad::Cut, 0));
+    }
+    Ok(bytes.split_at(width))
+}
+
+/// The field that is asked for, and what stands behind it.
+pub fn field(ask: Ask, bytes: &[u8]) -> Result<(Token, &[u8]), Stop>
+    ensures read { (w : Want) → Asks ask w → IfOk result (λ r. IsTaken w r.0 bytes.now r.1.now) }
+    ensures stop { (w : Want) → Asks ask w → IfErr result (Stops (w ∷ []) bytes.now) }
+{
+    let (own, rest) = split(bytes, ask.width())?;
+    match judge(ask, own) {
+        Ok(token) => Ok((token, rest)),
+        Err(kind) => Err(Stop::Wrong(kind, bytes.len())),
     }
 }
 
-/// The bytes of a string of a known length.
-fn text_at(values: &[u8], at: usize, size: usize) -> Result<&[u8], AllRefusal>
-    requires { at ≤ length values.now }
-    ensures within { IfOk result
-        (λ bytes. (at + size ≤ length values.now) × (length bytes.now ≡ size)) }
-    ensures read { (columns cs : Items ColumnValue) → IfOk result (λ bytes.
-        Reads columns (in_text size cs) (drop at values.now) (text bytes.now ∷ [])
-        (in_padding size cs) (drop (at + size) values.now)) }
-    ensures refused { (columns cs : Items ColumnValue) →
-        IfErr result (StopsAt columns (in_text size cs) values.now at) }
+/// The bytes of a string of a known length, and what stands behind its padding (RFC 4506, string).
+fn string(alloc: Global, size: u32, bytes: &[u8]) -> Result<(Bytes, &[u8]), Stop>
+    ensures long { IfOk result (λ r. length r.0 ≡ size) }
+    ensures read { IfOk result (λ r. Spelt (text r.0 ∷ padding size ∷ []) bytes.now r.1.now) }
+    ensures stop { IfErr result (Stops (a_text size ∷ a_padding size ∷ []) bytes.now) }
 {
-    if values.len() - at < size {
-        return Err(cut(values));
-    }
-    Ok(&values[at..at + size])
+    let (own, rest) = split(bytes, size as usize)?;
+    let (_, behind) = field(Ask::Padding(fill(size)), rest)?;
+    Ok((Bytes::new(alloc, own)?, behind))
 }
 
-fn is_zeros(bytes: &[u8]) -> bool
-    ensures { MatchBool result (bytes.now ≡ replicate (length bytes.now) 0)
-        (bytes.now ≢ replicate (length bytes.now) 0) }
+/// A value of a type, and what stands behind it.
+pub fn value(alloc: Global, base: BaseType, bytes: &[u8]) -> Result<(Value, &[u8]), Stop>
+    ensures fits { IfOk result (λ r. IsOf base r.0) }
+    ensures read { IfOk result (λ r. Spelt (value_fields base r.0) bytes.now r.1.now) }
+    ensures stop { (path : Items ℕ) → IfErr result (Stops (a_value path base ∷ []) bytes.now) }
 {
-    bytes.iter().all(|byte| *byte == 0)
-}
-
-/// The place behind the padding of a string of a known length (RFC 4506, string).
-fn behind_padding(values: &[u8], at: usize, size: usize) -> Result<usize, AllRefusal>
-    requires within { at ≤ length values.now }
-    requires small { size < 2 ^ 31 }
-    ensures within { IfOk result (λ to. to ≤ length values.now) }
-    ensures read { (columns cs : Items ColumnValue) → IfOk result (λ to.
-        Reads columns (in_padding size cs) (drop at values.now) (padding size ∷ []) (before cs)
-        (drop to values.now)) }
-    ensures refused { (columns cs : Items ColumnValue) →
-        IfErr result (StopsAt columns (in_padding size cs) values.now at) }
-{
-    let count = 3 - (size + 3) % 4;
-    if values.len() - at < count {
-        return Err(cut(values));
-    }
-    if !is_zeros(&values[at..at + count]) {
-        return Err(bad(Bad::BadPadding, at));
-    }
-    Ok(at + count)
-}
-
-/// The string at a place (RFC 4506, string), and the place behind it.
-fn string_at(values: &[u8], at: usize) -> Result<(&[u8], usize), AllRefusal>
-    requires { at ≤ length values.now }
-    ensures within { IfOk result (λ r. (r.1 ≤ length values.now) × (length r.0.now < 2 ^ 31)) }
-    ensures read { (columns : Items ColumnValue) (c : ColumnValue) (cs : Items ColumnValue)
-        → c.base ≡ Text → IfOk result (λ r. Reads columns (at_cell c cs) (drop at values.now)
-        (string_fields r.0.now) (before cs) (drop r.1 values.now)) }
-    ensures refused { (columns : Items ColumnValue) (c : ColumnValue) (cs : Items ColumnValue)
-        → c.base ≡ Text → IfErr result (StopsAt columns (at_cell c cs) values.now at) }
-{
-    let size = size_at(values, at)?;
-    let bytes = text_at(values, at + 4, size)?;
-    let behind = behind_padding(values, at + 4 + size, size)?;
-    Ok((bytes, behind))
-}
-
-/// The Int32 at a place (RFC 4506, integer).
-fn whole_at(values: &[u8], at: usize) -> Result<i32, AllRefusal>
-    requires { at ≤ length values.now }
-    ensures within { IfOk result (λ z. (at + 4 ≤ length values.now) × IsOf Int32 (Whole z)) }
-    ensures read { (columns : Items ColumnValue) (c : ColumnValue) (cs : Items ColumnValue)
-        → c.base ≡ Int32 → IfOk result (λ z. Reads columns (at_cell c cs) (drop at values.now)
-        (number Int32 (Whole z) ∷ []) (before cs) (drop (at + 4) values.now)) }
-    ensures refused { (columns : Items ColumnValue) (c : ColumnValue) (cs : Items ColumnValue)
-        → c.base ≡ Int32 → IfErr result (StopsAt columns (at_cell c cs) values.now at) }
-{
-    match word_at(values, at) {
-        None => Err(cut(values)),
-        Some(word) => Ok(word.cast_signed()),
+    let (token, rest) = field(Ask::Value(base), bytes)?;
+    match token {
+        Token::Whole(whole) => Ok((Value::Whole(whole), rest)),
+        Token::Bits32(bits) => Ok((Value::Bits32(bits), rest)),
+        Token::Bits64(bits) => Ok((Value::Bits64(bits), rest)),
+        Token::Size(size) => {
+            let (text, behind) = string(alloc, size, rest)?;
+            Ok((Value::Text(text), behind))
+        }
+        _ => unreachable!(),
     }
 }
 
-/// The cell of a column of a base type at a place, and the place behind it. Other types than String
-/// and Int32 are not built.
-fn cell(
-    alloc: Global,
-    values: &[u8],
-    at: usize,
-    base: BaseType,
-) -> Result<(Value, usize), AllRefusal>
-    requires within { at ≤ length values.now }
-    requires plain { IsPlainType base }
-    ensures within { IfOk result (λ r. (r.1 ≤ length values.now) × IsOf base r.0) }
-    ensures read { (columns : Items ColumnValue) (c : ColumnValue) (cs : Items ColumnValue)
-        → c.base ≡ base → IfOk result (λ r. Reads columns (at_cell c cs) (drop at values.now)
-        (value_fields base r.0) (before cs) (drop r.1 values.now)) }
-    ensures refused { (columns : Items ColumnValue) (c : ColumnValue) (cs : Items ColumnValue)
-        → c.base ≡ base → IfErr result (Refuses columns (at_cell c cs) values.now at) }
+/// A packed byte, and what stands behind it.
+fn packed(bytes: &[u8]) -> Result<(Value, &[u8]), Stop>
+    ensures fits { IfOk result (λ r. IsOf Byte r.0) }
+    ensures read { IfOk result (λ r. Spelt (field_of_byte r.0 ∷ []) bytes.now r.1.now) }
+    ensures stop { (path : Items ℕ) → IfErr result (Stops (a_byte path ∷ []) bytes.now) }
+{
+    let (token, rest) = field(Ask::Packed, bytes)?;
+    match token {
+        Token::Whole(whole) => Ok((Value::Whole(whole), rest)),
+        _ => unreachable!(),
+    }
+}
+
+/// An element of an array, and what stands behind it.
+pub fn element(alloc: Global, base: BaseType, bytes: &[u8]) -> Result<(Value, &[u8]), Stop>
+    ensures fits { IfOk result (λ r. IsOf base r.0) }
+    ensures read { IfOk result (λ r. Spelt (element_fields base r.0) bytes.now r.1.now) }
+    ensures stop { (path : Items ℕ) → IfErr result (Stops (element_want base path ∷ []) bytes.now) }
 {
     match base {
-        BaseType::Text => {
-            let (bytes, behind) = string_at(values, at)?;
-            Ok((Value::Text(Bytes::new(alloc, bytes)?), behind))
-        }
-        _ => {
-            let whole = whole_at(values, at)?;
-            Ok((Value::Whole(i64::from(whole)), at + 4))
-        }
+        BaseType::Byte => packed(bytes),
+        _ => value(alloc, base, bytes),
     }
 }
 
-/// The row of a table of some columns at a place (DAP 2.0, Sequence), behind its mark, and the place
-/// behind it.
-fn row(
-    alloc: Global,
-    values: &[u8],
-    start: usize,
-    columns: &[Column],
-) -> Result<(Tree, usize), AllRefusal>
-    requires within { start ≤ length values.now }
-    requires plain { AreAllPlain columns.now }
-    ensures within { IfOk result (λ r. (r.1 ≤ length values.now) × FitsRow columns.now (tree_view r.0)) }
-    ensures read { (all : Items ColumnValue) → IfOk result (λ r.
-        Reads all (before columns.now) (drop start values.now)
-        (cell_fields columns.now (kids (tree_view r.0))) between (drop r.1 values.now)) }
-    ensures refused { (all : Items ColumnValue) →
-        IfErr result (Refuses all (before columns.now) values.now start) }
+/// Whether the mark of a row comes, and not that of the end (DAP 2.0, Sequence), and what stands behind
+/// it.
+pub fn is_row(bytes: &[u8]) -> Result<(bool, &[u8]), Stop>
+    ensures shorter { IfOk result (λ r. length r.1.now + 4 ≡ length bytes.now) }
+    ensures read { IfOk result (λ r. MatchBool r.0
+        (Spelt (field_of_mark 0x5a ∷ []) bytes.now r.1.now)
+        (Spelt (field_of_mark 0xa5 ∷ []) bytes.now r.1.now)) }
+    ensures stop { (above name : Items ℕ) (columns : Items ColumnValue) (row : ℕ) →
+        IfErr result (Stops (rows above name columns row ∷ []) bytes.now) }
 {
-    let mut cells = List::new(alloc);
-    let mut at = start;
-    for column in columns {
-        let (value, behind) = cell(alloc, values, at, column.base)?;
-        cells.push(Tree::One(value))?;
-        at = behind;
+    let (token, rest) = field(Ask::Mark, bytes)?;
+    match token {
+        Token::Row => Ok((true, rest)),
+        Token::End => Ok((false, rest)),
+        _ => unreachable!(),
     }
-    Ok((Tree::Many(cells), at))
-}
-
-/// The rows of a table of some columns that begin at a place, and the place behind the last mark
-/// (DAP 2.0, Sequence).
-pub fn rows(
-    alloc: Global,
-    values: &[u8],
-    start: usize,
-    columns: &[Column],
-) -> Result<(List<Tree>, usize), AllRefusal>
-    requires within { start ≤ length values.now }
-    requires plain { AreAllPlain columns.now }
-    ensures within { IfOk result
-        (λ r. (r.1 ≤ length values.now) × All (FitsRow columns.now) (map tree_view r.0)) }
-    ensures read { IfOk result (λ r. Reads columns.now between (drop start values.now)
-        (flat_map (row_fields columns.now) (map tree_view r.0) ++ mark 0xa5 ∷ [])
-        ended (drop r.1 values.now)) }
-    ensures refused { IfErr result (Refuses columns.now between values.now start) }
-{
-    let mut rows = List::new(alloc);
-    let mut at = start;
-    while is_row(values, at)? {
-        let (row, behind) = row(alloc, values, at + 4, columns)?;
-        rows.push(row)?;
-        at = behind;
-    }
-    Ok((rows, at + 4))
 }

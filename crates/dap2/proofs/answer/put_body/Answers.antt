@@ -1,8 +1,8 @@
 use Rattle.std.proofs.Common.{[], refl}
 use Rattle.dap2.proofs.answer.put_body.Goals as goal
 
-pub returns-in-ShelfFault-clause-why : goal.returns-in-ShelfFault-clause-why
-returns-in-ShelfFault-clause-why g c = absurd (((c.in-ShelfFault.ensures.alone c.requires.0).1 []).1 refl)
+pub returns-in-ShelfFault-clause-alone : goal.returns-in-ShelfFault-clause-alone
+returns-in-ShelfFault-clause-alone g c = λ alone. absurd (((c.in-ShelfFault.ensures.alone alone).1 []).1 refl)
 
-pub returns-clause-prefix : goal.returns-clause-prefix
-returns-clause-prefix g c = λ _ held. ((c.in-WriteFault.ensures.alone c.requires.0).1 held).0
+pub returns-clause-alone : goal.returns-clause-alone
+returns-clause-alone g c = λ alone. ((λ same. cc same), λ bytes. ((c.in-WriteFault.ensures.alone alone).1 bytes).0)

@@ -1,23 +1,28 @@
-use Rattle.std.proofs.Common.{subst, sym, arith}
-use Rattle.xdr_decode.proofs.Moves.{stops-cut}
-use Rattle.xdr_decode.proofs.Parts.{row-mark, last-mark, other-mark}
-use Rattle.xdr_decode.specs.inner.Progress.{StopsAt, between}
+use Rattle.std.proofs.Common.{◌∷◌, [], ◌∙◌, sym, subst, refl, rules}
+use Rattle.xdr_fields.specs.Wants.{rows}
+use Rattle.xdr_decode.proofs.Valued.{end_taken, mark_none, mark_shorter, mark_token, row_taken}
+use Rattle.xdr_decode.specs.inner.Taken.{IsTaken, Stops}
 use Rattle.xdr_decode.proofs.values.is_row.Goals as goal
 
-pub returns-in-None-clause-refused : goal.returns-in-None-clause-refused
-returns-in-None-clause-refused c =
-    λ columns. subst (StopsAt columns between c.args.values.now c.args.at) (sym c.cut.ensures) (stops-cut columns between c.args.values.now c.args.at c.requires c.in-None.ensures)
+pub returns-in_err-token-clause-stop : goal.returns-in_err-token-clause-stop
+returns-in_err-token-clause-stop c = λ above name columns row.
+    let stop : Stops (rows above name columns row ∷ []) c.args.bytes.now c.in_err-token.field-0.0 = c.in_err-token.ensures.stop (rows above name columns row) tt in
+    search (rules, stop)
 
-pub returns-in-Some-eq1509949440-clause-read : goal.returns-in-Some-eq1509949440-clause-read
-returns-in-Some-eq1509949440-clause-read c =
-    λ columns. row-mark columns c.args.values.now c.args.at c.in-Some-eq1509949440.field-0 (omega arith) c.in-Some-eq1509949440.ensures.1
+pub unreachable-requires : goal.unreachable-requires
+unreachable-requires c =
+    mark_none c.in_ok-token.token (mark_token [] [] [] 0 c.in_ok-token.token c.args.bytes.now c.in_ok-token.rest.now (c.in_ok-token.ensures.read (rows [] [] [] 0) tt)) c.in_default.not-Row c.in_default.not-End
 
-pub returns-in-Some-eq2768240640-clause-read : goal.returns-in-Some-eq2768240640-clause-read
-returns-in-Some-eq2768240640-clause-read c =
-    λ columns. last-mark columns c.args.values.now c.args.at c.in-Some-eq2768240640.field-0 (omega arith) c.in-Some-eq2768240640.ensures.1
+pub returns-in-Row-clause-shorter : goal.returns-in-Row-clause-shorter
+returns-in-Row-clause-shorter c = mark_shorter [] [] [] 0 c.in_ok-token.token c.args.bytes.now c.in_ok-token.rest.now (c.in_ok-token.ensures.read (rows [] [] [] 0) tt)
 
-pub returns-in-Some-clause-refused : goal.returns-in-Some-clause-refused
-returns-in-Some-clause-refused c =
-    λ columns.
-    subst (StopsAt columns between c.args.values.now c.args.at) (sym c.bad.ensures)
-    (other-mark columns c.args.values.now c.args.at c.in-Some.field-0 c.in-Some.ensures.2 c.in-Some.field-0-test.0.1 c.in-Some.field-0-test.1 c.in-Some.ensures.1)
+pub returns-in-End-clause-shorter : goal.returns-in-End-clause-shorter
+returns-in-End-clause-shorter c = mark_shorter [] [] [] 0 c.in_ok-token.token c.args.bytes.now c.in_ok-token.rest.now (c.in_ok-token.ensures.read (rows [] [] [] 0) tt)
+
+pub returns-in-Row-clause-read : goal.returns-in-Row-clause-read
+returns-in-Row-clause-read c =
+    row_taken [] [] [] 0 c.args.bytes.now c.in_ok-token.rest.now (subst (λ t. IsTaken (rows [] [] [] 0) t c.args.bytes.now c.in_ok-token.rest.now) c.in-Row.is (c.in_ok-token.ensures.read (rows [] [] [] 0) tt))
+
+pub returns-in-End-clause-read : goal.returns-in-End-clause-read
+returns-in-End-clause-read c =
+    end_taken [] [] [] 0 c.args.bytes.now c.in_ok-token.rest.now (subst (λ t. IsTaken (rows [] [] [] 0) t c.args.bytes.now c.in_ok-token.rest.now) c.in-End.is (c.in_ok-token.ensures.read (rows [] [] [] 0) tt))

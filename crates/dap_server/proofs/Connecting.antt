@@ -1,0 +1,123 @@
+-- The steps of a connection, together.
+use Rattle.std.proofs.Common.{◌≡◌, ◌≢◌, ℕ, ◌+◌, ◌-◌, ◌^◌, ◌<◌, ◌≤◌, min, Bool, false, true, ◌||◌, ◌==◌, List, [], ◌∷◌, ◌++◌, length, Option, Some, None, IsSome, IsTrue, Result, Ok, Err, refl, sym, ap, ◌∙◌, subst, arith, append-nil, length-append, inl, inr, ◌⊎◌}
+use Rattle.std.proofs.lemmas.Bool.{cases_lt, true≢false}
+use Rattle.std.specs.Io.KnownBytes.{Appends, Consumes, IsAtEnd}
+use Rattle.httparse.specs.Grammar.{RequestHead, print_request}
+use Rattle.dap_errors.specs.declared.cause.Cause.TheVariants.{OutOfMemory}
+use Rattle.dap_http.specs.Requests.{FirstRequest, HasNoRequest}
+use Rattle.dap_http.specs.declared.head_reader.Head.{Head}
+use Rattle.dap_http.proofs.Feeds.{request-feed}
+use Rattle.dap_outside.specs.Causes.{Rose}
+use Rattle.dap_outside.specs.Files.{Told}
+use Rattle.dap_server.specs.Connections.{Connection, ConnectionMayAsk, IsServed, RoseBy, RoseFor, failures, put_from}
+use Rattle.dap_server.specs.Files.{Files}
+use Rattle.dap_server.specs.Whole.{AnswersAll}
+use Rattle.dap_server.specs.declared.served.Ending.TheVariants.{Closed, WriteFault}
+use Rattle.dap_server.specs.declared.served.Served.{Served}
+use Rattle.dap_server.specs.declared.turn.Answered.{Answered}
+use Rattle.dap_server.specs.declared.turn.Answered.TheVariants as answered
+use Rattle.dap_server.specs.declared.turn.Next.{Next}
+use Rattle.dap_server.specs.inner.Serving.{Answers, GoesOn, GoesOnFew, PutsLast, PutsRefusal, RoseNext, ServesFrom, Stand, known, next_of, request_in}
+use Rattle.dap_server.proofs.Ends.{refused}
+use Rattle.dap_server.proofs.Requesting.{last-put, no-memory, stand}
+use Rattle.dap_server.proofs.Turning.{goes-on}
+use Rattle.dap_server.proofs.WholeConnections.{whole}
+
+-- ---- what comes behind a request
+
+pub next-rose : (n before : ℕ) (a : Answered) (r : Next) (t t' p p1 p' : ℕ) → r ≡ next_of n before a → p1 ≡ p → (a ≡ answered.WriteFault → Rose p1 p') → RoseNext r t t' p p'
+next-rose n before (answered.Whole status false) r t t' p p1 p' is same rose = subst (λ x. RoseNext x t t' p p') (sym is) tt
+next-rose n before (answered.Whole status true) r t t' p p1 p' is same rose = subst (λ x. RoseNext x t t' p p') (sym is) tt
+next-rose n before answered.Broken r t t' p p1 p' is same rose = subst (λ x. RoseNext x t t' p p') (sym is) tt
+next-rose n before answered.WriteFault r t t' p p1 p' is same rose = subst (λ x. RoseNext x t t' p p') (sym is) (subst (λ m. Rose m p') same (rose refl))
+
+few-more : (n : ℕ) → n < 1000 → (n + 1 == 1000) ≡ false → n + 1 < 1000
+few-more n few other = elim (cases_lt (n + 1) 1000) [
+  | inl less ↦ less
+  | inr most ↦ (let is : n + 1 ≡ 1000 = omega (arith, few, most) in absurd (true≢false (sym (ap (λ m. m == 1000) is) ∙ other)))
+]
+
+or-left : (a b : Bool) → false ≡ (a || b) → a ≡ false
+or-left true b is = cc is
+or-left false b is = refl
+
+or-right : (a b : Bool) → false ≡ (a || b) → b ≡ false
+or-right true b is = cc is
+or-right false b is = sym is
+
+pub next-few : (n before : ℕ) (told : Told) (h : Head) (ends : Bool) (s z : Stand) (a : Answered) (r : Next) → r ≡ next_of n before a → n < 1000 → ends ≡ (h.ends || (n + 1 == 1000))
+    → Answers told (request_in h ends) s z a → GoesOnFew n r
+next-few n before told h ends s z (answered.Whole status false) r is few e (answer, may, (st, last, appends), rose, asks) =
+    let open_end : ends ≡ false = or-left ends (Rattle.dap_server.specs.Replies.wants answer) last in
+    subst (GoesOnFew n) (sym is) (few-more n few (or-right h.ends (n + 1 == 1000) (sym open_end ∙ e)))
+next-few n before told h ends s z (answered.Whole status true) r is few e answers = subst (GoesOnFew n) (sym is) tt
+next-few n before told h ends s z answered.Broken r is few e answers = subst (GoesOnFew n) (sym is) tt
+next-few n before told h ends s z answered.WriteFault r is few e answers = subst (GoesOnFew n) (sym is) tt
+
+pub last-rose : (bytes : List ℕ) (status n before : ℕ) (old new : Option (List ℕ)) (served : Served) (t t' p p1 p' : ℕ) → PutsLast bytes status n before old new served → p1 ≡ p
+    → RoseFor served.ending 0 0 p1 p' → RoseFor served.ending t t' p p'
+last-rose bytes status n before old new served t t' p p1 p' (inl (is, appends)) same rose = subst (λ (x : Served). RoseFor x.ending t t' p p') (sym is) tt
+last-rose bytes status n before old new served t t' p p1 p' (inr (is, cut)) same rose =
+    subst (λ (x : Served). RoseFor x.ending t t' p p') (sym is) (subst (λ m. Rose m p') same (subst (λ (x : Served). RoseFor x.ending 0 0 p1 p') is rose))
+
+pub refusal-rose : (cause : Rattle.dap_errors.specs.declared.cause.Cause.Cause) (n before : ℕ) (old new : Option (List ℕ)) (served : Served) (t t' p p1 p' : ℕ) → PutsRefusal cause n before old new served → p1 ≡ p
+    → RoseFor served.ending 0 0 p1 p' → RoseFor served.ending t t' p p'
+refusal-rose cause n before old new served t t' p p1 p' (final, why, puts) same rose = last-rose _ _ n before old new served t t' p p1 p' puts same rose
+
+-- ---- the whole connection
+
+no-head : (head : RequestHead) (rest : List ℕ) → FirstRequest [] head rest → ⊥
+no-head head rest first =
+    let long : length (print_request head ++ rest) ≡ 0 = sym (ap length first.0.0.1) in
+    omega (arith, long, length-append (print_request head) rest, some-bytes head)
+  where
+    some-bytes : (h : RequestHead) → 0 < length (print_request h)
+    some-bytes h = let (front, ends) = request-feed h in let long : length (print_request h) ≡ length (front ++ 10 ∷ []) = ap length ends in omega (arith, long, length-append front (10 ∷ []))
+
+-- it was refused before anything was taken
+pub never-read : (told : Told) (l l1 w w1 : Option (List ℕ)) (f s : ℕ) (ended : Bool) (bytes : List ℕ) (served : Served) → l1 ≡ l → bytes ≡ Rattle.dap_http.specs.Texts.memory_text false → PutsLast bytes 503 0 0 w w1 served
+    → ServesFrom 0 0 told [] l l1 (stand w f s) (stand w1 f s) ended served
+never-read told l l1 w w1 f s ended bytes served same is puts =
+    refused 0 0 told [] [] l l1 (stand w f s) (stand w1 f s) ended OutOfMemory served (nothing-taken l l1 same) (inr (inr (refl, no-head)))
+    (last-put bytes _ 503 _ 0 0 w w1 served (is ∙ no-memory) refl puts) (omega arith) (omega arith)
+  where
+    nothing-taken : (old new : Option (List ℕ)) → new ≡ old → Consumes old new []
+    nothing-taken None new e = tt
+    nothing-taken (Some xs) None e = cc e
+    nothing-taken (Some xs) (Some ys) e = cc e
+
+some-known : (told : Told) (w w1 : Option (List ℕ)) (xs : List ℕ) → Appends (known told w) w1 xs → IsSome told → Appends w w1 xs
+some-known None w w1 xs appends some = cc some
+some-known (Some files) w w1 xs appends some = appends
+
+pub served-so : (told : Told) (l l1 w w1 : Option (List ℕ)) (f f1 s s1 : ℕ) (ended : Bool) (served : Served) → ServesFrom 0 0 told [] l l1 (stand w f s) (stand w1 f1 s1) ended served
+    → (c : Connection) × (taken : List ℕ) × Consumes l l1 taken × (IsSome told → Appends w w1 (put_from 1 c)) × IsServed told taken ended c served
+    × RoseBy (failures c served.ending) f f1 × ((n : ℕ) × ConnectionMayAsk told c n × (s1 ≤ s + n))
+served-so told l l1 w w1 f f1 s s1 ended served (c, taken, consumes, appends, is, rose, asks) =
+    (c, taken, consumes, some-known told w w1 (put_from 1 c) appends, is, rose, asks)
+
+pub whole-so : (told : Told) (l l1 w w1 : Option (List ℕ)) (f f1 s s1 : ℕ) (ended : Bool) (served : Served) (d e g h : ℕ) → ServesFrom 0 0 told [] l l1 (stand w f s) (stand w1 f1 s1) ended served
+    → RoseFor served.ending d e g h → (IsTrue ended → IsAtEnd l1)
+    → (files : Files) (input : List ℕ) → told ≡ Some files → l ≡ Some input → ¬ (Rose f f1) → ¬ (Rose d e) → ¬ (Rose g h) → served.status ≢ 503
+    → (gained : List ℕ) × Appends w w1 gained × AnswersAll input files gained served
+whole-so told l l1 w w1 f f1 s s1 ended served d e g h (c, taken, consumes, appends, is, rose, asks) causes at_end files input is_told is_left no_shelf no_take no_put calm =
+    whole told files input l l1 w w1 served ended f f1 d e g h
+    (c, taken, consumes, subst (λ t. Appends (known t w) w1 (put_from 1 c)) is_told appends, is, rose) causes at_end is_told is_left no_shelf no_take no_put calm
+
+-- ---- the loop: what comes of the requests from here on is what comes of the whole connection
+
+abbrev pub Whole-from : Told → Option (List ℕ) → Stand → ℕ → ℕ → List ℕ → Option (List ℕ) → Stand → Type 0
+Whole-from told l0 a0 n before kept l a =
+    (left' : Option (List ℕ)) (z : Stand) (ended : Bool) (served : Served) → ServesFrom n before told kept l left' a z ended served → ServesFrom 0 0 told [] l0 left' a0 z ended served
+
+pub loop-start : (told : Told) (l0 : Option (List ℕ)) (a0 : Stand) (kept : List ℕ) → kept ≡ [] → Whole-from told l0 a0 0 0 kept l0 a0
+loop-start told l0 a0 kept is = λ left' z ended served rest. subst (λ k. ServesFrom 0 0 told k l0 left' a0 z ended served) is rest
+
+pub loop-step : (told told1 : Told) (l0 l l' : Option (List ℕ)) (a0 a b : Stand) (n before status : ℕ) (kept kept' : List ℕ) → told1 ≡ told → Whole-from told l0 a0 n before kept l a
+    → GoesOn n told1 kept kept' l l' a b status → Whole-from told l0 a0 (n + 1) status kept' l' b
+loop-step told told1 l0 l l' a0 a b n before status kept kept' same so_far step = λ left' z ended served rest.
+    so_far left' z ended served (goes-on n before told kept kept' l l' left' a b z ended served status (subst (λ t. GoesOn n t kept kept' l l' a b status) same step) rest)
+
+pub loop-end : (told told1 : Told) (l0 l l' : Option (List ℕ)) (a0 a z : Stand) (n before : ℕ) (kept : List ℕ) (ended : Bool) (served : Served) → told1 ≡ told → Whole-from told l0 a0 n before kept l a
+    → ServesFrom n before told1 kept l l' a z ended served → ServesFrom 0 0 told [] l0 l' a0 z ended served
+loop-end told told1 l0 l l' a0 a z n before kept ended served same so_far last = so_far l' z ended served (subst (λ t. ServesFrom n before t kept l l' a z ended served) same last)

@@ -1,0 +1,97 @@
+-- From what a shelf said of a search and a read: files that it may have.
+use Rattle.std.proofs.Common.{◌≡◌, ℕ, ◌≤◌, List, length, min, Result, Option, Some, None, IsSome, Ok, Err, refl, sym, ap, ◌∙◌, inl, inr, arith}
+use Rattle.std.specs.Prelude.{option_map}
+use Rattle.std.specs.Option.{option_and_then, option_map_or}
+use Rattle.dap_errors.specs.declared.cause.Cause.{Cause}
+use Rattle.dap_errors.specs.declared.cause.Cause.TheVariants.{NoFile}
+use Rattle.dap_outside.specs.Files.{Told, Finds, HasSize}
+use Rattle.dap_server.specs.Costs.{most_first, most_of_form}
+use Rattle.dap_server.specs.Files.{Files, Form, MayHave, Stored, form_of, IsStored}
+use Rattle.dap_server.specs.Results.{File, Opens, Text, file_named}
+use Rattle.dap_server.specs.Steps.{Then, found_or}
+use Rattle.dap_server.specs.inner.Opening.{IsMissing, IsRead, Lies, OpenedAs, WhereRefused, stored_of}
+use Rattle.dap_server.specs.declared.open.Opened.{Opened}
+use Rattle.dap_server.specs.declared.open.Opened.TheVariants.{Netcdf, Table}
+use Rattle.dap_server.specs.declared.stop.Stop.{Stop}
+use Rattle.dap_server.specs.declared.stop.Stop.TheVariants.{Refused, ShelfFault, Memory}
+
+pub same_bytes : (content : Option (List ℕ)) (bytes b : List ℕ) → content ≡ Some b → IsRead content bytes → bytes ≡ b
+same_bytes None bytes b is is_read = cc is
+same_bytes (Some told) bytes b is is_read = cc (is, is_read)
+
+lies : {F : Type 0} (told : Told) (name_of content : F → Option (List ℕ)) (name : List ℕ) (file : F) (c : Option (List ℕ)) (size : ℕ) (bytes : List ℕ)
+    → Finds told name_of content name (Some file) → c ≡ content file → IsRead c bytes → size ≡ length bytes → Lies told c size name bytes
+lies None name_of content name file c size bytes finds same is_read is_size =
+    record { files = λ n. Some bytes; may_have = tt; there = refl; is_read = is_read; tells = λ some. cc some; is_size = is_size }
+lies (Some files) name_of content name file c size bytes (b, there, named, holds) same is_read is_size =
+    let is : bytes ≡ b = same_bytes c bytes b (same ∙ holds) is_read in
+    record { files = files; may_have = refl; there = there ∙ ap Some (sym is); is_read = is_read; tells = λ some. same ∙ holds ∙ ap Some (sym is); is_size = is_size }
+
+-- the file of a form
+abbrev file_of : Form → List ℕ → File
+file_of form bytes = record { form = form; bytes = bytes }
+
+named_file : (files : Files) (name bytes : List ℕ) (form : Form) → form_of name ≡ Some form → files name ≡ Some bytes → file_named files name ≡ Some (file_of form bytes)
+named_file files name bytes form is there =
+    ap (option_and_then (λ f. option_map (file_of f) (files name))) is ∙ ap (option_map (file_of form)) there
+
+-- what a file of that form and name has is what is opened
+opens : (files : Files) (name bytes : List ℕ) (form : Form) (r : Result Stored Cause) → form_of name ≡ Some form → files name ≡ Some bytes → IsStored form name bytes r → Opens files name r
+opens files name bytes form r is there stored =
+    inl (file_of form bytes, sym (ap (λ o. found_or o NoFile) (named_file files name bytes form is there)), stored)
+
+-- a file that was opened, and what follows it
+pub opened : (files : Files) (name bytes : List ℕ) (o : Opened) → files name ≡ Some bytes → OpenedAs o name bytes → Opens files name (Ok (stored_of o name bytes))
+opened files name bytes (Netcdf h) there (form, is_header, is_length) = opens files name bytes _ _ form there (h.contents, is_header, refl)
+opened files name bytes (Table t) there (form, is_table) = opens files name bytes _ _ form there (t, is_table, refl)
+
+-- no file of that name, or no form of file
+no_entry : (o : Option Form) → option_and_then (λ f. option_map (file_of f) None) o ≡ None
+no_entry None = refl
+no_entry (Some f) = refl
+
+missing : (told : Told) (name : List ℕ) → IsMissing told name → (files : Files) × MayHave told files × Opens files name (Err NoFile)
+missing None name is =
+    ((λ n. None), tt, inr (NoFile, sym (ap (λ o. found_or o NoFile) (no_entry (form_of name))), refl))
+missing (Some files) name is =
+    (files, refl, inr (NoFile, sym (ap (λ o. found_or o NoFile) (ap (λ f. option_and_then (λ form. option_map (file_of form) f) (form_of name)) is ∙ no_entry (form_of name))), refl))
+
+pub some_files : (told : Told) → (files : Files) × MayHave told files
+some_files None = ((λ n. None), tt)
+some_files (Some files) = (files, refl)
+
+pub formless : (told : Told) (name : List ℕ) → form_of name ≡ None → (files : Files) × MayHave told files × Opens files name (Err NoFile)
+formless told name is =
+    let (files, may) = some_files told in
+    (files, may, inr (NoFile, sym (ap (λ o. found_or o NoFile) (ap (option_and_then (λ form. option_map (file_of form) (files name))) is)), refl))
+
+-- as the functions that open a file need them
+abbrev Refuses : Told → List ℕ → Stop → Type 0
+Refuses told name s = WhereRefused (λ cause. (files : Files) × MayHave told files × Opens files name (Err cause)) s
+
+pub missing_stop : (told : Told) (name : List ℕ) (s : Stop) → WhereRefused (λ cause. (cause ≡ NoFile) × IsMissing told name) s → Refuses told name s
+missing_stop told name (Refused cause) (is, m) = let (files, may, opens) = missing told name m in (files, may, rw is opens)
+missing_stop told name ShelfFault x = tt
+missing_stop told name Memory x = tt
+
+pub spoiled_stop : {F : Type 0} (told : Told) (name_of content : F → Option (List ℕ)) (name : List ℕ) (file : F) (form : Form) (s : Stop) → form_of name ≡ Some form
+    → Finds told name_of content name (Some file) → WhereRefused (λ cause. (bytes : List ℕ) × IsRead (content file) bytes × IsStored form name bytes (Err cause)) s → Refuses told name s
+spoiled_stop told name_of content name file form (Refused cause) is finds (bytes, is_read, stored) =
+    let l = lies told name_of content name file (content file) (length bytes) bytes finds refl is_read refl in
+    (l.files, l.may_have, opens l.files name bytes form (Err cause) is l.there stored)
+spoiled_stop told name_of content name file form ShelfFault is finds x = tt
+spoiled_stop told name_of content name file form Memory is finds x = tt
+
+pub found : {F : Type 0} (told : Told) (name_of content : F → Option (List ℕ)) (name : List ℕ) (file : F) (n : ℕ) (c : Option (List ℕ)) (size : ℕ) (o : Opened)
+    → Finds told name_of content name (Some file) → (bytes : List ℕ) × IsRead (content file) bytes × (n ≡ length bytes) × OpenedAs o name bytes → c ≡ content file → size ≡ n
+    → (bytes : List ℕ) × Lies told c size name bytes × OpenedAs o name bytes
+found told name_of content name file n c size o finds (bytes, is_read, is_size, is_opened) same same_size =
+    (bytes, lies told name_of content name file c size bytes finds same (rw same is_read) (same_size ∙ is_size), is_opened)
+
+-- what is read first of a file that was found
+pub first_read : {F : Type 0} (told : Told) (name_of content : F → Option (List ℕ)) (name : List ℕ) (file : F) (size : ℕ)
+    → Finds told name_of content name (Some file) → HasSize (content file) size → min size (most_of_form (form_of name)) ≤ most_first told name
+first_read None name_of content name file size finds has = omega arith
+first_read (Some files) name_of content name file size (bytes, there, named, holds) has =
+    let same : size ≡ length bytes = (rw holds at has) in
+    rw (ap (λ o. option_map_or (λ b. min (length b) (most_of_form (form_of name))) o 0) there, same) (omega arith)

@@ -1,0 +1,214 @@
+-- From the answers of each kind to that of a target.
+use Rattle.std.proofs.Common.{◌≡◌, ◌≢◌, ℕ, ◌≤◌, List, Option, Some, None, IsSome, Result, Ok, Err, IfOk, IfErr, IsTrue, true, false, refl, sym, ap, ◌∙◌, inl, inr, subst}
+use Rattle.std.specs.Prelude.{⊤, is_some}
+use Rattle.std.specs.List.{list_all}
+use Rattle.viable.specs.Prefix.{is_byte}
+use Rattle.dap_errors.specs.declared.cause.Cause.{Cause}
+use Rattle.dap_http.specs.Targets.{Asked}
+use Rattle.dap_http.specs.declared.kind.Kind.{Kind}
+use Rattle.dap_http.specs.Texts.{version}
+use Rattle.dap_http.specs.declared.kind.Kind.TheVariants.{Das, Dds, Dods, Ver}
+use Rattle.dap_http.specs.declared.target.Target.{Target}
+use Rattle.dap_outside.specs.Files.{Told}
+use Rattle.xdr_encode.specs.Bodies.{FitsFile, HasNoFile, MayAsk, cost_in, text_in}
+use Rattle.xdr_encode.specs.declared.body.Body.{Body}
+use Rattle.dap_server.proofs.Lying as lying
+use Rattle.dap_server.proofs.OneAnswer.{one_result}
+use Rattle.dap_server.specs.Costs.{IsFormCost, IsFormCostAt, asks_shelf, is_of_file}
+use Rattle.dap_server.specs.Files.{Files, MayHave, Stored, form_of, table}
+use Rattle.dap_server.specs.Prepared.{asked_of, IsFor, IsOver, MayGive, MustGive, WhereBody, WhereRefuse, WhereShelfFault, WhereText}
+use Rattle.dap_server.specs.Results.{Opens, Text, das_text, text_of}
+use Rattle.dap_server.specs.Steps.{Is, Then}
+use Rattle.dap_server.specs.inner.Opening.{Lies, OpenedAs, WhereFault, WhereRefused, attributes_in, stored_of}
+use Rattle.dap_server.specs.inner.Preparing.{IsMade, MayGiveAs, body_prepared, text_prepared}
+use Rattle.dap_server.specs.declared.open.Opened.{Opened}
+use Rattle.dap_server.specs.declared.open.Opened.TheVariants as opened
+use Rattle.das_text.specs.Das.{das}
+use Rattle.dap_server.specs.declared.prepared.Prepared.{Prepared}
+use Rattle.dap_server.specs.declared.prepared.Prepared.TheVariants as prepared
+use Rattle.dap_server.specs.declared.stop.Stop.{Stop}
+use Rattle.dap_server.specs.declared.stop.Stop.TheVariants.{Refused, ShelfFault, Memory}
+
+-- what follows a file that was opened
+pub follows : (told : Told) (content : Option (List ℕ)) (size : ℕ) (name bytes : List ℕ) (o : Opened) (next : Stored → Result Text Cause → Type 0) (r : Result Text Cause)
+    → Lies told content size name bytes → OpenedAs o name bytes → next (stored_of o name bytes) r → (files : Files) × MayHave told files × Then (Opens files name) next r
+follows told content size name bytes o next r l is n = (l.files, l.may_have, inl (stored_of o name bytes, lying.opened l.files name bytes o l.there is, n))
+
+-- or the cause for which none was
+pub stops : (told : Told) (name : List ℕ) (next : Stored → Result Text Cause → Type 0) (s : Stop) → WhereRefused (λ why. (files : Files) × MayHave told files × Opens files name (Err why)) s
+    → WhereRefused (λ why. (files : Files) × MayHave told files × Then (Opens files name) next (Err why)) s
+stops told name next (Refused why) (files, may, opens) = (files, may, inr (why, opens, refl))
+stops told name next ShelfFault x = tt
+stops told name next Memory x = tt
+
+-- what is asked by a name, a kind and a query
+abbrev pub asked_as : Kind → List ℕ → List ℕ → Asked
+asked_as k name query = record { name = name; kind = k; query = query }
+
+pub same_asked : (t : Target) (k : Kind) (name query : List ℕ) → t.kind ≡ k → name ≡ t.name → query ≡ t.query → asked_as k name query ≡ asked_of t
+same_asked t k name query is is_name is_query = ap (λ n. asked_as k n query) is_name ∙ ap (asked_as k t.name) is_query ∙ ap (λ kind. asked_as kind t.name t.query) (sym is)
+
+-- the name of what is asked does not say how a file is read
+no_some : {V : Type 0} (o : Option V) → is_some o ≡ false → o ≡ None
+no_some None none = refl
+no_some (Some v) none = cc none
+
+pub no_form : (t : Target) (k : Kind) (name : List ℕ) → t.kind ≡ k → name ≡ t.name → is_of_file k ≡ true → asks_shelf (asked_of t) ≡ false → form_of name ≡ None
+no_form t k name is is_name of_file none =
+    let asks : asks_shelf (asked_of t) ≡ is_some (form_of name) = rw (is, sym is_name, of_file) refl in
+    no_some (form_of name) (sym asks ∙ none)
+
+-- a text is made
+text_made : {F : Type 0} (told : Told) (content : F → Option (List ℕ)) (size_of : F → ℕ) (k : Kind) (name query : List ℕ) (Fault : Type 0) (r : Result (List ℕ) Stop) (p : Prepared F) → p ≡ text_prepared k r
+    → k ≢ Dods → IfOk r (λ text. MayGiveAs told k name query (Ok (text_of k text))) → IfErr r (WhereRefused (λ why. MayGiveAs told k name query (Err why)))
+    → IfErr r (WhereFault (IsTrue (asks_shelf (asked_as k name query)) × Fault)) → IsMade told content size_of (asked_as k name query) Fault p
+text_made told content size_of k name query Fault (Ok text) p made none gives refuses faults =
+    rw made (record { text = (none, gives); body = tt; accepted = tt; of_file = tt; tells = tt; alone = tt; fits = tt; cost = tt; cost_at = tt; refused = tt; shelf_fault = tt })
+text_made told content size_of k name query Fault (Err (Refused why)) p made none gives refuses faults =
+    rw made (record { text = tt; body = tt; accepted = tt; of_file = tt; tells = tt; alone = tt; fits = tt; cost = tt; cost_at = tt; refused = refuses; shelf_fault = tt })
+text_made told content size_of k name query Fault (Err ShelfFault) p made none gives refuses faults =
+    rw made (record { text = tt; body = tt; accepted = tt; of_file = tt; tells = tt; alone = tt; fits = tt; cost = tt; cost_at = tt; refused = tt; shelf_fault = faults })
+text_made told content size_of k name query Fault (Err Memory) p made none gives refuses faults =
+    rw made (record { text = tt; body = tt; accepted = tt; of_file = tt; tells = tt; alone = tt; fits = tt; cost = tt; cost_at = tt; refused = tt; shelf_fault = tt })
+
+pub text_for : {F : Type 0} (told : Told) (content : F → Option (List ℕ)) (size_of : F → ℕ) (t : Target) (k : Kind) (name query : List ℕ) (Fault : Type 0) (r : Result (List ℕ) Stop) (p : Prepared F) → p ≡ text_prepared k r
+    → t.kind ≡ k → name ≡ t.name → query ≡ t.query → k ≢ Dods → IfOk r (λ text. MayGiveAs told k name query (Ok (text_of k text))) → IfErr r (WhereRefused (λ why. MayGiveAs told k name query (Err why)))
+    → IfErr r (WhereFault (IsTrue (asks_shelf (asked_as k name query)) × Fault)) → IsMade told content size_of (asked_of t) Fault p
+text_for told content size_of t k name query Fault r p made is is_name is_query none gives refuses faults =
+    subst (λ a. IsMade told content size_of a Fault p) (same_asked t k name query is is_name is_query) (text_made told content size_of k name query Fault r p made none gives refuses faults)
+
+-- a body is made
+body_made : {F : Type 0} (told : Told) (content : F → Option (List ℕ)) (size_of : F → ℕ) (name query : List ℕ) (Fault : Type 0) (r : Result (Body × F) Stop) (p : Prepared F) → p ≡ body_prepared r
+    → IfOk r (λ q. (bytes : List ℕ) → IsOver name (content q.1) bytes → MayGiveAs told Dods name query (Ok (text_of Dods (text_in q.0 bytes))))
+    → IfOk r (λ q. (text : List ℕ) × MayGiveAs told Dods name query (Ok (text_of Dods text)))
+    → IfOk r (λ q. IsTrue (is_some (form_of name)))
+    → IfOk r (λ q. IsSome told → IsSome (content q.1))
+    → IfOk r (λ q. form_of name ≡ Some table → HasNoFile q.0)
+    → IfOk r (λ q. FitsFile q.0 (size_of q.1))
+    → IfOk r (λ q. (cost : ℕ) × IsFormCost (form_of name) told name query cost × (cost_in q.0 ≤ cost))
+    → IfOk r (λ q. (bytes : List ℕ) (put cost : ℕ) → content q.1 ≡ Some bytes → MayAsk q.0 bytes put cost → IsFormCostAt (form_of name) told name query put cost)
+    → IfErr r (WhereRefused (λ why. MayGiveAs told Dods name query (Err why)))
+    → IfErr r (WhereFault (IsTrue (is_some (form_of name)) × Fault))
+    → IsMade told content size_of (asked_as Dods name query) Fault p
+body_made told content size_of name query Fault (Ok (b, file)) p made body accepted form tells alone fits cost cost_at refuses faults =
+    rw made (record { text = tt; body = body; accepted = accepted; of_file = (refl, form); tells = tells; alone = alone; fits = fits; cost = cost; cost_at = cost_at; refused = tt; shelf_fault = tt })
+body_made told content size_of name query Fault (Err (Refused why)) p made body accepted form tells alone fits cost cost_at refuses faults =
+    rw made (record { text = tt; body = tt; accepted = tt; of_file = tt; tells = tt; alone = tt; fits = tt; cost = tt; cost_at = tt; refused = refuses; shelf_fault = tt })
+body_made told content size_of name query Fault (Err ShelfFault) p made body accepted form tells alone fits cost cost_at refuses faults =
+    rw made (record { text = tt; body = tt; accepted = tt; of_file = tt; tells = tt; alone = tt; fits = tt; cost = tt; cost_at = tt; refused = tt; shelf_fault = faults })
+body_made told content size_of name query Fault (Err Memory) p made body accepted form tells alone fits cost cost_at refuses faults =
+    rw made (record { text = tt; body = tt; accepted = tt; of_file = tt; tells = tt; alone = tt; fits = tt; cost = tt; cost_at = tt; refused = tt; shelf_fault = tt })
+
+pub body_for : {F : Type 0} (told : Told) (content : F → Option (List ℕ)) (size_of : F → ℕ) (t : Target) (name query : List ℕ) (Fault : Type 0) (r : Result (Body × F) Stop) (p : Prepared F) → p ≡ body_prepared r
+    → t.kind ≡ Dods → name ≡ t.name → query ≡ t.query
+    → IfOk r (λ q. (bytes : List ℕ) → IsOver name (content q.1) bytes → MayGiveAs told Dods name query (Ok (text_of Dods (text_in q.0 bytes))))
+    → IfOk r (λ q. (text : List ℕ) × MayGiveAs told Dods name query (Ok (text_of Dods text)))
+    → IfOk r (λ q. IsTrue (is_some (form_of name)))
+    → IfOk r (λ q. IsSome told → IsSome (content q.1))
+    → IfOk r (λ q. form_of name ≡ Some table → HasNoFile q.0)
+    → IfOk r (λ q. FitsFile q.0 (size_of q.1))
+    → IfOk r (λ q. (cost : ℕ) × IsFormCost (form_of name) told name query cost × (cost_in q.0 ≤ cost))
+    → IfOk r (λ q. (bytes : List ℕ) (put cost : ℕ) → content q.1 ≡ Some bytes → MayAsk q.0 bytes put cost → IsFormCostAt (form_of name) told name query put cost)
+    → IfErr r (WhereRefused (λ why. MayGiveAs told Dods name query (Err why)))
+    → IfErr r (WhereFault (IsTrue (is_some (form_of name)) × Fault))
+    → IsMade told content size_of (asked_of t) Fault p
+body_for told content size_of t name query Fault r p made is is_name is_query body accepted form tells alone fits cost cost_at refuses faults =
+    subst (λ a. IsMade told content size_of a Fault p) (same_asked t Dods name query is is_name is_query) (body_made told content size_of name query Fault r p made body accepted form tells alone fits cost cost_at refuses faults)
+
+-- it is the one that all files give which the shelf may have
+same : (told : Told) (a : Asked) (one other : Result Text Cause) → IsTrue (list_all is_byte a.query) → MayGive told a one → MustGive told a other → other ≡ one
+same told a one other bytes (files, may, gives) must = one_result files a other one bytes (must files may) gives
+
+pub only : {F : Type 0} (told : Told) (a : Asked) (p : Prepared F) → IsTrue (list_all is_byte a.query)
+    → WhereText p (λ kind text. (kind ≢ Dods) × MayGive told a (Ok (text_of kind text)))
+    → WhereBody p (λ b file. (text : List ℕ) × MayGive told a (Ok (text_of Dods text)))
+    → WhereRefuse p (λ why. MayGive told a (Err why))
+    → (answer : Result Text Cause) → MustGive told a answer → IsFor answer p
+only told a (prepared.Text kind text) bytes is y x answer must = same told a (Ok (text_of kind text)) answer bytes is.1 must
+only told a (prepared.Body b file) bytes x (text, is) y answer must = (text, same told a (Ok (text_of Dods text)) answer bytes is must)
+only told a (prepared.Refuse why) bytes x y is answer must = same told a (Err why) answer bytes is must
+only told a prepared.ShelfFault bytes x y z answer must = tt
+only told a prepared.Memory bytes x y z answer must = tt
+
+-- the same for a text that was made of what was opened, whatever its bytes
+pub follows_ok : {T : Type 0} (told : Told) (content : Option (List ℕ)) (size : ℕ) (name bytes : List ℕ) (o : Opened) (next : Stored → Result Text Cause → Type 0) (answer : T → Text) (r : Result T Stop)
+    → Lies told content size name bytes → OpenedAs o name bytes → IfOk r (λ t. (bytes : List ℕ) → next (stored_of o name bytes) (Ok (answer t)))
+    → IfOk r (λ t. (files : Files) × MayHave told files × Then (Opens files name) next (Ok (answer t)))
+follows_ok told content size name bytes o next answer (Ok t) l is n = follows told content size name bytes o next _ l is (n bytes)
+follows_ok told content size name bytes o next answer (Err s) l is n = tt
+
+pub follows_err : {T : Type 0} (told : Told) (content : Option (List ℕ)) (size : ℕ) (name bytes : List ℕ) (o : Opened) (next : Stored → Result Text Cause → Type 0) (r : Result T Stop)
+    → Lies told content size name bytes → OpenedAs o name bytes → IfErr r (WhereRefused (λ why. (bytes : List ℕ) → next (stored_of o name bytes) (Err why)))
+    → IfErr r (WhereRefused (λ why. (files : Files) × MayHave told files × Then (Opens files name) next (Err why)))
+follows_err told content size name bytes o next (Ok t) l is n = tt
+follows_err told content size name bytes o next (Err (Refused why)) l is n = follows told content size name bytes o next _ l is (n bytes)
+follows_err told content size name bytes o next (Err ShelfFault) l is n = tt
+follows_err told content size name bytes o next (Err Memory) l is n = tt
+
+-- the same by its stop
+pub follows_stop : (told : Told) (content : Option (List ℕ)) (size : ℕ) (name bytes : List ℕ) (o : Opened) (next : Stored → Result Text Cause → Type 0) (s : Stop)
+    → Lies told content size name bytes → OpenedAs o name bytes → WhereRefused (λ why. (bytes : List ℕ) → next (stored_of o name bytes) (Err why)) s
+    → WhereRefused (λ why. (files : Files) × MayHave told files × Then (Opens files name) next (Err why)) s
+follows_stop told content size name bytes o next (Refused why) l is n = follows told content size name bytes o next _ l is (n bytes)
+follows_stop told content size name bytes o next ShelfFault l is n = tt
+follows_stop told content size name bytes o next Memory l is n = tt
+
+same_attributes : (o : Opened) (name bytes : List ℕ) → attributes_in o ≡ (stored_of o name bytes).attributes
+same_attributes (opened.Netcdf h) name bytes = refl
+same_attributes (opened.Table t) name bytes = refl
+
+-- the attributes of what was opened
+pub das_follows : (told : Told) (content : Option (List ℕ)) (size : ℕ) (name bytes : List ℕ) (o : Opened) (text : List ℕ) → Lies told content size name bytes → OpenedAs o name bytes
+    → text ≡ das (attributes_in o) → (files : Files) × MayHave told files × Then (Opens files name) (λ s. Is (das_text s)) (Ok (text_of Das text))
+das_follows told content size name bytes o text l is is_text =
+    follows told content size name bytes o (λ s. Is (das_text s)) _ l is (ap (λ t. Ok (text_of Das t)) (is_text ∙ ap das (same_attributes o name bytes)))
+
+pub das_stops : (told : Told) (name : List ℕ) (s : Stop) → WhereRefused (λ why. (files : Files) × MayHave told files × Opens files name (Err why)) s
+    → WhereRefused (λ why. (query : List ℕ) → MayGiveAs told Das name query (Err why)) s
+das_stops told name (Refused why) is = λ query. stops told name (λ s. Is (das_text s)) (Refused why) is
+das_stops told name ShelfFault is = tt
+das_stops told name Memory is = tt
+
+-- no fault is any fault
+pub no_fault : {T : Type 0} (r : Result T Stop) (P : Type 0) → IfErr r (WhereFault ⊥) → IfErr r (WhereFault P)
+no_fault (Ok t) P is = tt
+no_fault (Err (Refused why)) P is = tt
+no_fault (Err ShelfFault) P is = absurd is
+no_fault (Err Memory) P is = tt
+
+-- no refusal is any refusal
+pub no_refusal : {T : Type 0} (r : Result T Stop) (P : Cause → Type 0) → IfErr r (WhereRefused (λ why. ⊥)) → IfErr r (WhereRefused P)
+no_refusal (Ok t) P is = tt
+no_refusal (Err (Refused why)) P is = absurd is
+no_refusal (Err ShelfFault) P is = tt
+no_refusal (Err Memory) P is = tt
+
+-- the version, whatever is asked
+pub version_given : (told : Told) (name query : List ℕ) (r : Result (List ℕ) Stop) → IfOk r (λ text. text ≡ version) → IfOk r (λ text. MayGiveAs told Ver name query (Ok (text_of Ver text)))
+version_given told name query (Ok text) is =
+    let (files, may) = lying.some_files told in
+    (files, may, ap (λ t. Ok (text_of Ver t)) is)
+version_given told name query (Err stop) is = tt
+
+-- the attributes, whatever the query
+pub das_given : (told : Told) (name query : List ℕ) (r : Result (List ℕ) Stop) → IfOk r (λ text. (query : List ℕ) → MayGiveAs told Das name query (Ok (text_of Das text)))
+    → IfOk r (λ text. MayGiveAs told Das name query (Ok (text_of Das text)))
+das_given told name query (Ok text) is = is query
+das_given told name query (Err stop) is = tt
+
+pub das_not_given : (told : Told) (name query : List ℕ) (r : Result (List ℕ) Stop) → IfErr r (WhereRefused (λ why. (query : List ℕ) → MayGiveAs told Das name query (Err why)))
+    → IfErr r (WhereRefused (λ why. MayGiveAs told Das name query (Err why)))
+das_not_given told name query (Ok text) is = tt
+das_not_given told name query (Err (Refused why)) is = is query
+das_not_given told name query (Err ShelfFault) is = tt
+das_not_given told name query (Err Memory) is = tt
+
+-- a text is no data
+abbrev pub IsText : Kind → Type 0
+IsText Ver = ⊤
+IsText Dds = ⊤
+IsText Das = ⊤
+IsText Dods = ⊥
+
+pub no_data : (k : Kind) → IsText k → k ≢ Dods
+no_data k is = λ e. subst IsText e is

@@ -1,0 +1,120 @@
+-- What a reader of heads gives, and what is put for it, as one step of a connection.
+use Rattle.std.proofs.Common.{◌≡◌, ◌≢◌, ℕ, ◌+◌, ◌≤◌, Bool, false, true, ◌||◌, ◌==◌, List, [], ◌++◌, length, Option, Some, None, MatchBool, IsTrue, if◌then◌else◌, codes, Result, Ok, Err, refl, sym, ap, ◌∙◌, subst, arith, append-nil, inl, inr, ◌⊎◌}
+use Rattle.std.specs.Str.{bytes_eq}
+use Rattle.std.specs.Io.KnownBytes.{Appends, Consumes}
+use Rattle.httparse.specs.Grammar.{RequestHead}
+use Rattle.dap_errors.specs.Causes.{http_status}
+use Rattle.dap_errors.specs.declared.cause.Cause.{Cause}
+use Rattle.dap_errors.specs.declared.cause.Cause.TheVariants.{BadRequest, HeadTooLong, OutOfMemory, ReadFailed}
+use Rattle.dap_http.specs.Reading.{IsHead}
+use Rattle.dap_http.specs.Requests.{FirstRequest, HasNoRequest, IsBadRequest, IsGone, IsTooLong}
+use Rattle.dap_http.specs.Targets.{Asked, target_of}
+use Rattle.dap_http.specs.Texts.{memory_error, memory_text}
+use Rattle.dap_http.specs.declared.head_reader.Head.{Head}
+use Rattle.dap_http.specs.declared.kind.Kind.{Kind}
+use Rattle.dap_http.specs.declared.kind.Kind.TheVariants.{Dds, Das, Dods, Ver}
+use Rattle.dap_outside.specs.Files.{Told}
+use Rattle.dap_server.specs.Connections.{IsPart, MayAsk, RoseBy, has_failed, nothing}
+use Rattle.dap_server.specs.Costs.{most_first}
+use Rattle.dap_server.specs.Replies.{Request, is_last, last_reply, reply_of, request}
+use Rattle.dap_server.specs.Results.{Text, text_of}
+use Rattle.dap_server.specs.declared.served.Ending.TheVariants.{Closed, Gone, ReadFault, WriteFault}
+use Rattle.dap_server.specs.declared.served.Served.{Served}
+use Rattle.dap_server.specs.declared.turn.Answered.{Answered}
+use Rattle.dap_server.specs.declared.turn.Answered.TheVariants as answered
+use Rattle.dap_server.specs.declared.turn.Next.{Next}
+use Rattle.dap_server.specs.inner.Serving.{Answers, PutsLast, PutsRefusal, Serves, ServesFrom, Stand, known, next_of, request_in}
+use Rattle.dap_server.proofs.Ends.{answered-head, appends-known, one-turn, refuses, stopped}
+use Rattle.dap_server.proofs.Replying.{memory-last, memory-reply}
+use Rattle.dap_server.proofs.Turning.{known-nil}
+
+abbrev pub stand : Option (List ℕ) → ℕ → ℕ → Stand
+stand written faults asked = record { written = written; faults = faults; asked = asked }
+
+-- ---- what may be asked
+
+-- for a cause
+pub least-asked : (told : Told) (o : Option Asked) (cause : Cause) → (n : ℕ) × MayAsk told o (Err cause) n
+least-asked told None cause = (0, refl)
+least-asked told (Some a) cause = (most_first told a.name + 0, (0, refl, refl))
+
+pub cause-asks : (told : Told) (o : Option Asked) (a : Asked) (cause : Cause) (asked asked' : ℕ) → o ≡ Some a → asked' ≤ asked + most_first told a.name
+    → (n : ℕ) × MayAsk told o (Err cause) n × (asked' ≤ asked + n)
+cause-asks told o a cause asked asked' is few =
+    (most_first told a.name + 0, subst (λ p. MayAsk told p (Err cause) (most_first told a.name + 0)) (sym is) (0, refl, refl), omega (arith, few))
+
+pub nothing-asked : (told : Told) (o : Option Asked) (cause : Cause) (asked asked' : ℕ) → asked' ≤ asked → (n : ℕ) × MayAsk told o (Err cause) n × (asked' ≤ asked + n)
+nothing-asked told o cause asked asked' few = let (n, may) = least-asked told o cause in (n, may, omega (arith, few))
+
+pub text-asks : (told : Told) (o : Option Asked) (a : Asked) (kind : Kind) (text : List ℕ) (asked asked' : ℕ) → kind ≢ Dods → o ≡ Some a → asked' ≤ asked + most_first told a.name
+    → (n : ℕ) × MayAsk told o (Ok (text_of kind text)) n × (asked' ≤ asked + n)
+text-asks told o a Dds text asked asked' other is few =
+    (most_first told a.name + 0, subst (λ p. MayAsk told p (Ok (text_of Dds text)) (most_first told a.name + 0)) (sym is) (0, refl, refl), omega (arith, few))
+text-asks told o a Das text asked asked' other is few =
+    (most_first told a.name + 0, subst (λ p. MayAsk told p (Ok (text_of Das text)) (most_first told a.name + 0)) (sym is) (0, refl, refl), omega (arith, few))
+text-asks told o a Ver text asked asked' other is few =
+    (most_first told a.name + 0, subst (λ p. MayAsk told p (Ok (text_of Ver text)) (most_first told a.name + 0)) (sym is) (0, refl, refl), omega (arith, few))
+text-asks told o a Dods text asked asked' other is few = absurd (other refl)
+
+-- ---- steps
+
+pub serve-head : (n before : ℕ) (told : Told) (kept kept' taken : List ℕ) (l l1 l2 w w1 w2 : Option (List ℕ)) (f f2 s s2 : ℕ) (ended : Bool) (h : Head) (ends : Bool) (result : Answered) (r : Next)
+    → r ≡ next_of n before result → ((tree : RequestHead) × FirstRequest (kept ++ taken) tree kept' × IsHead h tree) → Consumes l l1 taken → l2 ≡ l1 → w1 ≡ w → ends ≡ (h.ends || (n + 1 == 1000))
+    → Answers told (request_in h ends) (stand w1 f s) (stand w2 f2 s2) result → Serves n before told kept kept' l l2 (stand w f s) (stand w2 f2 s2) ended r
+serve-head n before told kept kept' taken l l1 l2 w w1 w2 f f2 s s2 ended h ends result r is gives consumes sl sw e answers =
+    subst (Serves n before told kept kept' l l2 (stand w f s) (stand w2 f2 s2) ended) (sym is) (answered-head n before told kept kept' taken l l2 (stand w f s) (stand w2 f2 s2) ended h ends result gives (subst (λ o. Consumes l o taken) (sym sl) consumes) e
+    (subst (λ o. Answers told (request_in h ends) (stand o f s) (stand w2 f2 s2) result) sw answers))
+
+still : (told : Told) (w w1 : Option (List ℕ)) → w1 ≡ w → Appends (known told w) w1 []
+still told w w1 is = subst (λ o. Appends (known told w) o []) (sym is) (known-nil told w)
+
+pub serve-gone : (n before : ℕ) (told : Told) (kept taken : List ℕ) (l l1 w w1 : Option (List ℕ)) (f s : ℕ) (ended : Bool)
+    → Consumes l l1 taken → w1 ≡ w → IsTrue ended → IsGone (kept ++ taken) → ServesFrom n before told kept l l1 (stand w f s) (stand w1 f s) ended (record { replies = n; status = before; ending = Gone })
+serve-gone n before told kept taken l l1 w w1 f s ended consumes sw mark gone =
+    stopped n before told kept taken l l1 (stand w f s) (stand w1 f s) ended Gone nothing _ consumes (still told w w1 sw) (mark, gone)
+    (ap (λ k. record { replies = k; status = before; ending = Gone }) (omega arith)) (omega arith) (0, refl, omega arith)
+
+pub serve-fault : (n before : ℕ) (told : Told) (kept taken : List ℕ) (l l1 w w1 : Option (List ℕ)) (f s : ℕ) (ended : Bool)
+    → Consumes l l1 taken → w1 ≡ w → HasNoRequest (kept ++ taken) → ServesFrom n before told kept l l1 (stand w f s) (stand w1 f s) ended (record { replies = n; status = before; ending = ReadFault })
+serve-fault n before told kept taken l l1 w w1 f s ended consumes sw none =
+    stopped n before told kept taken l l1 (stand w f s) (stand w1 f s) ended ReadFault nothing _ consumes (still told w w1 sw) none
+    (ap (λ k. record { replies = k; status = before; ending = ReadFault }) (omega arith)) (omega arith) (0, refl, omega arith)
+
+-- ---- replies that end a connection
+
+pub last-put : (bytes bytes' : List ℕ) (status status' n before : ℕ) (old new : Option (List ℕ)) (served : Served) → bytes ≡ bytes' → status ≡ status'
+    → PutsLast bytes status n before old new served → PutsLast bytes' status' n before old new served
+last-put bytes bytes' status status' n before old new served b s puts =
+    subst (λ t. PutsLast bytes' t n before old new served) s (subst (λ t. PutsLast t status n before old new served) b puts)
+
+pub no-memory : memory_text false ≡ last_reply OutOfMemory
+unfolding memory_text memory_error
+no-memory = refl
+
+pub memory-turn : (n before : ℕ) (told : Told) (kept rest taken : List ℕ) (l l1 l2 w w1 w2 : Option (List ℕ)) (f s : ℕ) (ended : Bool) (tree : RequestHead) (h : Bool) (bytes : List ℕ) (served : Served)
+    → FirstRequest (kept ++ taken) tree rest → h ≡ bytes_eq tree.method (codes "HEAD") → Consumes l l1 taken → l2 ≡ l1 → w1 ≡ w → bytes ≡ memory_text h
+    → PutsLast bytes 503 n before w1 w2 served → ServesFrom n before told kept l l2 (stand w f s) (stand w2 f s) ended served
+memory-turn n before told kept rest taken l l1 l2 w w1 w2 f s ended tree h bytes served first is consumes sl sw e (inl (so, appends)) =
+    let q : Request = request (n + 1) tree in
+    let text : bytes ≡ reply_of q (Err OutOfMemory) = e ∙ memory-reply q h is in
+    let (m, may) = least-asked told (target_of tree.target) OutOfMemory in
+    let put : Appends (known told w) w2 (reply_of q (Err OutOfMemory)) = appends-known told w w2 _ (subst (λ o. Appends o w2 (reply_of q (Err OutOfMemory))) sw (subst (Appends w1 w2) text appends)) in
+    subst (ServesFrom n before told kept l l2 (stand w f s) (stand w2 f s) ended) (sym so)
+    (one-turn n before told kept rest taken l l2 (stand w f s) (stand w2 f s) ended tree (answered.Whole 503 true) (subst (λ o. Consumes l o taken) (sym sl) consumes) first
+    (Err OutOfMemory, inr (inr refl), (refl, memory-last q, put), omega arith, (m, may, omega arith)))
+memory-turn n before told kept rest taken l l1 l2 w w1 w2 f s ended tree h bytes served first is consumes sl sw e (inr (so, (part, (more, cut, some), appends))) =
+    let q : Request = request (n + 1) tree in
+    let text : bytes ≡ reply_of q (Err OutOfMemory) = e ∙ memory-reply q h is in
+    let (m, may) = least-asked told (target_of tree.target) OutOfMemory in
+    let put : Appends (known told w) w2 part = appends-known told w w2 part (subst (λ o. Appends o w2 part) sw appends) in
+    subst (ServesFrom n before told kept l l2 (stand w f s) (stand w2 f s) ended) (sym so)
+    (one-turn n before told kept rest taken l l2 (stand w f s) (stand w2 f s) ended tree answered.WriteFault (subst (λ o. Consumes l o taken) (sym sl) consumes) first
+    (Err OutOfMemory, inr (inr refl), (part, (more, sym text ∙ cut, λ _. some), put), omega arith, (m, may, omega arith)))
+
+-- bytes that are no request
+pub serve-refused : (n before : ℕ) (told : Told) (kept taken : List ℕ) (l l1 l2 w w1 w2 : Option (List ℕ)) (f s : ℕ) (ended : Bool) (cause : Cause) (served : Served)
+    → ((cause ≡ BadRequest) × IsBadRequest (kept ++ taken)) ⊎ ((cause ≡ HeadTooLong) × IsTooLong (kept ++ taken)) → Consumes l l1 taken → l2 ≡ l1 → w1 ≡ w
+    → PutsRefusal cause n before w1 w2 served → ServesFrom n before told kept l l2 (stand w f s) (stand w2 f s) ended served
+serve-refused n before told kept taken l l1 l2 w w1 w2 f s ended cause served why consumes sl sw puts =
+    refuses n before told kept taken l l2 (stand w f s) (stand w2 f s) ended cause served (subst (λ o. Consumes l o taken) (sym sl) consumes) why
+    (subst (λ o. PutsRefusal cause n before o w2 served) sw puts) (omega arith) (omega arith)

@@ -1,0 +1,67 @@
+-- Requests in turn: one that was answered, and those behind it.
+use Rattle.std.proofs.Common.{◌≡◌, ℕ, ◌+◌, ◌-◌, ◌^◌, ◌≤◌, min, Bool, false, true, List, [], ◌∷◌, ◌++◌, length, Option, Some, None, MatchBool, refl, sym, ap, ◌∙◌, subst, arith, append_assoc, append-nil, length-append, inl, inr}
+use Rattle.std.proofs.KnownBytes.{Appends-trans, Consumes-trans}
+use Rattle.std.specs.Io.KnownBytes.{Appends, Consumes}
+use Rattle.httparse.specs.Grammar.{RequestHead}
+use Rattle.httparse.proofs.GrammarLemmas.{ReadsRequest-append}
+use Rattle.dap_http.specs.Requests.{FirstRequest}
+use Rattle.dap_outside.specs.Files.{Told}
+use Rattle.dap_server.specs.Connections.{AreTurns, Behind, Connection, IsClosed, IsServedFrom, RoseBy, Stops, ends_after, is_last_turn}
+use Rattle.dap_server.specs.Replies.{Turn, replies, reply_of, request}
+use Rattle.dap_server.specs.declared.served.Ending.{Ending}
+use Rattle.dap_server.specs.declared.served.Served.{Served}
+use Rattle.dap_server.specs.inner.Serving.{GoesOn, ServesFrom, Stand, known}
+
+pub known-nil : (told : Told) (a : Option (List ℕ)) → Appends (known told a) a []
+known-nil None a = tt
+known-nil (Some files) None = tt
+known-nil (Some files) (Some xs) = sym (append-nil xs)
+
+pub known-more : (told : Told) (a b c : Option (List ℕ)) (xs ys : List ℕ) → Appends (known told a) b xs → Appends (known told b) c ys → Appends (known told a) c (xs ++ ys)
+known-more None a b c xs ys p q = tt
+known-more (Some files) a b c xs ys p q = Appends-trans a b c xs ys p q
+
+-- counts
+pub rose-more : (m n a b c : ℕ) → RoseBy m a b → RoseBy n b c → RoseBy (m + n) a c
+rose-more m n a b c p q = omega (arith, p, q)
+
+pub request-stays : (input rest more : List ℕ) (head : RequestHead) → FirstRequest input head rest → FirstRequest (input ++ more) head (rest ++ more)
+request-stays input rest more head first =
+    ((ReadsRequest-append input head rest more first.0.0, first.0.1), omega (arith, first.1, length-append input more, length-append rest more))
+
+where-false : (b : Bool) (P Q : Type 0) → b ≡ false → Q → MatchBool b P Q
+where-false true P Q is q = cc is
+where-false false P Q is q = q
+
+-- one more turn in front of those that are served
+pub turn-before : (n before : ℕ) (told : Told) (kept kept' taken taken' : List ℕ) (t : Turn) (ended : Bool) (c : Connection) (served : Served) (status : ℕ)
+    → FirstRequest (kept ++ taken) t.head kept' → Rattle.dap_server.specs.Connections.MayAnswer told (request (n + 1) t.head) t.answer
+    → is_last_turn (n + 1) t ≡ false → status ≡ Rattle.dap_server.specs.Replies.status_of t.answer
+    → IsServedFrom (n + 1) status told (kept' ++ taken') ended c served
+    → IsServedFrom n before told (kept ++ (taken ++ taken')) ended (record { turns = t ∷ c.turns; left = c.left; behind = c.behind }) served
+turn-before n before told kept kept' taken taken' t ended c served status first may goes is s =
+    let all : (kept ++ taken) ++ taken' ≡ kept ++ (taken ++ taken') = append_assoc kept taken taken' in
+    let later : FirstRequest (kept ++ (taken ++ taken')) t.head (kept' ++ taken') = subst (λ (b : List ℕ). FirstRequest b t.head (kept' ++ taken')) all (request-stays (kept ++ taken) kept' taken' t.head first) in
+    let count : n + 1 + 1 + length c.turns ≡ n + 1 + length (t ∷ c.turns) = omega arith in
+    let same : ends_after (is_last_turn (n + 1) t) (n + 1 + 1) c.turns ≡ ends_after false (n + 1 + 1) c.turns = ap (λ b. ends_after b (n + 1 + 1) c.turns) goes in
+    record {
+      turns = (kept' ++ taken', (later, may), where-false (is_last_turn (n + 1) t) _ _ goes s.turns);
+      ends = rw same (subst (λ k. MatchBool (ends_after false (n + 1 + 1) c.turns) (IsClosed served.ending c.behind) (Stops told k c.left ended served.ending c.behind)) count s.ends);
+      counted = omega (arith, s.counted);
+      status = rw (sym is) s.status;
+    }
+
+pub goes-on : (n before : ℕ) (told : Told) (kept kept' : List ℕ) (l l' l'' : Option (List ℕ)) (a b z : Stand) (ended : Bool) (served : Served) (status : ℕ)
+    → GoesOn n told kept kept' l l' a b status → ServesFrom (n + 1) status told kept' l' l'' b z ended served → ServesFrom n before told kept l l'' a z ended served
+goes-on n before told kept kept' l l' l'' a b z ended served status (t, taken, consumes, appends, (first, may), goes, is, rose, (m, asks, asked))
+    (c, taken', consumes', appends', s, rose', (m', (own, last, turns, behind, sum), asked')) = (
+      record { turns = t ∷ c.turns; left = c.left; behind = c.behind },
+      taken ++ taken',
+      Consumes-trans l l' l'' taken taken' consumes consumes',
+      subst (Appends (known told a.written) z.written)
+          (sym (append_assoc (reply_of (request (n + 1) t.head) t.answer) (replies (n + 1 + 1) c.turns) (Rattle.dap_server.specs.Connections.behind_text c.behind)))
+          (known-more told a.written b.written z.written _ _ appends appends'),
+      turn-before n before told kept kept' taken taken' t ended c served status first may goes is s,
+      omega (arith, rose, rose'),
+      (m + m', ((m + own), last, (m, own, asks, turns, refl), behind, omega (arith, sum)), omega (arith, asked, asked')),
+    )

@@ -1,0 +1,11 @@
+pub mod Steps
+pub mod Files
+pub mod Results
+pub mod Costs
+pub mod Prepared
+pub mod Replies
+pub mod Connections
+pub mod Whole
+pub mod Laws
+pub mod Worked
+pub mod inner

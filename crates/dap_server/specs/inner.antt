@@ -1,0 +1,4 @@
+pub mod Opening
+pub mod Marking
+pub mod Preparing
+pub mod Serving

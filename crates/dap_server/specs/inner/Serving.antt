@@ -1,0 +1,163 @@
+-- How the requests of a connection are served one by one.
+use Rattle.std.specs.Prelude.{◌≡◌, ℕ, ◌+◌, ◌<◌, ◌≤◌, ⊤, ◌⊎◌, Bool, true, false, List, [], ◌++◌, MatchBool, Option, Some, None, Result, Ok, Err}
+use Rattle.std.specs.Io.KnownBytes.{Appends, Consumes}
+use Rattle.dap_errors.specs.Causes.{http_status}
+use Rattle.dap_errors.specs.declared.cause.Cause.{Cause}
+use Rattle.dap_errors.specs.declared.cause.Cause.TheVariants.{OutOfMemory}
+use Rattle.dap_http.specs.Frames.{IsFront}
+use Rattle.dap_http.specs.Texts.{description_of, head_text, is_chunked}
+use Rattle.dap_http.specs.declared.kind.Kind.TheVariants.{Dods}
+use Rattle.dap_http.specs.Targets.{Asked, target_of}
+use Rattle.dap_http.specs.declared.head_reader.Head.{Head}
+use Rattle.dap_outside.specs.Files.{Told}
+use Rattle.xdr_encode.specs.declared.streamed.Streamed.{Streamed}
+use Rattle.xdr_encode.specs.declared.streamed.Streamed.TheVariants as streamed
+use Rattle.dap_server.specs.Connections.{BreaksOff, Connection, ConnectionMayAsk, IsBroken, IsPart, IsServedFrom, IsTurn, MayAnswer, MayAsk, RoseBy, RoseFor, failures, has_failed, is_last_turn, put_from, sends_data}
+use Rattle.dap_server.specs.Costs.{IsCost}
+use Rattle.dap_server.specs.Replies.{Request, Turn, is_last, last_reply, reply_of, request, status_of}
+use Rattle.dap_server.specs.Results.{Text}
+use Rattle.dap_server.specs.declared.served.Ending.TheVariants.{Closed, WriteFault, Broken}
+use Rattle.dap_server.specs.declared.served.Served.{Served}
+use Rattle.dap_server.specs.declared.turn.Answered.{Answered}
+use Rattle.dap_server.specs.declared.turn.Answered.TheVariants as answered
+use Rattle.dap_server.specs.declared.turn.Next.{Next}
+use Rattle.dap_server.specs.declared.turn.Next.TheVariants as next
+
+-- ---- Bytes that are put.
+
+-- a text that stands whole is put as a reply of that status, or where the sink fails some of it
+abbrev pub PutsText : List ℕ → ℕ → Bool → Option (List ℕ) → Option (List ℕ) → Answered → Type 0
+PutsText bytes status last old new (answered.Whole s l) = (s ≡ status) × (l ≡ last) × Appends old new bytes
+PutsText bytes status last old new answered.Broken = ⊥
+PutsText bytes status last old new answered.WriteFault = (part : List ℕ) × IsPart bytes part × Appends old new part
+
+-- a framed body is put, or a front of it
+abbrev pub PutsFramed : List ℕ → Option (List ℕ) → Option (List ℕ) → Streamed → Type 0
+PutsFramed text old new streamed.Sent = Appends old new text
+PutsFramed text old new streamed.ShelfFault = (part : List ℕ) × Appends old new part × IsFront part text
+PutsFramed text old new streamed.WriteFault = (part : List ℕ) × Appends old new part × IsFront part text
+
+-- a head and a framed body are put, or a front of them. It breaks off behind the head
+abbrev pub PutsValues : List ℕ → List ℕ → Bool → Option (List ℕ) → Option (List ℕ) → Answered → Type 0
+PutsValues front text ends old new (answered.Whole status last) = Appends old new (front ++ text)
+PutsValues front text ends old new answered.Broken = (part : List ℕ) × Appends old new (front ++ part) × IsFront part text
+PutsValues front text ends old new answered.WriteFault = (part : List ℕ) × Appends old new part × IsFront part (front ++ text)
+
+-- the status of what is put whole, and whether it is the last
+abbrev pub SaysWhole : Bool → Answered → Type 0
+SaysWhole ends (answered.Whole status last) = (status ≡ 200) × (last ≡ ends)
+SaysWhole ends answered.Broken = ⊤
+SaysWhole ends answered.WriteFault = ⊤
+
+abbrev pub answered_by : Bool → Streamed → Answered
+answered_by ends streamed.Sent = answered.Whole 200 ends
+answered_by ends streamed.ShelfFault = answered.Broken
+answered_by ends streamed.WriteFault = answered.WriteFault
+
+-- the reply of an answer is put, or some of it
+abbrev pub PutsReply : Request → Result Text Cause → Option (List ℕ) → Option (List ℕ) → Answered → Type 0
+PutsReply q answer old new (answered.Whole status last) = (status ≡ status_of answer) × (last ≡ is_last q answer) × Appends old new (reply_of q answer)
+PutsReply q answer old new answered.Broken = (part : List ℕ) × IsBroken q answer part × Appends old new part
+PutsReply q answer old new answered.WriteFault = (part : List ℕ) × BreaksOff q answer part × Appends old new part
+
+-- that of a cause, or of a want of memory in its place
+abbrev pub PutsCause : Request → Cause → Option (List ℕ) → Option (List ℕ) → Answered → Type 0
+PutsCause q cause old new result = (final : Cause) × ((final ≡ cause) ⊎ (final ≡ OutOfMemory)) × PutsReply q (Err final) old new result
+
+-- what is known of a sink where the shelf tells its files
+abbrev pub known : Told → Option (List ℕ) → Option (List ℕ)
+known None written = None
+known (Some files) written = written
+
+-- ---- One request.
+
+-- a head that was read, as a request
+abbrev pub request_in : Head → Bool → Request
+request_in h ends = record { method = h.method; target = h.target; minor = h.minor; ends = ends }
+
+-- the head before its values
+abbrev pub data_front : Request → List ℕ
+data_front q = head_text 200 (description_of Dods) None (is_chunked Dods q.minor) q.ends
+
+abbrev pub broken : Answered → ℕ
+broken (answered.Whole status last) = 0
+broken answered.Broken = 1
+broken answered.WriteFault = 0
+
+-- how a link and a shelf stand: what the link has written, how often the shelf failed, and what was asked
+-- of it
+pub record Stand : Type 0 where
+  pub written : Option (List ℕ)
+  pub faults : ℕ
+  pub asked : ℕ
+
+-- the cost of the values of an answer
+abbrev pub Costs : Told → Asked → Result Text Cause → ℕ → Type 0
+Costs told a answer cost = MatchBool (sends_data answer) (IsCost told a cost) (cost ≡ 0)
+
+-- a request was answered, and no more was asked than its answer may ask
+abbrev pub AnswersWith : (Result Text Cause → ℕ → Type 0) → Told → Request → Stand → Stand → Answered → Type 0
+AnswersWith Asks told q a b result =
+    (answer : Result Text Cause) × MayAnswer told q answer × PutsReply q answer (known told a.written) b.written result
+    × RoseBy (has_failed answer + broken result) a.faults b.faults
+    × ((n : ℕ) × Asks answer n × (b.asked ≤ a.asked + n))
+
+abbrev pub Answers : Told → Request → Stand → Stand → Answered → Type 0
+Answers told q a b result = AnswersWith (MayAsk told (target_of q.target)) told q a b result
+
+-- ---- Requests in turn.
+
+-- behind n requests, of which the last had that status, the bytes that are kept and those that are taken
+-- are served so
+abbrev pub ServesFrom : ℕ → ℕ → Told → List ℕ → Option (List ℕ) → Option (List ℕ) → Stand → Stand → Bool → Served → Type 0
+ServesFrom n before told kept left left' a b ended served =
+    (c : Connection) × (taken : List ℕ)
+    × Consumes left left' taken
+    × Appends (known told a.written) b.written (put_from (n + 1) c)
+    × IsServedFrom n before told (kept ++ taken) ended c served
+    × RoseBy (failures c served.ending) a.faults b.faults
+    × ((m : ℕ) × ConnectionMayAsk told c m × (b.asked ≤ a.asked + m))
+
+-- one of them was answered, and others may follow
+abbrev pub GoesOn : ℕ → Told → List ℕ → List ℕ → Option (List ℕ) → Option (List ℕ) → Stand → Stand → ℕ → Type 0
+GoesOn n told kept kept' left left' a b status =
+    (t : Turn) × (taken : List ℕ)
+    × Consumes left left' taken
+    × Appends (known told a.written) b.written (reply_of (request (n + 1) t.head) t.answer)
+    × IsTurn told (n + 1) (kept ++ taken) t kept'
+    × (is_last_turn (n + 1) t ≡ false)
+    × (status ≡ status_of t.answer)
+    × RoseBy (has_failed t.answer) a.faults b.faults
+    × ((m : ℕ) × MayAsk told (target_of t.head.target) t.answer m × (b.asked ≤ a.asked + m))
+
+abbrev pub Serves : ℕ → ℕ → Told → List ℕ → List ℕ → Option (List ℕ) → Option (List ℕ) → Stand → Stand → Bool → Next → Type 0
+Serves n before told kept kept' left left' a b ended (next.GoesOn status) = GoesOn n told kept kept' left left' a b status
+Serves n before told kept kept' left left' a b ended (next.Ends served) = ServesFrom n before told kept left left' a b ended served
+
+-- a reply that ends the connection is put, or where the sink fails some of it
+abbrev pub PutsLast : List ℕ → ℕ → ℕ → ℕ → Option (List ℕ) → Option (List ℕ) → Served → Type 0
+PutsLast bytes status n before old new served =
+    ((served ≡ record { replies = n + 1; status = status; ending = Closed }) × Appends old new bytes)
+    ⊎ ((served ≡ record { replies = n; status = before; ending = WriteFault }) × ((part : List ℕ) × IsPart bytes part × Appends old new part))
+
+-- that of a refusal, or for a want of memory in its place
+abbrev pub PutsRefusal : Cause → ℕ → ℕ → Option (List ℕ) → Option (List ℕ) → Served → Type 0
+PutsRefusal cause n before old new served =
+    (final : Cause) × ((final ≡ cause) ⊎ (final ≡ OutOfMemory)) × PutsLast (last_reply final) (http_status final) n before old new served
+
+-- what comes behind the reply to request n + 1
+abbrev pub next_of : ℕ → ℕ → Answered → Next
+next_of n before (answered.Whole status false) = next.GoesOn status
+next_of n before (answered.Whole status true) = next.Ends (record { replies = n + 1; status = status; ending = Closed })
+next_of n before answered.Broken = next.Ends (record { replies = n; status = before; ending = Broken })
+next_of n before answered.WriteFault = next.Ends (record { replies = n; status = before; ending = WriteFault })
+
+-- a fault of the link comes only where its count rose
+abbrev pub RoseNext : Next → ℕ → ℕ → ℕ → ℕ → Type 0
+RoseNext (next.GoesOn status) takes takes' puts puts' = ⊤
+RoseNext (next.Ends served) takes takes' puts puts' = RoseFor served.ending takes takes' puts puts'
+
+-- it is not the last that a connection may have
+abbrev pub GoesOnFew : ℕ → Next → Type 0
+GoesOnFew n (next.GoesOn status) = n + 1 < 1000
+GoesOnFew n (next.Ends served) = ⊤

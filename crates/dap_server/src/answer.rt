@@ -1,0 +1,311 @@
+//! The answer to one request.
+
+ghost use Rattle.std.specs.Prelude.{◌≡◌, ◌≢◌, ◌≤◌, ◌+◌, ◌⊎◌, ℕ, List, Bool, Some, IsSome, Ok, Err, false, ◌||◌};
+ghost use Rattle.dap_outside.specs.Causes.{Rose};
+ghost use Rattle.dap_http.specs.Frames.{framed};
+ghost use Rattle.dap_http.specs.Requests.{is_other};
+ghost use Rattle.dap_http.specs.Targets.{target_of};
+ghost use Rattle.xdr_encode.specs.Bodies.{FitsFile, cost_in, text_in};
+ghost use Rattle.dap_server.specs.Costs.{IsCost};
+ghost use Rattle.dap_server.specs.Prepared.{MayGive, asked_of};
+ghost use Rattle.dap_server.specs.Replies.{is_head, wants_memory};
+ghost use Rattle.dap_server.specs.Results.{text_of};
+ghost use Rattle.dap_server.specs.inner.Serving.{Answers, AnswersWith, Costs, PutsCause, PutsReply, PutsValues, SaysWhole, answered_by, data_front, request_in};
+
+use crate::framed::put_framed;
+use crate::prepared::Prepared;
+use crate::preparing::prepare;
+use crate::put::{put_reply, put_whole};
+use crate::reply::{data_head, error_reply, text_reply};
+use crate::turn::Answered;
+use dap_errors::{Cause, status};
+use dap_http::{Framer, Head, Kind, Target, TargetRefusal, memory_reply};
+use dap_outside::{Shelf, Sink};
+use dap_types::{Bytes, Memory};
+use std::alloc::Global;
+use std::thread::Threads;
+use xdr_encode::{Body, Streamed};
+
+/// Whether the head of the reply is all that is wanted.
+fn is_head(head: &Head) -> bool
+    ensures { (ends : Bool) → result ≡ is_head (request_in head.now ends) }
+{
+    head.method.as_str().as_bytes() == b"HEAD".as_slice()
+}
+
+/// Whether the method is neither GET nor HEAD.
+fn is_other(head: &Head) -> bool
+    ensures { result ≡ is_other head.now.method }
+{
+    let method = head.method.as_str().as_bytes();
+    !(method == b"GET".as_slice() || method == b"HEAD".as_slice())
+}
+
+/// Puts the reply for a want of memory. It takes none.
+fn put_memory<O: Sink>(out: &mut O, head: &Head, ends: bool) -> Answered
+    ensures puts { PutsReply (request_in head.now ends) (Err Cause.OutOfMemory) (O.written out.old) (O.written out.new) result }
+    ensures fault { result ≡ Answered.WriteFault → Rose (O.put_faults out.old) (O.put_faults out.new) }
+    ensures later { O.put_faults out.old ≤ O.put_faults out.new }
+    ensures beside { O.beside_writing out.new ≡ O.beside_writing out.old }
+{
+    put_reply(out, memory_reply(is_head(head)), 503, true)
+}
+
+/// Whether the connection ends behind the reply for a cause, as it does behind that for a want of memory.
+fn is_last(cause: &Cause, ends: bool) -> bool
+    ensures { result ≡ (ends || wants_memory cause.now) }
+{
+    ends || matches!(cause, Cause::OutOfMemory)
+}
+
+/// Puts the reply for a cause.
+fn put_cause<O: Sink>(
+    alloc: Global,
+    out: &mut O,
+    head: &Head,
+    ends: bool,
+    cause: &Cause,
+) -> Answered
+    ensures puts { PutsCause (request_in head.now ends) cause.now (O.written out.old) (O.written out.new) result }
+    ensures fault { result ≡ Answered.WriteFault → Rose (O.put_faults out.old) (O.put_faults out.new) }
+    ensures later { O.put_faults out.old ≤ O.put_faults out.new }
+    ensures beside { O.beside_writing out.new ≡ O.beside_writing out.old }
+{
+    let last = is_last(cause, ends);
+    match error_reply(alloc, cause, last, is_head(head)) {
+        Ok(text) => put_reply(out, text.bytes(), status(cause), last),
+        Err(Memory) => put_memory(out, head, ends),
+    }
+}
+
+/// Puts the reply of a text of a kind that is no data.
+fn put_text<O: Sink>(
+    alloc: Global,
+    out: &mut O,
+    head: &Head,
+    ends: bool,
+    kind: Kind,
+    text: &[u8],
+) -> Answered
+    requires { kind ≢ Kind.Dods }
+    ensures puts { (PutsReply (request_in head.now ends) (Ok (text_of kind text.now)) (O.written out.old) (O.written out.new) result)
+        ⊎ PutsReply (request_in head.now ends) (Err Cause.OutOfMemory) (O.written out.old) (O.written out.new) result }
+    ensures fault { result ≡ Answered.WriteFault → Rose (O.put_faults out.old) (O.put_faults out.new) }
+    ensures later { O.put_faults out.old ≤ O.put_faults out.new }
+    ensures beside { O.beside_writing out.new ≡ O.beside_writing out.old }
+{
+    match text_reply(alloc, kind, text, ends, is_head(head)) {
+        Ok(reply) => put_reply(out, reply.bytes(), 200, ends),
+        Err(Memory) => put_memory(out, head, ends),
+    }
+}
+
+/// What became of a reply whose values went out so.
+fn answered_by(streamed: Streamed, ends: bool) -> Answered
+    ensures { result ≡ answered_by ends streamed }
+{
+    match streamed {
+        Streamed::Sent => Answered::Whole {
+            status: 200,
+            last: ends,
+        },
+        Streamed::ShelfFault => Answered::Broken,
+        Streamed::WriteFault => Answered::WriteFault,
+    }
+}
+
+/// Puts a head and the values that follow it, as they are read from their file. Takes no memory.
+fn put_values<R: Threads + Sync, S: Shelf, O: Sink>(
+    rt: &R,
+    shelf: &mut S,
+    file: &mut S::File,
+    body: &mut Body,
+    framer: Framer,
+    out: &mut O,
+    front: &[u8],
+    ends: bool,
+    workers: u32,
+) -> Answered
+    requires fits { FitsFile body.old (S.size_of shelf.old file.old) }
+    requires some { 1 ≤ workers }
+    requires many { workers ≤ 64 }
+    ensures puts { (bytes : List ℕ) → S.content shelf.old file.old ≡ Some bytes →
+        PutsValues front.now (framed framer.chunked (text_in body.old bytes)) ends (O.written out.old) (O.written out.new) result }
+    ensures last { SaysWhole ends result }
+    ensures shelf_later { S.faults shelf.old ≤ S.faults shelf.new }
+    ensures shelf_fault { result ≡ Answered.Broken → Rose (S.faults shelf.old) (S.faults shelf.new) }
+    ensures files { S.files shelf.new ≡ S.files shelf.old }
+    ensures asked { S.asked shelf.new ≤ S.asked shelf.old + cost_in body.old }
+    ensures fault { result ≡ Answered.WriteFault → Rose (O.put_faults out.old) (O.put_faults out.new) }
+    ensures later { O.put_faults out.old ≤ O.put_faults out.new }
+    ensures beside { O.beside_writing out.new ≡ O.beside_writing out.old }
+{
+    match put_whole(out, front) {
+        Ok(()) => answered_by(
+            put_framed(rt, shelf, file, body, framer, out, workers),
+            ends,
+        ),
+        Err(_) => Answered::WriteFault,
+    }
+}
+
+/// Answers a request of a data response with the values that are read from its file.
+fn answer_values<R: Threads + Sync, S: Shelf, O: Sink>(
+    alloc: Global,
+    rt: &R,
+    shelf: &mut S,
+    file: &mut S::File,
+    body: &mut Body,
+    out: &mut O,
+    head: &Head,
+    ends: bool,
+    front: &[u8],
+    target: &Target,
+    workers: u32,
+) -> Answered
+    requires target { target_of head.now.target ≡ Some (asked_of target.now) }
+    requires served { is_other head.now.method ≡ false }
+    requires get { is_head (request_in head.now ends) ≡ false }
+    requires front { front.now ≡ data_front (request_in head.now ends) }
+    requires fits { FitsFile body.old (S.size_of shelf.old file.old) }
+    requires body { (bytes : List ℕ) → S.content shelf.old file.old ≡ Some bytes → MayGive (S.files shelf.old) (asked_of target.now) (Ok (text_of Kind.Dods (text_in body.old bytes))) }
+    requires accepted { (text : List ℕ) × MayGive (S.files shelf.old) (asked_of target.now) (Ok (text_of Kind.Dods text)) }
+    requires tells { IsSome (S.files shelf.old) → IsSome (S.content shelf.old file.old) }
+    requires cost { (cost : ℕ) × IsCost (S.files shelf.old) (asked_of target.now) cost × (cost_in body.old ≤ cost) }
+    requires some { 1 ≤ workers }
+    requires many { workers ≤ 64 }
+    ensures answers { AnswersWith (Costs (S.files shelf.old) (asked_of target.now)) (S.files shelf.old) (request_in head.now ends)
+        (record { written = O.written out.old; faults = S.faults shelf.old; asked = S.asked shelf.old })
+        (record { written = O.written out.new; faults = S.faults shelf.new; asked = S.asked shelf.new }) result }
+    ensures files { S.files shelf.new ≡ S.files shelf.old }
+    ensures shelf_later { S.faults shelf.old ≤ S.faults shelf.new }
+    ensures fault { result ≡ Answered.WriteFault → Rose (O.put_faults out.old) (O.put_faults out.new) }
+    ensures later { O.put_faults out.old ≤ O.put_faults out.new }
+    ensures beside { O.beside_writing out.new ≡ O.beside_writing out.old }
+{
+    let chunked = Kind::Dods.is_chunked(head.minor);
+    match Framer::new(alloc, chunked) {
+        Ok(framer) => put_values(rt, shelf, file, body, framer, out, front, ends, workers),
+        Err(Memory) => put_memory(out, head, ends),
+    }
+}
+
+/// Answers a request of a data response.
+fn answer_data<R: Threads + Sync, S: Shelf, O: Sink>(
+    alloc: Global,
+    rt: &R,
+    shelf: &mut S,
+    file: &mut S::File,
+    body: &mut Body,
+    out: &mut O,
+    head: &Head,
+    ends: bool,
+    target: &Target,
+    workers: u32,
+) -> Answered
+    requires target { target_of head.now.target ≡ Some (asked_of target.now) }
+    requires served { is_other head.now.method ≡ false }
+    requires fits { FitsFile body.old (S.size_of shelf.old file.old) }
+    requires body { (bytes : List ℕ) → S.content shelf.old file.old ≡ Some bytes → MayGive (S.files shelf.old) (asked_of target.now) (Ok (text_of Kind.Dods (text_in body.old bytes))) }
+    requires accepted { (text : List ℕ) × MayGive (S.files shelf.old) (asked_of target.now) (Ok (text_of Kind.Dods text)) }
+    requires tells { IsSome (S.files shelf.old) → IsSome (S.content shelf.old file.old) }
+    requires cost { (cost : ℕ) × IsCost (S.files shelf.old) (asked_of target.now) cost × (cost_in body.old ≤ cost) }
+    requires some { 1 ≤ workers }
+    requires many { workers ≤ 64 }
+    ensures answers { AnswersWith (Costs (S.files shelf.old) (asked_of target.now)) (S.files shelf.old) (request_in head.now ends)
+        (record { written = O.written out.old; faults = S.faults shelf.old; asked = S.asked shelf.old })
+        (record { written = O.written out.new; faults = S.faults shelf.new; asked = S.asked shelf.new }) result }
+    ensures files { S.files shelf.new ≡ S.files shelf.old }
+    ensures shelf_later { S.faults shelf.old ≤ S.faults shelf.new }
+    ensures fault { result ≡ Answered.WriteFault → Rose (O.put_faults out.old) (O.put_faults out.new) }
+    ensures later { O.put_faults out.old ≤ O.put_faults out.new }
+    ensures beside { O.beside_writing out.new ≡ O.beside_writing out.old }
+{
+    match data_head(alloc, Kind::Dods.is_chunked(head.minor), ends) {
+        Ok(front) => {
+            if is_head(head) {
+                return put_reply(out, front.bytes(), 200, ends);
+            }
+            answer_values(
+                alloc,
+                rt,
+                shelf,
+                file,
+                body,
+                out,
+                head,
+                ends,
+                front.bytes(),
+                target,
+                workers,
+            )
+        }
+        Err(Memory) => put_memory(out, head, ends),
+    }
+}
+
+/// Answers a request whose target was read.
+fn answer_target<R: Threads + Sync, S: Shelf, O: Sink>(
+    alloc: Global,
+    rt: &R,
+    shelf: &mut S,
+    out: &mut O,
+    head: &Head,
+    ends: bool,
+    target: &Target,
+    workers: u32,
+) -> Answered
+    requires target { target_of head.now.target ≡ Some (asked_of target.now) }
+    requires served { is_other head.now.method ≡ false }
+    requires some { 1 ≤ workers }
+    requires many { workers ≤ 64 }
+    ensures answers { Answers (S.files shelf.old) (request_in head.now ends)
+        (record { written = O.written out.old; faults = S.faults shelf.old; asked = S.asked shelf.old })
+        (record { written = O.written out.new; faults = S.faults shelf.new; asked = S.asked shelf.new }) result }
+    ensures files { S.files shelf.new ≡ S.files shelf.old }
+    ensures shelf_later { S.faults shelf.old ≤ S.faults shelf.new }
+    ensures fault { result ≡ Answered.WriteFault → Rose (O.put_faults out.old) (O.put_faults out.new) }
+    ensures later { O.put_faults out.old ≤ O.put_faults out.new }
+    ensures beside { O.beside_writing out.new ≡ O.beside_writing out.old }
+{
+    match prepare(alloc, rt, shelf, target, workers) {
+        Prepared::Text { kind, text } => put_text(alloc, out, head, ends, kind, text.bytes()),
+        Prepared::Body { mut body, mut file } => answer_data(
+            alloc, rt, shelf, &mut file, &mut body, out, head, ends, target, workers,
+        ),
+        Prepared::Refuse(cause) => put_cause(alloc, out, head, ends, &cause),
+        Prepared::ShelfFault => put_cause(alloc, out, head, ends, &Cause::ReadFailed),
+        Prepared::Memory => put_memory(out, head, ends),
+    }
+}
+
+/// Answers a request.
+pub fn answer<R: Threads + Sync, S: Shelf, O: Sink>(
+    alloc: Global,
+    rt: &R,
+    shelf: &mut S,
+    out: &mut O,
+    head: &Head,
+    ends: bool,
+    workers: u32,
+) -> Answered
+    requires some { 1 ≤ workers }
+    requires many { workers ≤ 64 }
+    ensures answers { Answers (S.files shelf.old) (request_in head.now ends)
+        (record { written = O.written out.old; faults = S.faults shelf.old; asked = S.asked shelf.old })
+        (record { written = O.written out.new; faults = S.faults shelf.new; asked = S.asked shelf.new }) result }
+    ensures files { S.files shelf.new ≡ S.files shelf.old }
+    ensures shelf_later { S.faults shelf.old ≤ S.faults shelf.new }
+    ensures fault { result ≡ Answered.WriteFault → Rose (O.put_faults out.old) (O.put_faults out.new) }
+    ensures later { O.put_faults out.old ≤ O.put_faults out.new }
+    ensures beside { O.beside_writing out.new ≡ O.beside_writing out.old }
+{
+    if is_other(head) {
+        return put_cause(alloc, out, head, ends, &Cause::BadMethod);
+    }
+    match Target::read(alloc, head.target.bytes()) {
+        Ok(target) => answer_target(alloc, rt, shelf, out, head, ends, &target, workers),
+        Err(TargetRefusal::BadTarget) => put_cause(alloc, out, head, ends, &Cause::BadTarget),
+        Err(TargetRefusal::Memory) => put_memory(out, head, ends),
+    }
+}

@@ -1,0 +1,164 @@
+//! The body of the data response for what a query leaves of a stored file.
+
+ghost use Rattle.std.specs.Prelude.{◌≡◌, ◌≤◌, ◌<◌, ℕ, List, All, map, IfOk, IfErr, Ok, Err, None, Some, length};
+ghost use Rattle.constraint_parse.specs.Values.{Spells};
+ghost use Rattle.constraint_parse.specs.declared.constraint.Constraint.{Constraint};
+ghost use Rattle.csv_source.specs.Dataset.{row_tree, table_dataset};
+ghost use Rattle.dap_model.specs.Rows.{kept};
+ghost use Rattle.dap_types.specs.Numbered.{number_in};
+ghost use Rattle.dap_types.specs.View.{dataset_view};
+ghost use Rattle.dap_types.specs.WellFormed.{number_of};
+ghost use Rattle.grid_projection.specs.Resolved.{cause};
+ghost use Rattle.netcdf_source.specs.Laws.{HasHeader};
+ghost use Rattle.sequence_select.specs.Selections.{selections};
+ghost use Rattle.xdr_encode.specs.Asked.{MarksAsk};
+ghost use Rattle.xdr_encode.specs.Bodies.{FitsFile, HasNoFile, MayAsk, cost_in, text_in};
+ghost use Rattle.xdr_encode.specs.Costs.{marks_cost};
+ghost use Rattle.dap_outside.specs.Files.{Told};
+ghost use Rattle.dap_server.specs.Costs.{IsFormCost, IsFormCostAt, head_len, marks_of};
+ghost use Rattle.dap_server.specs.Files.{form_of, netcdf_stored, table, table_stored};
+ghost use Rattle.dap_server.specs.Results.{DodsAnswers, text_of};
+ghost use Rattle.dap_server.specs.inner.Opening.{Has, IsHeldBy, OpenedAs, WhereFault, WhereRefused, body_stop, stored_of};
+
+use crate::marked::marked_by;
+use crate::open::Opened;
+use crate::stop::Stop;
+use constraint_parse::Constraint;
+use csv_source::Table;
+use dap_errors::Cause;
+use dap_http::Kind;
+use dap_types::{Dataset, Index, List, Memory};
+use netcdf_source::Header;
+use sequence_select::{Tests, mask};
+use slab_fill::NoGate;
+use std::alloc::Global;
+use std::thread::Threads;
+use xdr_encode::{Body, BodyRefusal};
+
+/// The stop for which there is no body.
+fn body_stop(refusal: BodyRefusal) -> Stop
+    ensures { result ≡ body_stop refusal }
+{
+    match refusal {
+        BodyRefusal::TooLarge { leaf } => Stop::Refused(Cause::TooLarge { leaf }),
+        BodyRefusal::Memory => Stop::Memory,
+    }
+}
+
+/// The body for what a query leaves of a netCDF file with that header and name.
+pub fn cdf_body(alloc: Global, header: &Header, name: &str, query: &[u8]) -> Result<Body, Stop>
+    ensures text { IfOk result (λ b. (bytes : List ℕ) → HasHeader header.now.contents bytes →
+        DodsAnswers (netcdf_stored name.now bytes header.now.contents) query.now (Ok (text_of Kind.Dods (text_in b bytes)))) }
+    ensures accepted { IfOk result (λ b. (bytes : List ℕ) → (text : List ℕ) ×
+        DodsAnswers (netcdf_stored name.now bytes header.now.contents) query.now (Ok (text_of Kind.Dods text))) }
+    ensures fits { IfOk result (λ b. FitsFile b header.now.length) }
+    ensures cost { IfOk result (λ b. (constraint : Constraint) × Spells query.now constraint × (cost_in b ≤ marks_cost header.now.contents (marks_of header.now.contents name.now constraint))) }
+    ensures cost_at { IfOk result (λ b. (constraint : Constraint) × Spells query.now constraint × ((bytes : List ℕ) (put cost : ℕ) → HasHeader header.now.contents bytes → MayAsk b bytes put cost →
+        MarksAsk header.now.contents (marks_of header.now.contents name.now constraint) bytes (head_len header.now.contents name.now constraint) put cost)) }
+    ensures refused { IfErr result (WhereRefused (λ why. (bytes : List ℕ) → DodsAnswers (netcdf_stored name.now bytes header.now.contents) query.now (Err why))) }
+    ensures no_fault { IfErr result (WhereFault ⊥) }
+{
+    let dataset = header.dataset(alloc, name.as_bytes())?;
+    let marked = marked_by(alloc, &dataset, query)?;
+    match Body::of_cdf(alloc, header, &dataset, &marked.marks) {
+        Ok(body) => Ok(body),
+        Err(refusal) => Err(body_stop(refusal)),
+    }
+}
+
+/// As many rows, all to be kept.
+fn all_rows(alloc: Global, count: u32) -> Result<List<bool>, Memory>
+    ensures { IfOk result (λ rows. length rows ≡ count) }
+{
+    let mut rows = List::with_capacity(alloc, count as usize)?;
+    for _ in 0..count {
+        rows.push(true)?;
+    }
+    Ok(rows)
+}
+
+/// The rows of a table in which the clauses of a constraint hold.
+fn rows_kept<R: Threads + Sync>(
+    alloc: Global,
+    rt: &R,
+    table: &Table,
+    dataset: &Dataset,
+    index: &Index,
+    constraint: &Constraint,
+    workers: u32,
+) -> Result<List<bool>, Memory>
+    requires dataset { dataset_view dataset.now ≡ table_dataset table.now }
+    requires indexed { (path : List (List ℕ)) → number_in index.now path ≡ number_of (dataset_view dataset.now) path }
+    requires accepted { cause (dataset_view dataset.now) constraint.now ≡ None }
+    requires some { 1 ≤ workers }
+    requires many { workers ≤ 64 }
+    ensures { IfOk result (λ rows. rows ≡ map (λ row. kept (selections (table_dataset table.now) constraint.now) 1 (row_tree row)) table.now.rows) }
+{
+    let tests = Tests::new(alloc, table, dataset, index, constraint)?;
+    let mut rows = all_rows(alloc, table.rows())?;
+    mask(rt, table, &tests, rows.items_mut(), workers, &NoGate);
+    Ok(rows)
+}
+
+/// The body for what a query leaves of a table.
+pub fn table_body<R: Threads + Sync>(
+    alloc: Global,
+    rt: &R,
+    table: Table,
+    query: &[u8],
+    workers: u32,
+) -> Result<Body, Stop>
+    requires some { 1 ≤ workers }
+    requires many { workers ≤ 64 }
+    ensures text { IfOk result (λ b. (held : List ℕ) → DodsAnswers (table_stored table) query.now (Ok (text_of Kind.Dods (text_in b held)))) }
+    ensures alone { IfOk result HasNoFile }
+    ensures fits { IfOk result (λ b. (size : ℕ) → FitsFile b size) }
+    ensures cost { IfOk result (λ b. cost_in b ≡ 0) }
+    ensures refused { IfErr result (WhereRefused (λ why. DodsAnswers (table_stored table) query.now (Err why))) }
+    ensures no_fault { IfErr result (WhereFault ⊥) }
+{
+    let dataset = table.dataset(alloc)?;
+    let marked = marked_by(alloc, &dataset, query)?;
+    let rows = rows_kept(
+        alloc,
+        rt,
+        &table,
+        &dataset,
+        &marked.index,
+        &marked.constraint,
+        workers,
+    )?;
+    match Body::of_table(alloc, table, rows, &dataset, &marked.marks) {
+        Ok(body) => Ok(body),
+        Err(refusal) => Err(body_stop(refusal)),
+    }
+}
+
+/// The body for what a query leaves of a stored file of that name.
+pub fn body_of<R: Threads + Sync>(
+    alloc: Global,
+    rt: &R,
+    opened: Opened,
+    name: &str,
+    query: &[u8],
+    workers: u32,
+) -> Result<Body, Stop>
+    requires some { 1 ≤ workers }
+    requires many { workers ≤ 64 }
+    ensures text { IfOk result (λ b. (bytes held : List ℕ) → OpenedAs opened name.now bytes → IsHeldBy opened bytes held →
+        DodsAnswers (stored_of opened name.now bytes) query.now (Ok (text_of Kind.Dods (text_in b held)))) }
+    ensures accepted { IfOk result (λ b. (bytes : List ℕ) → (text : List ℕ) × DodsAnswers (stored_of opened name.now bytes) query.now (Ok (text_of Kind.Dods text))) }
+    ensures alone { IfOk result (λ b. (bytes : List ℕ) → OpenedAs opened name.now bytes → form_of name.now ≡ Some table → HasNoFile b) }
+    ensures fits { IfOk result (λ b. (bytes : List ℕ) → OpenedAs opened name.now bytes → FitsFile b (length bytes)) }
+    ensures cost { IfOk result (λ b. (told : Told) (bytes : List ℕ) → OpenedAs opened name.now bytes → Has told name.now bytes →
+        (cost : ℕ) × IsFormCost (form_of name.now) told name.now query.now cost × (cost_in b ≤ cost)) }
+    ensures cost_at { IfOk result (λ b. (told : Told) (bytes : List ℕ) (put cost : ℕ) → OpenedAs opened name.now bytes → Has told name.now bytes → All (λ byte. byte < 256) bytes →
+        MayAsk b bytes put cost → IsFormCostAt (form_of name.now) told name.now query.now put cost) }
+    ensures refused { IfErr result (WhereRefused (λ why. (bytes : List ℕ) → DodsAnswers (stored_of opened name.now bytes) query.now (Err why))) }
+    ensures no_fault { IfErr result (WhereFault ⊥) }
+{
+    match opened {
+        Opened::Netcdf(header) => cdf_body(alloc, &header, name, query),
+        Opened::Table(table) => table_body(alloc, rt, table, query, workers),
+    }
+}

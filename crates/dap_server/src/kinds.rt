@@ -1,0 +1,98 @@
+//! What a name and a query are answered with, kind by kind.
+
+ghost use Rattle.std.specs.Prelude.{◌≡◌, ◌+◌, ◌≤◌, ℕ, List, IfOk, IfErr, IsSome, IsTrue, Ok, Err, None, Some, is_some};
+ghost use Rattle.dap_http.specs.Texts.{version};
+ghost use Rattle.dap_outside.specs.Causes.{Rose};
+ghost use Rattle.xdr_encode.specs.Bodies.{FitsFile, HasNoFile, MayAsk, cost_in, text_in};
+ghost use Rattle.dap_server.specs.Costs.{IsFormCost, IsFormCostAt, most_first};
+ghost use Rattle.dap_server.specs.Files.{form_of, table};
+ghost use Rattle.dap_server.specs.Prepared.{IsOver};
+ghost use Rattle.dap_server.specs.Results.{text_of};
+ghost use Rattle.dap_server.specs.inner.Opening.{WhereFault, WhereRefused};
+ghost use Rattle.dap_server.specs.inner.Preparing.{MayGiveAs};
+
+use crate::bodies::body_of;
+use crate::open::open_named;
+use crate::stop::Stop;
+use crate::texts::{das_of, dds_of};
+use dap_http::{Kind, version_text};
+use dap_outside::Shelf;
+use dap_types::Bytes;
+use std::alloc::Global;
+use std::thread::Threads;
+use xdr_encode::Body;
+
+/// The version text.
+pub fn version_answer(alloc: Global) -> Result<Bytes, Stop>
+    ensures text { IfOk result (λ text. text ≡ version) }
+    ensures refused { IfErr result (WhereRefused (λ why. ⊥)) }
+    ensures no_fault { IfErr result (WhereFault ⊥) }
+{
+    Ok(Bytes::new(alloc, version_text())?)
+}
+
+/// The DAS of the file of a name.
+pub fn das_answer<S: Shelf>(alloc: Global, shelf: &mut S, name: &str) -> Result<Bytes, Stop>
+    ensures text { IfOk result (λ text. (query : List ℕ) → MayGiveAs (S.files shelf.old) Kind.Das name.now query (Ok (text_of Kind.Das text))) }
+    ensures refused { IfErr result (WhereRefused (λ why. (query : List ℕ) → MayGiveAs (S.files shelf.old) Kind.Das name.now query (Err why))) }
+    ensures why { IfErr result (WhereFault (IsTrue (is_some (form_of name.now)) × Rose (S.faults shelf.old) (S.faults shelf.new))) }
+    ensures later { S.faults shelf.old ≤ S.faults shelf.new }
+    ensures files { S.files shelf.new ≡ S.files shelf.old }
+    ensures asked { S.asked shelf.new ≤ S.asked shelf.old + most_first (S.files shelf.old) name.now }
+    ensures untouched { form_of name.now ≡ None → shelf.new ≡ shelf.old }
+{
+    let (opened, _file) = open_named(alloc, shelf, name)?;
+    Ok(das_of(alloc, &opened)?)
+}
+
+/// The DDS of what a query leaves of the file of a name.
+pub fn dds_answer<S: Shelf>(
+    alloc: Global,
+    shelf: &mut S,
+    name: &str,
+    query: &[u8],
+) -> Result<Bytes, Stop>
+    ensures text { IfOk result (λ text. MayGiveAs (S.files shelf.old) Kind.Dds name.now query.now (Ok (text_of Kind.Dds text))) }
+    ensures refused { IfErr result (WhereRefused (λ why. MayGiveAs (S.files shelf.old) Kind.Dds name.now query.now (Err why))) }
+    ensures why { IfErr result (WhereFault (IsTrue (is_some (form_of name.now)) × Rose (S.faults shelf.old) (S.faults shelf.new))) }
+    ensures later { S.faults shelf.old ≤ S.faults shelf.new }
+    ensures files { S.files shelf.new ≡ S.files shelf.old }
+    ensures asked { S.asked shelf.new ≤ S.asked shelf.old + most_first (S.files shelf.old) name.now }
+    ensures untouched { form_of name.now ≡ None → shelf.new ≡ shelf.old }
+{
+    let (opened, _file) = open_named(alloc, shelf, name)?;
+    dds_of(alloc, &opened, name, query)
+}
+
+/// The body for what a query leaves of the file of a name, and that file.
+pub fn dods_answer<R: Threads + Sync, S: Shelf>(
+    alloc: Global,
+    rt: &R,
+    shelf: &mut S,
+    name: &str,
+    query: &[u8],
+    workers: u32,
+) -> Result<(Body, S::File), Stop>
+    requires some { 1 ≤ workers }
+    requires many { workers ≤ 64 }
+    ensures body { IfOk result (λ p. (bytes : List ℕ) → IsOver name.now (S.content shelf.new p.1) bytes →
+        MayGiveAs (S.files shelf.old) Kind.Dods name.now query.now (Ok (text_of Kind.Dods (text_in p.0 bytes)))) }
+    ensures accepted { IfOk result (λ p. (text : List ℕ) × MayGiveAs (S.files shelf.old) Kind.Dods name.now query.now (Ok (text_of Kind.Dods text))) }
+    ensures form { IfOk result (λ p. IsTrue (is_some (form_of name.now))) }
+    ensures tells { IfOk result (λ p. IsSome (S.files shelf.old) → IsSome (S.content shelf.new p.1)) }
+    ensures alone { IfOk result (λ p. form_of name.now ≡ Some table → HasNoFile p.0) }
+    ensures fits { IfOk result (λ p. FitsFile p.0 (S.size_of shelf.new p.1)) }
+    ensures cost { IfOk result (λ p. (cost : ℕ) × IsFormCost (form_of name.now) (S.files shelf.old) name.now query.now cost × (cost_in p.0 ≤ cost)) }
+    ensures cost_at { IfOk result (λ p. (bytes : List ℕ) (put cost : ℕ) → S.content shelf.new p.1 ≡ Some bytes → MayAsk p.0 bytes put cost →
+        IsFormCostAt (form_of name.now) (S.files shelf.old) name.now query.now put cost) }
+    ensures refused { IfErr result (WhereRefused (λ why. MayGiveAs (S.files shelf.old) Kind.Dods name.now query.now (Err why))) }
+    ensures why { IfErr result (WhereFault (IsTrue (is_some (form_of name.now)) × Rose (S.faults shelf.old) (S.faults shelf.new))) }
+    ensures later { S.faults shelf.old ≤ S.faults shelf.new }
+    ensures files { S.files shelf.new ≡ S.files shelf.old }
+    ensures asked { S.asked shelf.new ≤ S.asked shelf.old + most_first (S.files shelf.old) name.now }
+    ensures untouched { form_of name.now ≡ None → shelf.new ≡ shelf.old }
+{
+    let (opened, file) = open_named(alloc, shelf, name)?;
+    let body = body_of(alloc, rt, opened, name, query, workers)?;
+    Ok((body, file))
+}

@@ -1,0 +1,28 @@
+//! The server. The target of a request comes in, and a shelf of files: the text of the answer goes out,
+//! or the body of a data response that reads its file as it is streamed, or the first cause for which
+//! there is none. `specs/Results` says what a target asks of files, `specs/Files` what a file has.
+#![tactic(auto)]
+
+mod answer;
+mod bodies;
+mod connection;
+#[cfg(test)]
+mod connection_tests;
+mod framed;
+mod kinds;
+pub mod laws;
+mod marked;
+mod open;
+mod prepared;
+mod preparing;
+mod put;
+mod reply;
+mod served;
+mod stop;
+mod texts;
+mod turn;
+
+pub use connection::serve_connection;
+pub use prepared::Prepared;
+pub use preparing::prepare;
+pub use served::{Ending, Served};

@@ -1,0 +1,19 @@
+use dap_errors::Cause;
+use dap_http::Kind;
+use dap_types::Bytes;
+use xdr_encode::Body;
+
+/// What a target is answered with, with all memory that the answer takes. `F` is a file of the shelf.
+#[derive(Drop)]
+pub enum Prepared<F> {
+    /// A text of a kind that is no data.
+    Text { kind: Kind, text: Bytes },
+    /// A data response, and the file that it reads as it is streamed.
+    Body { body: Body, file: F },
+    /// The first cause for which there is none.
+    Refuse(Cause),
+    /// The shelf failed.
+    ShelfFault,
+    /// Memory was wanted.
+    Memory,
+}

@@ -1,0 +1,130 @@
+//! The answer to a target.
+
+ghost use Rattle.std.specs.Prelude.{◌≡◌, ◌≢◌, ◌+◌, ◌<◌, ◌≤◌, ℕ, List, Option, Some, IsSome, IsTrue, Result, Ok, Err, false, is_some};
+ghost use Rattle.dap_errors.specs.declared.cause.Cause.{Cause};
+ghost use Rattle.dap_outside.specs.Causes.{Rose};
+ghost use Rattle.dap_outside.specs.Files.{IsBytes};
+ghost use Rattle.xdr_encode.specs.Bodies.{FitsFile, HasNoFile, MayAsk, cost_in, text_in};
+ghost use Rattle.dap_server.specs.Costs.{IsCost, IsCostAt, asks_shelf, most_first};
+ghost use Rattle.dap_server.specs.Files.{form_of, table};
+ghost use Rattle.dap_server.specs.Prepared.{IsFor, IsOver, MayGive, MustGive, WhereBody, WhereRefuse, WhereShelfFault, WhereText, asked_of};
+ghost use Rattle.dap_server.specs.Results.{Text, text_of};
+ghost use Rattle.dap_server.specs.inner.Preparing.{IsMade, body_prepared, stopped, text_prepared};
+
+use crate::kinds::{das_answer, dds_answer, dods_answer, version_answer};
+use crate::prepared::Prepared;
+use crate::stop::Stop;
+use dap_http::{Kind, Target};
+use dap_outside::Shelf;
+use dap_types::Bytes;
+use std::alloc::Global;
+use std::thread::Threads;
+use xdr_encode::Body;
+
+fn stopped<F: Drop>(stop: Stop) -> Prepared<F>
+    ensures { result ≡ stopped stop }
+{
+    match stop {
+        Stop::Refused(cause) => Prepared::Refuse(cause),
+        Stop::ShelfFault => Prepared::ShelfFault,
+        Stop::Memory => Prepared::Memory,
+    }
+}
+
+/// The answer of a kind that is no data.
+fn text_prepared<F: Drop>(kind: Kind, text: Result<Bytes, Stop>) -> Prepared<F>
+    ensures { result ≡ text_prepared kind text }
+{
+    match text {
+        Ok(text) => Prepared::Text { kind, text },
+        Err(stop) => stopped(stop),
+    }
+}
+
+/// The answer that is data.
+fn body_prepared<F: Drop>(body: Result<(Body, F), Stop>) -> Prepared<F>
+    ensures { result ≡ body_prepared body }
+{
+    match body {
+        Ok((body, file)) => Prepared::Body { body, file },
+        Err(stop) => stopped(stop),
+    }
+}
+
+/// Bytes are bytes, which is all that this says. It looks at none of them.
+fn are_bytes(bytes: &[u8])
+    ensures { IsBytes bytes.now }
+{}
+
+/// The answer to a target.
+fn answer_of<R: Threads + Sync, S: Shelf>(
+    alloc: Global,
+    rt: &R,
+    shelf: &mut S,
+    target: &Target,
+    workers: u32,
+) -> Prepared<S::File>
+    requires some { 1 ≤ workers }
+    requires many { workers ≤ 64 }
+    ensures made { IsMade (S.files shelf.old) (S.content shelf.new) (S.size_of shelf.new) (asked_of target.now) (Rose (S.faults shelf.old) (S.faults shelf.new)) result }
+    ensures later { S.faults shelf.old ≤ S.faults shelf.new }
+    ensures files { S.files shelf.new ≡ S.files shelf.old }
+    ensures asked { S.asked shelf.new ≤ S.asked shelf.old + most_first (S.files shelf.old) target.now.name }
+    ensures untouched { asks_shelf (asked_of target.now) ≡ false → shelf.new ≡ shelf.old }
+{
+    let name = target.name.as_str();
+    let query = target.query.bytes();
+    match target.kind {
+        Kind::Ver => text_prepared(Kind::Ver, version_answer(alloc)),
+        Kind::Das => text_prepared(Kind::Das, das_answer(alloc, shelf, name)),
+        Kind::Dds => text_prepared(Kind::Dds, dds_answer(alloc, shelf, name, query)),
+        Kind::Dods => body_prepared(dods_answer(alloc, rt, shelf, name, query, workers)),
+    }
+}
+
+/// What a target asks of the files of a shelf: a text, or a data response that reads its file as it is
+/// streamed, or the first cause for which there is none (`Results`). It takes all memory of the answer.
+/// Of a netCDF file it reads the first 1,048,576 bytes at most, a table whole. The rows of a table are
+/// judged by so many workers, 1 to 64.
+///
+/// `ShelfFault` comes only where the shelf's count of faults rose, and only for a target that looks for a
+/// file.
+pub fn prepare<R: Threads + Sync, S: Shelf>(
+    alloc: Global,
+    rt: &R,
+    shelf: &mut S,
+    target: &Target,
+    workers: u32,
+) -> Prepared<S::File>
+    requires some { 1 ≤ workers }
+    requires many { workers ≤ 64 }
+    ensures text { WhereText result (λ kind text. (kind ≢ Kind.Dods) × MayGive (S.files shelf.old) (asked_of target.now) (Ok (text_of kind text))) }
+
+    // Over the bytes of its file the body is the data response; one of a table is it over any.
+    ensures body { WhereBody result (λ body file. (bytes : List ℕ) → IsOver target.now.name (S.content shelf.new file) bytes →
+        MayGive (S.files shelf.old) (asked_of target.now) (Ok (text_of Kind.Dods (text_in body bytes)))) }
+    ensures accepted { WhereBody result (λ body file. (text : List ℕ) × MayGive (S.files shelf.old) (asked_of target.now) (Ok (text_of Kind.Dods text))) }
+    ensures of_file { WhereBody result (λ body file. (target.now.kind ≡ Kind.Dods) × IsTrue (is_some (form_of target.now.name))) }
+    ensures tells { WhereBody result (λ body file. IsSome (S.files shelf.old) → IsSome (S.content shelf.new file)) }
+    ensures alone { WhereBody result (λ body file. form_of target.now.name ≡ Some table → HasNoFile body) }
+
+    // It reads within its file, and no more than its marks cost.
+    ensures fits { WhereBody result (λ body file. FitsFile body (S.size_of shelf.new file)) }
+    ensures cost { WhereBody result (λ body file. (cost : ℕ) × IsCost (S.files shelf.old) (asked_of target.now) cost × (cost_in body ≤ cost)) }
+    ensures cost_at { WhereBody result (λ body file. (bytes : List ℕ) (put cost : ℕ) → S.content shelf.new file ≡ Some bytes → MayAsk body bytes put cost →
+        IsCostAt (S.files shelf.old) (asked_of target.now) put cost) }
+
+    ensures refused { WhereRefuse result (λ cause. MayGive (S.files shelf.old) (asked_of target.now) (Err cause)) }
+    ensures shelf_fault { WhereShelfFault result (IsTrue (asks_shelf (asked_of target.now)) × Rose (S.faults shelf.old) (S.faults shelf.new)) }
+
+    // Each of these comes wherever it stands, unless the shelf fails or memory is wanted.
+    ensures only { (answer : Result Text Cause) → MustGive (S.files shelf.old) (asked_of target.now) answer → IsFor answer result }
+
+    ensures later { S.faults shelf.old ≤ S.faults shelf.new }
+    ensures files { S.files shelf.new ≡ S.files shelf.old }
+    ensures asked { S.asked shelf.new ≤ S.asked shelf.old + most_first (S.files shelf.old) target.now.name }
+    ensures untouched { asks_shelf (asked_of target.now) ≡ false → shelf.new ≡ shelf.old }
+{
+    are_bytes(target.query.bytes());
+    answer_of(alloc, rt, shelf, target, workers)
+}

@@ -1,0 +1,85 @@
+//! The texts that a stored file is answered with: its attributes, and the DDS of what a query leaves.
+
+ghost use Rattle.std.specs.Prelude.{◌≡◌, ◌<◌, ◌≤◌, ℕ, List, length, IfOk, IfErr, Ok, Err, MatchResult};
+ghost use Rattle.dap_model.specs.Dds.{dds};
+ghost use Rattle.dap_model.specs.Filter.{constrained};
+ghost use Rattle.das_text.specs.Das.{das};
+ghost use Rattle.das_text.specs.View.{attributes_view};
+ghost use Rattle.dap_types.specs.View.{dataset_view};
+ghost use Rattle.dap_types.specs.WellFormed.{IsWellFormed};
+ghost use Rattle.grid_projection.specs.Resolved.{marks_in};
+ghost use Rattle.dap_server.specs.Results.{DdsAnswers, das_text, text_of};
+ghost use Rattle.dap_server.specs.inner.Opening.{WhereFault, WhereRefused, attributes_in, dataset_in, stored_of};
+
+use crate::marked::marked_by;
+use crate::open::Opened;
+use crate::stop::Stop;
+use dap_errors::Cause;
+use dap_http::Kind;
+use dap_types::{Bytes, Dataset, Memory};
+use das_text::Attributes;
+use grid_projection::Marks;
+use std::alloc::Global;
+
+/// The most bytes of a DDS.
+const DDS_MAX: usize = 16_777_216;
+
+fn attributes_in(alloc: Global, opened: &Opened) -> Result<Attributes, Memory>
+    ensures { IfOk result (λ a. attributes_view a ≡ attributes_in opened.now) }
+{
+    match opened {
+        Opened::Netcdf(header) => header.attributes(alloc),
+        Opened::Table(table) => table.attributes(alloc),
+    }
+}
+
+/// The dataset of a stored file.
+pub fn dataset_in(alloc: Global, opened: &Opened, name: &str) -> Result<Dataset, Memory>
+    ensures dataset { IfOk result (λ d. dataset_view d ≡ dataset_in opened.now name.now) }
+    ensures well_formed { IfOk result (λ d. IsWellFormed (dataset_view d)) }
+{
+    match opened {
+        Opened::Netcdf(header) => header.dataset(alloc, name.as_bytes()),
+        Opened::Table(table) => table.dataset(alloc),
+    }
+}
+
+/// The DAS of a stored file.
+pub fn das_of(alloc: Global, opened: &Opened) -> Result<Bytes, Memory>
+    ensures { IfOk result (λ text. text ≡ das (attributes_in opened.now)) }
+{
+    let attributes = attributes_in(alloc, opened)?;
+    das_text::print(alloc, &attributes)
+}
+
+/// A DDS is refused where it is too long.
+fn check_dds(text: &[u8]) -> Result<(), Stop>
+    ensures { MatchResult result (λ _. length text.now ≤ 16777216) (λ stop. (stop ≡ Stop.Refused (Cause.TooLarge 0)) × (16777216 < length text.now)) }
+{
+    if text.len() > DDS_MAX {
+        return Err(Stop::Refused(Cause::TooLarge { leaf: 0 }));
+    }
+    Ok(())
+}
+
+/// The DDS of what marks leave of a dataset, of any length.
+fn dds_left(alloc: Global, dataset: &Dataset, marks: &Marks) -> Result<Bytes, Memory>
+    requires { IsWellFormed (dataset_view dataset.now) }
+    ensures { IfOk result (λ text. text ≡ dds (constrained (marks_in marks.now) (dataset_view dataset.now))) }
+{
+    let left = marks.constrained(alloc, dataset)?;
+    dds_text::print(alloc, &left)
+}
+
+/// The DDS of what a query leaves of a stored file.
+pub fn dds_of(alloc: Global, opened: &Opened, name: &str, query: &[u8]) -> Result<Bytes, Stop>
+    ensures text { IfOk result (λ text. (bytes : List ℕ) → DdsAnswers (stored_of opened.now name.now bytes) query.now (Ok (text_of Kind.Dds text))) }
+    ensures refused { IfErr result (WhereRefused (λ why. (bytes : List ℕ) → DdsAnswers (stored_of opened.now name.now bytes) query.now (Err why))) }
+    ensures no_fault { IfErr result (WhereFault ⊥) }
+{
+    let dataset = dataset_in(alloc, opened, name)?;
+    let marked = marked_by(alloc, &dataset, query)?;
+    let text = dds_left(alloc, &dataset, &marked.marks)?;
+    check_dds(text.bytes())?;
+    Ok(text)
+}

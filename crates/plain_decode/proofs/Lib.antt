@@ -1,0 +1,17 @@
+pub mod Fields
+pub mod Following
+pub mod Only
+pub mod Wrong
+pub mod SameTrees
+pub mod Moves
+pub mod Parts
+pub mod Rows
+pub mod Fronts
+pub mod Fresh
+pub mod Names
+pub mod HeadParts
+pub mod HeadLines
+pub mod WholeHead
+pub mod Decoded
+pub mod Judged
+pub mod PlainBodies

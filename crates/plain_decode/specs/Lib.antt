@@ -1,0 +1,3 @@
+pub mod Bads
+pub mod Verdict
+pub mod inner

@@ -1,0 +1,17 @@
+use Rattle.std.proofs.Common.{◌≡◌, ◌/◌, ◌%◌, ◌∷◌, ◌++◌, [], List, ℕ, None, Some, codes, map, length, drop, slice_get, refl, ap, sym, ◌∙◌, subst, append_assoc}
+use Rattle.std.specs.Fmt.{decimal}
+use Rattle.std.specs.Option.{option_map_or}
+use Rattle.dap_model.specs.Shown.{index_text}
+use Rattle.xdr_fields.specs.Wants.{index_texts}
+use Rattle.xdr_decode.proofs.Passing.{front_as, front_first, passes_kept, puts_as, puts_failed, puts_two}
+use Rattle.xdr_decode.specs.inner.Lines.{array_text, cell_text, column_text, path_text, shown_token, stage_text, token_text}
+use Rattle.xdr_decode.proofs.line.put_cell.Goals as goal
+
+pub returns-in_err-put_index-in-Cells-clause-puts : goal.returns-in_err-put_index-in-Cells-clause-puts
+returns-in_err-put_index-in-Cells-clause-puts g c =
+    puts_failed c.from_residual.result _ _ _ _ _ c.from_residual.ensures.0
+    (front_as _ _ _ _ _ (ap (cell_text c.args.columns.now) (sym c.in-Cells.is)) (front_first _ _ _ (index_text c.in-Cells.row) (codes "." ++ column_text c.args.columns.now c.in-Cells.at) c.in_err-put_index-in-Cells.ensures.puts))
+
+pub returns-in_ok-put_index-in-Cells-clause-puts : goal.returns-in_ok-put_index-in-Cells-clause-puts
+returns-in_ok-put_index-in-Cells-clause-puts g c =
+    puts_as c.put_below.result _ _ _ _ _ _ (ap (cell_text c.args.columns.now) (sym c.in-Cells.is)) (puts_two c.put_below.result _ _ _ _ _ _ (index_text c.in-Cells.row) (codes "." ++ column_text c.args.columns.now c.in-Cells.at) c.in_ok-put_index-in-Cells.ensures.puts c.put_below.ensures.puts)

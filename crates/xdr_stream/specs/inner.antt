@@ -1,8 +1,0 @@
-pub mod Asked
-pub mod Buffered
-pub mod Leaves
-pub mod Lines
-pub mod Moving
-pub mod Places
-pub mod Pushing
-pub mod Turning
