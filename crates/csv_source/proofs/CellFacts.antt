@@ -38,8 +38,8 @@ cell-fits Text cell is short = short
 cell-fits Url cell is short = short
 
 -- the place of a cell is a number of 64 bits
-pub place-fits : (row column width : ℕ) → row < 4294967296 → column < width → width ≤ 1024 → row * width + column < 18446744073709551616
-place-fits row column width r c w = grind (arith, r, c, w)
+pub row_fits : (row width : ℕ) → row < 4294967296 → width ≤ 1024 → row * width ≤ 4398046511104
+row_fits row width r w = grind (arith, r, w)
 
 -- the cell at a row and a column
 pub held-read : (columns : List Column) (rows : ℕ) (ends text : List ℕ) (row column : ℕ) (c : Column) → IsHeld columns rows ends text

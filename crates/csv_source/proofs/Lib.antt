@@ -16,7 +16,7 @@ mod Rows
 mod Sizes
 mod Standings
 mod TableFacts
-mod TableNames
+pub mod TableNames
 mod Tabled
 mod Wholes
 mod Within

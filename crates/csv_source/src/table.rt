@@ -1,6 +1,7 @@
-ghost use Rattle.std.specs.Prelude.{◌≡◌, ◌<◌, ◌^◌, All, length, IfOk, Some, slice_get, true};
+ghost use Rattle.std.specs.Prelude.{◌≡◌, ◌+◌, ◌*◌, ◌<◌, ◌≤◌, ◌^◌, All, length, IfOk, Some, slice_get, true};
 ghost use Rattle.dap_model.specs.Fits.{IsOf};
 ghost use Rattle.das_text.specs.View.{attributes_view};
+ghost use Rattle.dap_types.specs.Limits.{most_columns};
 ghost use Rattle.dap_types.specs.View.{dataset_view};
 ghost use Rattle.dap_types.specs.WellFormed.{IsWellFormed};
 ghost use Rattle.dap_types.specs.declared.declarations.Column as declared;
@@ -92,9 +93,18 @@ impl Table {
         ensures fits { (c : declared.Column) → slice_get self.now.columns column ≡ Some c → IsOf c.base (lent_value result) }
     {
         let base = self.columns.items()[column as usize].base;
-        let at = row as usize * self.columns.items().len() + column as usize;
+        let at = place(row, column, self.columns.items().len());
         lent(base, self.cells.get(at))
     }
+}
+
+/// The number of the field at a row and a column among those of all rows, each of which has so many.
+#[tactic(auto, using(crate::proofs::CellFacts::row_fits))]
+fn place(row: u32, column: u32, width: usize) -> usize
+    requires few { width ≤ most_columns }
+    ensures { result ≡ row * width + column }
+{
+    row as usize * width + column as usize
 }
 
 /// The value of a field that is a cell of a column of this type.

@@ -22,7 +22,7 @@ use Rattle.dap2.specs.Words.{AreAnswer}
 use Rattle.dap_outside.specs.Causes.{Rose}
 use Rattle.xdr_encode.specs.Streamed.{Stops}
 use Rattle.dap2.specs.declared.status.Status.{Status}
-use Rattle.dap2.specs.declared.status.Status.TheVariants.{Complete, Words, Refused, Damaged, BadReply, ReadFault, WriteFault, LinkFault, Memory, Unbuilt}
+use Rattle.dap2.specs.declared.status.Status.TheVariants.{Complete, Words, Refused, Damaged, BadReply, ReadFault, WriteFault, LinkFault, Memory, ServerError}
 
 pub may_result : (told : Told) (target : List ℕ) (a : Asked) (r : Result Text Cause) → target_of target ≡ Some a → MayGive told a r → MayResult told target r
 may_result told target a r is (files, may, answers) = (files, may, inl (a, sym (ap (λ o. found_or o causes.BadTarget) is), answers))
@@ -104,7 +104,7 @@ module _ (told : Told) (target : List ℕ) (Out Front Line : List ℕ → Type 0
   text_says t may BadReply put = absurd put
   text_says t may ReadFault put = absurd put
   text_says t may Memory put = absurd put
-  text_says t may Unbuilt put = absurd put
+  text_says t may ServerError put = absurd put
   text_says t may LinkFault put = absurd put
 
   refusal_says : (cause : Cause) (status : Status) → MayResult told target (Err cause) → RefusalPut cause Out Front Line status → AnswerSays told target Out Front Line status
@@ -119,7 +119,7 @@ module _ (told : Told) (target : List ℕ) (Out Front Line : List ℕ → Type 0
   refusal_says cause Words may put = absurd put
   refusal_says cause BadReply may put = absurd put
   refusal_says cause ReadFault may put = absurd put
-  refusal_says cause Unbuilt may put = absurd put
+  refusal_says cause ServerError may put = absurd put
   refusal_says cause LinkFault may put = absurd put
 
   -- data of which the text is known, and data of which it is not
@@ -132,7 +132,7 @@ module _ (told : Told) (target : List ℕ) (Out Front Line : List ℕ → Type 0
   known_says text Damaged looks may put = absurd put
   known_says text BadReply looks may put = absurd put
   known_says text Memory looks may put = absurd put
-  known_says text Unbuilt looks may put = absurd put
+  known_says text ServerError looks may put = absurd put
   known_says text LinkFault looks may put = absurd put
 
   hidden_says : (text : List ℕ) (status : Status) → IsTrue (looks_up target) → MayResult told target (Ok (text_of Dods text))
@@ -145,7 +145,7 @@ module _ (told : Told) (target : List ℕ) (Out Front Line : List ℕ → Type 0
   hidden_says text Damaged looks may hidden put = absurd put
   hidden_says text BadReply looks may hidden put = absurd put
   hidden_says text Memory looks may hidden put = absurd put
-  hidden_says text Unbuilt looks may hidden put = absurd put
+  hidden_says text ServerError looks may hidden put = absurd put
   hidden_says text LinkFault looks may hidden put = absurd put
 
 pub refuse_says : (told : Told) (target : List ℕ) (Out Front Line : List ℕ → Type 0) (cause : Cause) (status : Status) → MayResult told target (Err cause)
@@ -196,7 +196,7 @@ text_only text Out Front Rises Damaged put rises quiet = absurd put
 text_only text Out Front Rises BadReply put rises quiet = absurd put
 text_only text Out Front Rises ReadFault put rises quiet = absurd put
 text_only text Out Front Rises Memory put rises quiet = absurd put
-text_only text Out Front Rises Unbuilt put rises quiet = absurd put
+text_only text Out Front Rises ServerError put rises quiet = absurd put
 text_only text Out Front Rises LinkFault put rises quiet = absurd put
 
 pub body_only : (Reads Rises : Type 0) (status : Status) → IsPut status → (status ≡ ReadFault → Reads) → (status ≡ WriteFault → Rises) → ¬ Reads → ¬ Rises → status ≡ Complete
@@ -208,7 +208,7 @@ body_only Reads Rises Refused put reads rises still quiet = absurd put
 body_only Reads Rises Damaged put reads rises still quiet = absurd put
 body_only Reads Rises BadReply put reads rises still quiet = absurd put
 body_only Reads Rises Memory put reads rises still quiet = absurd put
-body_only Reads Rises Unbuilt put reads rises still quiet = absurd put
+body_only Reads Rises ServerError put reads rises still quiet = absurd put
 body_only Reads Rises LinkFault put reads rises still quiet = absurd put
 
 pub refuse_only : (cause : Cause) (Out Front Line : List ℕ → Type 0) (Rises : Type 0) (status : Status) → RefusalPut cause Out Front Line status → (status ≡ WriteFault → Rises) → ¬ Rises
@@ -221,7 +221,7 @@ refuse_only cause Out Front Line Rises Complete put rises quiet had = absurd put
 refuse_only cause Out Front Line Rises Words put rises quiet had = absurd put
 refuse_only cause Out Front Line Rises BadReply put rises quiet had = absurd put
 refuse_only cause Out Front Line Rises ReadFault put rises quiet had = absurd put
-refuse_only cause Out Front Line Rises Unbuilt put rises quiet had = absurd put
+refuse_only cause Out Front Line Rises ServerError put rises quiet had = absurd put
 refuse_only cause Out Front Line Rises LinkFault put rises quiet had = absurd put
 
 -- what is asked
@@ -279,5 +279,5 @@ another_line told target Out Front Line Other WriteFault l is says = says
 another_line told target Out Front Line Other Memory l is says = says
 another_line told target Out Front Line Other Words l is says = says
 another_line told target Out Front Line Other BadReply l is says = says
-another_line told target Out Front Line Other Unbuilt l is says = says
+another_line told target Out Front Line Other ServerError l is says = says
 another_line told target Out Front Line Other LinkFault l is says = says

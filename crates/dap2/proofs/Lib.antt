@@ -1,7 +1,9 @@
 pub mod Answering
 pub mod BothEnds
 pub mod Commanding
+pub mod Fetching
+pub mod Headlines
 pub mod Obeying
 pub mod Pieces
-pub mod PlainNames
+pub mod Shown
 pub mod Visiting

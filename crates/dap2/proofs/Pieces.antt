@@ -7,9 +7,10 @@ use Rattle.std.specs.List.{flat_map}
 use Rattle.dap_outside.proofs.Fronts.{front_more, front_of}
 use Rattle.dap_outside.specs.Causes.{HasCause, Rose}
 use Rattle.dap_outside.specs.Streams.{AppendsFront}
-use Rattle.dap2.specs.Lines.{IsSaid, bad_reply_line}
-use Rattle.plain_decode.specs.Bads.{bad_name}
-use Rattle.plain_decode.specs.declared.bad.BadField.{BadField}
+use Rattle.dap2.specs.Lines.{IsSaid, bad_reply_line, server_error_line}
+use Rattle.dap_model.specs.Shown.{shown_byte}
+use Rattle.xdr_decode.specs.Bads.{bad_name}
+use Rattle.xdr_decode.specs.declared.bad.BadField.{BadField}
 
 -- all pieces, from the ones before a place, that one, and those behind it
 pieces-at : (pieces : List (Bor (List ℕ))) (i : ℕ) (d : Bor (List ℕ)) → i < length pieces
@@ -36,6 +37,16 @@ line-pieces bad name place p q =
     ∙ ap (λ l. codes "dap2: bad reply: " ++ (bad_name bad.kind ++ (codes " at " ++ (l ++ codes "\n")))) q
     ∙ ap (λ l. codes "dap2: bad reply: " ++ l) (sym (append_assoc (bad_name bad.kind) (codes " at ") (decimal bad.place ++ codes "\n")))
     ∙ ap (λ l. codes "dap2: bad reply: " ++ l) (sym (append_assoc (bad_name bad.kind ++ codes " at ") (decimal bad.place) (codes "\n")))
+
+-- the line of an Error object in its pieces
+abbrev pub server_front : List ℕ → List ℕ
+server_front code = codes "dap2: server error " ++ (code ++ (codes ": " ++ []))
+
+pub server-pieces : (code message : List ℕ) → server_front code ++ (flat_map shown_byte message ++ codes "\n") ≡ server_error_line code message
+server-pieces code message = ap (λ l. codes "dap2: server error " ++ l) (append_assoc code (codes ": ") (flat_map shown_byte message ++ codes "\n"))
+
+pub server-whole : (code message : List ℕ) → (server_front code ++ flat_map shown_byte message) ++ codes "\n" ≡ server_error_line code message
+server-whole code message = append_assoc (server_front code) (flat_map shown_byte message) (codes "\n") ∙ server-pieces code message
 
 -- all is put unless the count rose
 pub whole_said : {T E : Type 0} (r : Result T E) (before now : ℕ) (old new : Option (List ℕ)) (line : List ℕ) → OnOk r (Appends old new line) → HasCause before now r

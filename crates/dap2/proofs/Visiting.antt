@@ -13,7 +13,7 @@ use Rattle.dap_server.specs.Connections.{RoseBy, failures}
 use Rattle.dap_server.specs.declared.served.Served.{Served}
 use Rattle.dap2.specs.Serve.{IsVisit, IsWholeVisit, LinkState, ServeSays, ServesFrom, Standing, Visit, ending_name, failures_in, lines_from, link_line}
 use Rattle.dap2.specs.declared.status.Status.{Status}
-use Rattle.dap2.specs.declared.status.Status.TheVariants.{Complete, Words, Refused, Damaged, BadReply, ReadFault, WriteFault, LinkFault, Memory, Unbuilt}
+use Rattle.dap2.specs.declared.status.Status.TheVariants.{Complete, Words, Refused, Damaged, BadReply, ReadFault, WriteFault, LinkFault, Memory, ServerError}
 
 abbrev pub standing : {W : Type 0} → Option (List W) → ℕ → Option (List ℕ) → Standing W
 standing back faults written = record { back = back; faults = faults; written = written }
@@ -43,7 +43,7 @@ module _ {W : Type 0} (told : Told) (state : W → LinkState) where
   says-more k requests came line lines a m b BadReply puts says = absurd says
   says-more k requests came line lines a m b ReadFault puts says = absurd says
   says-more k requests came line lines a m b Memory puts says = absurd says
-  says-more k requests came line lines a m b Unbuilt puts says = absurd says
+  says-more k requests came line lines a m b ServerError puts says = absurd says
 
   failures-more : (v : Visit W) (visits : List (Visit W)) (a m b : ℕ) → a ≤ m → m ≤ b → RoseBy (failures v.connection v.served.ending) a m → RoseBy (failures_in visits) m b
       → RoseBy (failures_in (v ∷ visits)) a b

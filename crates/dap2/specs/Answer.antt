@@ -17,7 +17,7 @@ use Rattle.dap_server.specs.Results.{Results, Text, error_object, put_of, text_o
 use Rattle.xdr_encode.specs.Streamed.{Stops}
 use Rattle.dap2.specs.Lines.{damaged_line, refused_line}
 use Rattle.dap2.specs.declared.status.Status.{Status}
-use Rattle.dap2.specs.declared.status.Status.TheVariants.{Complete, Words, Refused, Damaged, BadReply, ReadFault, WriteFault, LinkFault, Memory, Unbuilt}
+use Rattle.dap2.specs.declared.status.Status.TheVariants.{Complete, Words, Refused, Damaged, BadReply, ReadFault, WriteFault, LinkFault, Memory, ServerError}
 
 -- the files that the shelf may have give that result
 abbrev pub MayResult : Told → List ℕ → Result Text Cause → Type 0
@@ -95,7 +95,7 @@ AnswerSays told target Out Front Line Memory = Out []
 AnswerSays told target Out Front Line Words = ⊥
 AnswerSays told target Out Front Line BadReply = ⊥
 AnswerSays told target Out Front Line LinkFault = ⊥
-AnswerSays told target Out Front Line Unbuilt = ⊥
+AnswerSays told target Out Front Line ServerError = ⊥
 
 -- the values of a data response may be asked for, and of no other answer
 abbrev pub IsCostOf : Told → Asked → ℕ → Type 0

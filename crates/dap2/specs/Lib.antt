@@ -1,5 +1,7 @@
 pub mod Answer
+pub mod Fetch
 pub mod Folder
+pub mod Headline
 pub mod Laws
 pub mod Lines
 pub mod Serve

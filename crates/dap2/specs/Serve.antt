@@ -14,7 +14,7 @@ use Rattle.dap_server.specs.declared.served.Ending.{Ending}
 use Rattle.dap_server.specs.declared.served.Ending.TheVariants as endings
 use Rattle.dap_server.specs.declared.served.Served.{Served}
 use Rattle.dap2.specs.declared.status.Status.{Status}
-use Rattle.dap2.specs.declared.status.Status.TheVariants.{Complete, Words, Refused, Damaged, BadReply, ReadFault, WriteFault, LinkFault, Memory, Unbuilt}
+use Rattle.dap2.specs.declared.status.Status.TheVariants.{Complete, Words, Refused, Damaged, BadReply, ReadFault, WriteFault, LinkFault, Memory, ServerError}
 
 -- ---- The line of a link.
 
@@ -100,7 +100,7 @@ ServeSays requests came lines Out Front Damaged = ⊥
 ServeSays requests came lines Out Front BadReply = ⊥
 ServeSays requests came lines Out Front ReadFault = ⊥
 ServeSays requests came lines Out Front Memory = ⊥
-ServeSays requests came lines Out Front Unbuilt = ⊥
+ServeSays requests came lines Out Front ServerError = ⊥
 
 -- the links that came back to a door, how often the shelf failed, and what the output has
 pub record Standing (W : Type 0) : Type 0 where
@@ -135,4 +135,4 @@ VerSays Out Front BadReply = ⊥
 VerSays Out Front ReadFault = ⊥
 VerSays Out Front LinkFault = ⊥
 VerSays Out Front Memory = ⊥
-VerSays Out Front Unbuilt = ⊥
+VerSays Out Front ServerError = ⊥

@@ -1,9 +1,12 @@
 -- The words of a command line (this project's).
-use Rattle.std.specs.Prelude.{◌≡◌, ℕ, ◌≤◌, List, [], ◌∷◌, ◌⊎◌, IsTrue, codes}
+use Rattle.std.specs.Prelude.{◌≡◌, ℕ, ◌≤◌, List, [], ◌∷◌, ◌⊎◌, IsTrue, codes, length, Some}
 use Rattle.std.specs.Str.Parse.{digits_value}
+use Rattle.dap_http.specs.Urls.{UrlParts, url_of}
+use Rattle.dap_http.specs.declared.kind.Kind.{Kind}
+use Rattle.dap_http.specs.declared.kind.Kind.TheVariants as kinds
 use Rattle.viable.specs.Numerals.{is_numeral}
 use Rattle.dap2.specs.declared.command.Command.{Command}
-use Rattle.dap2.specs.declared.command.Command.TheVariants.{Answer, Show, Serve, Ver, Other}
+use Rattle.dap2.specs.declared.command.Command.TheVariants.{Answer, Show, Serve, Ver, Fetch, Other}
 
 -- the word is a number from 1 to that one, in 1 to 20 digits
 abbrev pub IsNumber : ℕ → List ℕ → ℕ → Type 0
@@ -30,12 +33,32 @@ AreServe words port workers requests =
 abbrev pub IsVer : List (List ℕ) → Type 0
 IsVer words = words ≡ codes "ver" ∷ []
 
+-- the word of a kind that is fetched
+abbrev pub IsKindWord : List ℕ → Kind → Type 0
+IsKindWord word kinds.Dds = word ≡ codes "dds"
+IsKindWord word kinds.Das = word ≡ codes "das"
+IsKindWord word kinds.Dods = word ≡ codes "dods"
+IsKindWord word kinds.Ver = ⊥
+
+-- `fetch`, a word, a kind and 1 to 16 constraints
+abbrev pub HaveFetchForm : List (List ℕ) → List ℕ → Kind → List (List ℕ) → Type 0
+HaveFetchForm words url kind ces =
+    (word : List ℕ) × (words ≡ codes "fetch" ∷ url ∷ word ∷ ces) × IsKindWord word kind × (1 ≤ length ces) × (length ces ≤ 16)
+
+-- `fetch URL KIND CE [CE ..]`
+abbrev pub AreFetch : List (List ℕ) → UrlParts → Kind → List (List ℕ) → Type 0
+AreFetch words u kind ces = (url : List ℕ) × HaveFetchForm words url kind ces × (url_of url ≡ Some u)
+
+-- `fetch` of some URL
+abbrev pub IsFetch : List (List ℕ) → Type 0
+IsFetch words = (u : UrlParts) × (kind : Kind) × (ces : List (List ℕ)) × AreFetch words u kind ces
+
 -- `serve` with some numbers
 abbrev pub IsServe : List (List ℕ) → Type 0
 IsServe words = (port : ℕ) × (workers : ℕ) × (requests : ℕ) × AreServe words port workers requests
 
 abbrev pub IsCommand : List (List ℕ) → Type 0
-IsCommand words = ((target : List ℕ) × (workers : ℕ) × AreAnswer words target workers) ⊎ (IsShow words ⊎ (IsServe words ⊎ IsVer words))
+IsCommand words = ((target : List ℕ) × (workers : ℕ) × AreAnswer words target workers) ⊎ (IsShow words ⊎ (IsServe words ⊎ (IsVer words ⊎ IsFetch words)))
 
 -- what the words ask for
 abbrev pub Reads : List (List ℕ) → Command → Type 0
@@ -43,4 +66,5 @@ Reads words (Answer target workers) = AreAnswer words target.now workers × (1 �
 Reads words Show = IsShow words
 Reads words (Serve port workers requests) = AreServe words port workers requests
 Reads words Ver = IsVer words
+Reads words (Fetch url kind ces) = HaveFetchForm words url.now kind ces.now
 Reads words Other = ¬ (IsCommand words)

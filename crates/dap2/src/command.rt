@@ -1,7 +1,9 @@
-ghost use Rattle.std.specs.Prelude.{[], ◌∷◌, codes};
-ghost use Rattle.dap2.specs.Words.{Reads};
+ghost use Rattle.std.specs.Prelude.{[], ◌∷◌, ◌≤◌, codes, length, MatchOption};
+ghost use Rattle.dap_http.specs.declared.kind.Kind.{Kind};
+ghost use Rattle.dap2.specs.Words.{IsKindWord, Reads};
 
 use crate::numbers::number_to;
+use dap_http::Kind;
 use dap_types::Name;
 
 /// What the words after the program's name ask for.
@@ -19,6 +21,12 @@ pub enum Command<'a> {
     },
     /// `ver`: the version text.
     Ver,
+    /// `fetch URL KIND CE [CE ..]`, where the URL may be none: what it gives for each constraint.
+    Fetch {
+        url: &'a str,
+        kind: Kind,
+        ces: &'a [Name],
+    },
     /// The words are no command.
     Other,
 }
@@ -77,13 +85,41 @@ fn serve_of<'a>(port: &str, workers: &str, requests: &str) -> Command<'a>
     }
 }
 
-fn command_of_four<'a>(name: &str, port: &str, workers: &str, requests: &str) -> Command<'a>
-    ensures { Reads (name.now ∷ port.now ∷ workers.now ∷ requests.now ∷ []) result }
+/// The kind of which this is the word.
+fn kind_of(word: &str) -> Option<Kind>
+    ensures { MatchOption result ((kind : Kind) → ¬ (IsKindWord word.now kind)) (λ kind. IsKindWord word.now kind) }
 {
-    if name == "serve" {
-        serve_of(port, workers, requests)
-    } else {
-        Command::Other
+    match word {
+        "dds" => Some(Kind::Dds),
+        "das" => Some(Kind::Das),
+        "dods" => Some(Kind::Dods),
+        _ => None,
+    }
+}
+
+fn fetch_of<'a>(url: &'a str, kind: &str, ces: &'a [Name]) -> Command<'a>
+    requires { 1 ≤ length ces.now }
+    ensures { Reads (codes "fetch" ∷ url.now ∷ kind.now ∷ ces.now) result }
+{
+    if ces.len() > 16 {
+        return Command::Other;
+    }
+    match kind_of(kind) {
+        Some(kind) => Command::Fetch { url, kind, ces },
+        None => Command::Other,
+    }
+}
+
+fn command_of_more<'a>(name: &str, first: &'a str, second: &'a str, rest: &'a [Name]) -> Command<'a>
+    requires { 1 ≤ length rest.now }
+    ensures { Reads (name.now ∷ first.now ∷ second.now ∷ rest.now) result }
+{
+    if name == "fetch" {
+        return fetch_of(first, second, rest);
+    }
+    match rest {
+        [third] if name == "serve" => serve_of(first, second, third.as_str()),
+        _ => Command::Other,
     }
 }
 
@@ -97,12 +133,12 @@ pub fn command_of(words: &[Name]) -> Command<'_>
         [name, target, workers] => {
             command_of_three(name.as_str(), target.as_str(), workers.as_str())
         }
-        [name, port, workers, requests] => command_of_four(
+        [name, first, second, third, ..] => command_of_more(
             name.as_str(),
-            port.as_str(),
-            workers.as_str(),
-            requests.as_str(),
+            first.as_str(),
+            second.as_str(),
+            &words[3..],
         ),
-        _ => Command::Other,
+        [] => Command::Other,
     }
 }

@@ -3,10 +3,10 @@ ghost use Rattle.std.specs.Io.KnownBytes.{Appends};
 ghost use Rattle.std.specs.List.{flat_map};
 ghost use Rattle.dap_outside.specs.Causes.{HasCause};
 ghost use Rattle.dap_outside.specs.Streams.{AppendsFront};
-ghost use Rattle.dap2.specs.Lines.{IsSaid, bad_reply_line, cause_line};
+ghost use Rattle.dap2.specs.Lines.{IsSaid, bad_reply_line, cause_line, server_error_line};
 
 use dap_outside::{Failed, Sink, put_all};
-use plain_decode::BadField;
+use xdr_decode::{BadField, put_shown_text};
 
 /// Puts the pieces, one after the other. Fails only where the count of faults rose, and then a front
 /// of them is put.
@@ -47,4 +47,24 @@ pub fn say_cause<E: Sink>(err: &mut E, start: &[u8], message: &[u8])
     ensures beside { E.beside_writing err.new ≡ E.beside_writing err.old }
 {
     say(err, &[start, message, b"\n"])
+}
+
+/// Puts the line of an Error object, of whose code these are the digits.
+fn put_server_error<E: Sink>(err: &mut E, code: &[u8], message: &[u8]) -> Result<(), Failed>
+    ensures ok { OnOk result (Appends (E.written err.old) (E.written err.new) (server_error_line code.now message.now)) }
+    ensures front { OnErr result (AppendsFront (E.written err.old) (E.written err.new) (server_error_line code.now message.now)) }
+    ensures cause { HasCause (E.put_faults err.old) (E.put_faults err.new) result }
+    ensures beside { E.beside_writing err.new ≡ E.beside_writing err.old }
+{
+    put_each(err, &[b"dap2: server error ", code, b": "])?;
+    put_shown_text(err, message)?;
+    put_all(err, b"\n")
+}
+
+/// Says the message of an Error object, and its code, of which these are the digits.
+pub fn say_server_error<E: Sink>(err: &mut E, code: &[u8], message: &[u8])
+    ensures said { IsSaid (server_error_line code.now message.now) (E.put_faults err.old) (E.put_faults err.new) (E.written err.old) (E.written err.new) }
+    ensures beside { E.beside_writing err.new ≡ E.beside_writing err.old }
+{
+    let _ = put_server_error(err, code, message);
 }

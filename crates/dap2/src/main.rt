@@ -4,13 +4,18 @@
 #![tactic(auto)]
 
 mod answer;
+#[cfg(test)]
+mod answer_tests;
 mod command;
+mod fetch;
 mod folder_shelf;
 mod laws;
 mod lines;
 mod numbers;
 mod run;
 mod serve;
+#[cfg(test)]
+mod serve_tests;
 mod show;
 mod status;
 mod std_streams;

@@ -1,20 +1,23 @@
-ghost use Rattle.std.specs.Prelude.{◌≡◌, ◌≢◌, ◌+◌, ◌≤◌, ◌⊎◌, ◌↔◌, ℕ, List, [], IfSome, IsSome, Some, false, Result};
+ghost use Rattle.std.specs.Prelude.{◌≡◌, ◌≢◌, ◌+◌, ◌≤◌, ◌⊎◌, ◌↔◌, ℕ, List, [], IfSome, IsSome, IsTrue, Some, false, Result};
 ghost use Rattle.std.specs.Io.KnownBytes.{Appends, IsAtEnd};
-ghost use Rattle.dap_client.specs.Shows.{IsShownBy};
+ghost use Rattle.dap_client.specs.Verdict.{Verdict, IsVerdict, dods_form};
 ghost use Rattle.dap_errors.specs.declared.cause.Cause.{Cause};
 ghost use Rattle.dap_outside.specs.Causes.{Rose};
 ghost use Rattle.dap_outside.specs.Streams.{AppendsFront};
 ghost use Rattle.dap_server.specs.Results.{Text};
+ghost use Rattle.dap_http.specs.Urls.{UrlParts};
+ghost use Rattle.dap_http.specs.declared.kind.Kind.{Kind};
 ghost use Rattle.dap2.specs.Answer as answers;
 ghost use Rattle.dap2.specs.Answer.{AnswerSays, MayAskFor, MayHaveAsked, MustResult, looks_up};
+ghost use Rattle.dap2.specs.Fetch.{FetchSays};
 ghost use Rattle.dap2.specs.Lines.{IsSaid, line_of};
-ghost use Rattle.dap2.specs.Show.{IsFor, IsRefusedBy, SaysBadReply, status_for};
+ghost use Rattle.dap2.specs.Show.{IsFor, ShowSays, status_for};
 ghost use Rattle.dap2.specs.Serve.{Serves, VerSays, Visit};
-ghost use Rattle.dap2.specs.Words.{AreAnswer, AreServe, IsCommand, IsServe, IsShow, IsVer};
-ghost use Rattle.plain_decode.specs.Verdict.{Verdict, IsVerdict, unbuilt};
+ghost use Rattle.dap2.specs.Words.{AreAnswer, AreFetch, AreServe, IsCommand, IsFetch, IsServe, IsShow, IsVer};
 
 use crate::answer::answer;
 use crate::command::{Command, command_of};
+use crate::fetch::fetch;
 use crate::lines::say;
 use crate::serve::serve;
 use crate::show::show_input;
@@ -26,7 +29,7 @@ use std::alloc::Global;
 use std::thread::Threads;
 
 /// Does what the words say.
-fn obey<R: Threads + Sync, S: Shelf, I: Source, O: Sink, E: Sink, D: Door>(
+fn obey<R: Threads + Sync, S: Shelf, I: Source, O: Sink, E: Sink, D: Door, C: Dial>(
     rt: &R,
     alloc: Global,
     words: &[Name],
@@ -35,6 +38,7 @@ fn obey<R: Threads + Sync, S: Shelf, I: Source, O: Sink, E: Sink, D: Door>(
     out: &mut O,
     err: &mut E,
     door: &mut D,
+    dial: &mut C,
 ) -> Status
     ensures answer { (target : List ℕ) (workers : ℕ) → AreAnswer words.now target workers →
         AnswerSays (S.files shelf.old) target (Appends (O.written out.old) (O.written out.new)) (AppendsFront (O.written out.old) (O.written out.new))
@@ -53,29 +57,31 @@ fn obey<R: Threads + Sync, S: Shelf, I: Source, O: Sink, E: Sink, D: Door>(
         (record { back = D.back door.old; faults = S.faults shelf.old; written = O.written out.old })
         (record { back = D.back door.new; faults = S.faults shelf.new; written = O.written out.new }) visits result
         × (visits ≢ [] → D.listens_at door.new ≡ Some port) }
-    ensures link_fault { result ≡ Status.LinkFault → Rose (D.faults door.old) (D.faults door.new) }
+    ensures link_fault { ¬ (IsFetch words.now) → result ≡ Status.LinkFault → Rose (D.faults door.old) (D.faults door.new) }
     ensures ver { IsVer words.now → VerSays (Appends (O.written out.old) (O.written out.new)) (AppendsFront (O.written out.old) (O.written out.new)) result }
     ensures ver_shelf { IsVer words.now → shelf.new ≡ shelf.old }
     ensures door { ¬ (IsServe words.now) → door.new ≡ door.old }
-    ensures complete { IsShow words.now → result ≡ Status.Complete → IfSome (I.left input.old) (λ body. IsShownBy body (Appends (O.written out.old) (O.written out.new))) × IsAtEnd (I.left input.new) }
-    ensures unbuilt { result ≡ Status.Unbuilt → IsShow words.now × IfSome (I.left input.old) (λ body. IsVerdict body unbuilt) }
-    ensures bad_reply { result ≡ Status.BadReply → IsShow words.now
-        × IfSome (I.left input.old) (λ body. IsRefusedBy body (E.put_faults err.old) (E.put_faults err.new) (E.written err.old) (E.written err.new)) }
-    ensures bad_line { result ≡ Status.BadReply → SaysBadReply (E.put_faults err.old) (E.put_faults err.new) (E.written err.old) (E.written err.new) }
-    ensures verdict { IsShow words.now → (body : List ℕ) (v : Verdict) → I.left input.old ≡ Some body → IsVerdict body v → IsFor v result }
+    ensures show { IsShow words.now → ShowSays (I.left input.old) (I.left input.new) (IsTrue (I.ended input.new)) (IsAtEnd (I.left input.new)) (O.written out.old) (O.written out.new)
+        (λ line. IsSaid line (E.put_faults err.old) (E.put_faults err.new) (E.written err.old) (E.written err.new)) result }
+    ensures verdict { IsShow words.now → (body : List ℕ) (v : Verdict) → I.left input.old ≡ Some body → IsVerdict dods_form body v → IsFor v result }
     ensures read_fault { IsShow words.now → result ≡ Status.ReadFault → Rose (I.take_faults input.old) (I.take_faults input.new) }
-    ensures prefix { IsShow words.now → result ≡ Status.WriteFault → IfSome (I.left input.old) (λ body. IsShownBy body (AppendsFront (O.written out.old) (O.written out.new))) }
-    ensures unchanged { IsShow words.now → result ≢ Status.Complete → result ≢ Status.WriteFault → O.written out.new ≡ O.written out.old }
     ensures shelf { IsShow words.now → shelf.new ≡ shelf.old }
-    ensures show_says { IsShow words.now → (result ≢ Status.Refused) × (result ≢ Status.Damaged) × (result ≢ Status.LinkFault) }
+    ensures fetch { (u : UrlParts) (kind : Kind) (ces : List (List ℕ)) → AreFetch words.now u kind ces →
+        FetchSays (λ l. record { whole = C.Wire.whole l; left = C.Wire.left l; ended = C.Wire.ended l; written = C.Wire.written l; take_faults = C.Wire.take_faults l; put_faults = C.Wire.put_faults l }) u kind ces
+        (record { back = C.back dial.old; faults = C.faults dial.old }) (record { back = C.back dial.new; faults = C.faults dial.new })
+        (record { written = O.written out.old; faults = O.put_faults out.old }) (record { written = O.written out.new; faults = O.put_faults out.new })
+        (λ line. IsSaid line (E.put_faults err.old) (E.put_faults err.new) (E.written err.old) (E.written err.new)) result }
+    ensures fetch_link { IsFetch words.now → result ≡ Status.LinkFault → Rose (C.faults dial.old) (C.faults dial.new) }
+    ensures fetch_shelf { IsFetch words.now → shelf.new ≡ shelf.old }
+    ensures dial { ¬ (IsFetch words.now) → dial.new ≡ dial.old }
     ensures words { (result ≡ Status.Words) ↔ (¬ (IsCommand words.now)) }
     ensures no_command { ¬ (IsCommand words.now) → (shelf.new ≡ shelf.old) × (out.new ≡ out.old) }
-    ensures write_fault { result ≡ Status.WriteFault → Rose (O.put_faults out.old) (O.put_faults out.new) }
+    ensures write_fault { ¬ (IsFetch words.now) → result ≡ Status.WriteFault → Rose (O.put_faults out.old) (O.put_faults out.new) }
     ensures input { ¬ (IsShow words.now) → input.new ≡ input.old }
     ensures whole { I.whole input.new ≡ I.whole input.old }
     ensures beside_input { I.beside_reading input.new ≡ I.beside_reading input.old }
     ensures beside_out { O.beside_writing out.new ≡ O.beside_writing out.old }
-    ensures quiet { result ≢ Status.BadReply → result ≢ Status.Refused → result ≢ Status.Damaged → err.new ≡ err.old }
+    ensures quiet { result ≢ Status.BadReply → result ≢ Status.ServerError → result ≢ Status.Refused → result ≢ Status.Damaged → err.new ≡ err.old }
     ensures beside_err { E.beside_writing err.new ≡ E.beside_writing err.old }
 {
     match command_of(words) {
@@ -87,6 +93,7 @@ fn obey<R: Threads + Sync, S: Shelf, I: Source, O: Sink, E: Sink, D: Door>(
             requests,
         } => serve(rt, alloc, port, workers, requests, shelf, out, door),
         Command::Ver => ver(out),
+        Command::Fetch { url, kind, ces } => fetch(alloc, url, kind, ces, out, err, dial),
         Command::Other => Status::Words,
     }
 }
@@ -94,8 +101,9 @@ fn obey<R: Threads + Sync, S: Shelf, I: Source, O: Sink, E: Sink, D: Door>(
 /// Does all that the program does with the words after its name. `answer TARGET [WORKERS]` puts what a
 /// target asks of the shelf's files to `out`, or the Error object for the first cause for which there is
 /// no such text; `show` reads a data response from `input` and shows it on `out`; `serve PORT WORKERS
-/// REQUESTS` serves so many links that come in at the door, and puts a line for each to `out`; `ver` puts
-/// the version text. For each status but `Complete` a line goes to `err`.
+/// REQUESTS` serves so many links that come in at the door, and puts a line for each to `out`; `fetch URL
+/// KIND CE [CE ..]` asks for what a URL gives for each constraint over a link of the dial, and shows the
+/// replies on `out`; `ver` puts the version text. For each status but `Complete` a line goes to `err`.
 pub fn run<R: Threads + Sync, S: Shelf, I: Source, O: Sink, E: Sink, D: Door, C: Dial>(
     rt: &R,
     alloc: Global,
@@ -133,41 +141,45 @@ pub fn run<R: Threads + Sync, S: Shelf, I: Source, O: Sink, E: Sink, D: Door, C:
         (record { back = D.back door.old; faults = S.faults shelf.old; written = O.written out.old })
         (record { back = D.back door.new; faults = S.faults shelf.new; written = O.written out.new }) visits result
         × (visits ≢ [] → D.listens_at door.new ≡ Some port) }
-    ensures link_fault { result ≡ Status.LinkFault → Rose (D.faults door.old) (D.faults door.new) }
+    ensures link_fault { ¬ (IsFetch words.now) → result ≡ Status.LinkFault → Rose (D.faults door.old) (D.faults door.new) }
     ensures ver { IsVer words.now → VerSays (Appends (O.written out.old) (O.written out.new)) (AppendsFront (O.written out.old) (O.written out.new)) result }
     ensures ver_shelf { IsVer words.now → shelf.new ≡ shelf.old }
     ensures door { ¬ (IsServe words.now) → door.new ≡ door.old }
 
-    ensures complete { IsShow words.now → result ≡ Status.Complete → IfSome (I.left input.old) (λ body. IsShownBy body (Appends (O.written out.old) (O.written out.new))) × IsAtEnd (I.left input.new) }
-    ensures unbuilt { result ≡ Status.Unbuilt → IsShow words.now × IfSome (I.left input.old) (λ body. IsVerdict body unbuilt) }
-    ensures bad_reply { result ≡ Status.BadReply → IsShow words.now
-        × IfSome (I.left input.old) (λ body. IsRefusedBy body (E.put_faults err.old) (E.put_faults err.new) (E.written err.old) (E.written err.new)) }
-    ensures bad_line { result ≡ Status.BadReply → SaysBadReply (E.put_faults err.old) (E.put_faults err.new) (E.written err.old) (E.written err.new) }
-
-    // The same for the verdict on what a source that tells has left.
-    ensures shows { IsShow words.now → (body : List ℕ) (v : Verdict) → I.left input.old ≡ Some body → IsVerdict body v
+    // What each status of `show` says of the bytes that came in, of the output and of the line on `err`; and the
+    // verdict on what a source that tells has left is told, where no count rose and memory was had.
+    ensures show { IsShow words.now → ShowSays (I.left input.old) (I.left input.new) (IsTrue (I.ended input.new)) (IsAtEnd (I.left input.new)) (O.written out.old) (O.written out.new)
+        (λ line. IsSaid line (E.put_faults err.old) (E.put_faults err.new) (E.written err.old) (E.written err.new)) result }
+    ensures shows { IsShow words.now → (body : List ℕ) (v : Verdict) → I.left input.old ≡ Some body → IsVerdict dods_form body v
         → ¬ (Rose (I.take_faults input.old) (I.take_faults input.new)) → ¬ (Rose (O.put_faults out.old) (O.put_faults out.new))
         → result ≢ Status.Memory → result ≡ status_for v }
 
     ensures read_fault { IsShow words.now → result ≡ Status.ReadFault → Rose (I.take_faults input.old) (I.take_faults input.new) }
-    ensures prefix { IsShow words.now → result ≡ Status.WriteFault → IfSome (I.left input.old) (λ body. IsShownBy body (AppendsFront (O.written out.old) (O.written out.new))) }
-    ensures unchanged { IsShow words.now → result ≢ Status.Complete → result ≢ Status.WriteFault → O.written out.new ≡ O.written out.old }
     ensures shelf { IsShow words.now → shelf.new ≡ shelf.old }
-    ensures show_says { IsShow words.now → (result ≢ Status.Refused) × (result ≢ Status.Damaged) × (result ≢ Status.LinkFault) }
+
+    // What each status of `fetch` says of the replies of the link that the dial gave and got back, of the output
+    // and of the line on `err`.
+    ensures fetch { (u : UrlParts) (kind : Kind) (ces : List (List ℕ)) → AreFetch words.now u kind ces →
+        FetchSays (λ l. record { whole = C.Wire.whole l; left = C.Wire.left l; ended = C.Wire.ended l; written = C.Wire.written l; take_faults = C.Wire.take_faults l; put_faults = C.Wire.put_faults l }) u kind ces
+        (record { back = C.back dial.old; faults = C.faults dial.old }) (record { back = C.back dial.new; faults = C.faults dial.new })
+        (record { written = O.written out.old; faults = O.put_faults out.old }) (record { written = O.written out.new; faults = O.put_faults out.new })
+        (λ line. IsSaid line (E.put_faults err.old) (E.put_faults err.new) (E.written err.old) (E.written err.new)) result }
+    ensures fetch_link { IsFetch words.now → result ≡ Status.LinkFault → Rose (C.faults dial.old) (C.faults dial.new) }
+    ensures fetch_shelf { IsFetch words.now → shelf.new ≡ shelf.old }
+    ensures dial { ¬ (IsFetch words.now) → dial.new ≡ dial.old }
 
     ensures words { (result ≡ Status.Words) ↔ (¬ (IsCommand words.now)) }
     ensures no_command { ¬ (IsCommand words.now) → (shelf.new ≡ shelf.old) × (out.new ≡ out.old) }
-    ensures write_fault { result ≡ Status.WriteFault → Rose (O.put_faults out.old) (O.put_faults out.new) }
+    ensures write_fault { ¬ (IsFetch words.now) → result ≡ Status.WriteFault → Rose (O.put_faults out.old) (O.put_faults out.new) }
     ensures input { ¬ (IsShow words.now) → input.new ≡ input.old }
     ensures whole { I.whole input.new ≡ I.whole input.old }
     ensures beside_input { I.beside_reading input.new ≡ I.beside_reading input.old }
     ensures beside_out { O.beside_writing out.new ≡ O.beside_writing out.old }
     ensures said { IfSome (line_of result) (λ line. IsSaid line (E.put_faults err.old) (E.put_faults err.new) (E.written err.old) (E.written err.new)) }
     ensures silent { result ≡ Status.Complete → err.new ≡ err.old }
-    ensures dial { dial.new ≡ dial.old }
     ensures beside_err { E.beside_writing err.new ≡ E.beside_writing err.old }
 {
-    let status = obey(rt, alloc, words, shelf, input, out, err, door);
+    let status = obey(rt, alloc, words, shelf, input, out, err, door, dial);
     if let Some(line) = status.line() {
         say(err, &[line.as_bytes()]);
     }

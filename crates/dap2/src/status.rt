@@ -17,6 +17,8 @@ pub enum Status {
     Damaged,
     /// Something is wrong with the data response that came in.
     BadReply,
+    /// An Error object came in place of a data response.
+    ServerError,
     /// A read failed.
     ReadFault,
     /// A write of the output failed; a front of it may be out.
@@ -25,8 +27,6 @@ pub enum Status {
     LinkFault,
     /// Memory was wanted.
     Memory,
-    /// The target, the file or the data response is of a form that is not built yet.
-    Unbuilt,
 }
 
 impl Status {
@@ -40,11 +40,11 @@ impl Status {
             Status::Refused => 3,
             Status::Damaged => 4,
             Status::BadReply => 5,
+            Status::ServerError => 6,
             Status::ReadFault => 7,
             Status::WriteFault => 8,
             Status::LinkFault => 9,
             Status::Memory => 10,
-            Status::Unbuilt => 11,
         }
     }
 
@@ -56,20 +56,23 @@ impl Status {
     }
 
     /// The line for standard error. There is none where the command is complete, and for a refusal, a
-    /// damaged file and a bad reply, whose lines say what is wrong.
+    /// damaged file, a bad reply and an Error object, whose lines say what is wrong.
     pub fn line(self) -> Option<&'static str>
         ensures { option_map (λ line. line.now) result ≡ line_of self }
     {
         match self {
-            Status::Complete | Status::Refused | Status::Damaged | Status::BadReply => None,
+            Status::Complete
+            | Status::Refused
+            | Status::Damaged
+            | Status::BadReply
+            | Status::ServerError => None,
             Status::Words => Some(
-                "usage: dap2 answer TARGET [WORKERS] | show | serve PORT WORKERS REQUESTS | ver\n",
+                "usage: dap2 answer TARGET [WORKERS] | show | serve PORT WORKERS REQUESTS | fetch URL KIND CE [CE ..] | ver\n",
             ),
             Status::ReadFault => Some("dap2: read fault\n"),
             Status::WriteFault => Some("dap2: write fault\n"),
             Status::LinkFault => Some("dap2: link fault\n"),
             Status::Memory => Some("dap2: out of memory\n"),
-            Status::Unbuilt => Some("dap2: not built\n"),
         }
     }
 }

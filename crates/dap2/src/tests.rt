@@ -123,7 +123,7 @@ fn ran<R: Threads + AllocGlobal + Sync>(
     let mut input = MemSource::new(Bytes::new(alloc, outside.input)?, take_piece, take_fails);
     let out_fails = numbers(alloc, outside.out_fails)?;
     let mut out = MemSink::new(alloc, outside.room, piece, out_fails)?;
-    let mut err = MemSink::new(alloc, 100, 7, numbers(alloc, &[])?)?;
+    let mut err = MemSink::new(alloc, 200, 7, numbers(alloc, &[])?)?;
     let words = named.items();
     let mut door = MemDoor::new(alloc, List::new(alloc), numbers(alloc, &[])?)?;
     let mut dial = MemDial::new(alloc, List::new(alloc), numbers(alloc, &[])?)?;
@@ -162,14 +162,14 @@ fn each_status_comes_from_its_cause(rt: HostRuntime) -> Result<(), Fail> {
             SURE,
             Status::Words,
             none,
-            b"usage: dap2 answer TARGET [WORKERS] | show | serve PORT WORKERS REQUESTS | ver\n",
+            b"usage: dap2 answer TARGET [WORKERS] | show | serve PORT WORKERS REQUESTS | fetch URL KIND CE [CE ..] | ver\n",
         ),
         (
             &["show", "head.csv.dods"],
             SURE,
             Status::Words,
             none,
-            b"usage: dap2 answer TARGET [WORKERS] | show | serve PORT WORKERS REQUESTS | ver\n",
+            b"usage: dap2 answer TARGET [WORKERS] | show | serve PORT WORKERS REQUESTS | fetch URL KIND CE [CE ..] | ver\n",
         ),
         (
             &["answer", "none.csv.dods"],
@@ -322,28 +322,45 @@ fn a_data_response_is_shown(rt: HostRuntime) -> Result<(), Fail> {
     )?;
     let trailing = changed(rt.alloc(), 138, b"\0")?;
     let none: &[u8] = b"";
-    let rows: [(&[u8], Status, &[u8], &[u8]); 6] = [
+    let rows: [(&[u8], Status, &[u8], &[u8]); 8] = [
         (BUOYS_BODY, Status::Complete, BUOYS_SHOWN, none),
         (
             &BUOYS_BODY[..137],
             Status::BadReply,
-            none,
+            &BUOYS_SHOWN[..184],
             b"dap2: bad reply: Cut at 137\n",
         ),
         (
             wrong_mark.as_slice(),
             Status::BadReply,
-            none,
+            &BUOYS_SHOWN[..139],
             b"dap2: bad reply: WrongMark at 118\n",
         ),
         (
             trailing.as_slice(),
             Status::BadReply,
-            none,
+            &BUOYS_SHOWN[..184],
             b"dap2: bad reply: Trailing at 138\n",
         ),
         (none, Status::BadReply, none, b"dap2: bad reply: Cut at 0\n"),
-        (b"<html>", Status::Unbuilt, none, b"dap2: not built\n"),
+        (
+            b"<html> ",
+            Status::BadReply,
+            none,
+            b"dap2: bad reply: BadDds at 0\n",
+        ),
+        (
+            b"Error { code = 7; message = \"x\"; };",
+            Status::ServerError,
+            none,
+            b"dap2: server error 7: x\n",
+        ),
+        (
+            b"Error { code = -3; message = \"a\\\"\n\"; };",
+            Status::ServerError,
+            none,
+            b"dap2: server error -3: a\\\"\\x0a\n",
+        ),
     ];
     for (input, status, out, err) in rows {
         for take_piece in [1, 7, 1000] {
@@ -379,7 +396,7 @@ fn each_take_and_each_put_of_a_showing_may_fail(rt: HostRuntime) -> Result<(), F
             break;
         }
         assert_eq!(rt; found.status, Status::ReadFault);
-        assert_eq!(rt; found.out.bytes(), b"".as_slice());
+        assert!(rt; BUOYS_SHOWN.starts_with(found.out.bytes()));
     }
     assert!(rt; all_read);
     let mut all_put = false;

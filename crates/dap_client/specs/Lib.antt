@@ -1,3 +1,9 @@
-pub mod Gathered
+pub mod After
+pub mod Answered
+pub mod Fetched
+pub mod Following
+pub mod Outcomes
+pub mod Replies
 pub mod Shows
+pub mod Verdict
 pub mod inner

@@ -1,54 +1,33 @@
--- What an outcome says of a data response that was to be shown (this project's).
-use Rattle.std.specs.Prelude.{◌≡◌, ℕ, List, length, Option, ⊤}
-use Rattle.std.specs.Io.KnownBytes.{Appends}
+-- What the client puts out of a data response (DAP 2.0, DODS; the shown text is this project's).
+use Rattle.std.specs.Prelude.{◌≡◌, ℕ, ◌≤◌, ◌⊎◌, List, ◌++◌, length, codes, Option}
+use Rattle.std.specs.Io.KnownBytes.{Appends, Consumes}
 use Rattle.dap_types.specs.Model.{Dataset, Tree}
+use Rattle.dap_model.specs.Partly.{ShowsLines, ShowsPart}
+use Rattle.dap_model.specs.Received.{IsPrefix}
 use Rattle.dap_model.specs.Shown.{shown}
-use Rattle.dap_outside.specs.Streams.{AppendsFront}
-use Rattle.plain_decode.specs.Verdict.{Verdict, good, wrong, unbuilt, IsVerdict}
-use Rattle.dap_client.specs.declared.outcome.Outcome.{Outcome}
-use Rattle.dap_client.specs.declared.outcome.Outcome.TheVariants.{Complete, BadReply, Unbuilt, ReadFault, WriteFault, Memory}
+use Rattle.xdr_decode.specs.Verdict.{HasHeadOf}
+use Rattle.dap_client.specs.Verdict.{IsVerdict, dods_form, good}
 
--- The body is good, and what the sink holds, before and after, stands so to the text that is shown of it
-abbrev pub IsShownBy : List ℕ → (List ℕ → Type 0) → Type 0
-IsShownBy body P = (d : Dataset) × (ts : List Tree) × IsVerdict body (good d ts) × P (shown d ts (length body))
+-- the sink gained a text that is so
+abbrev pub Gains : Option (List ℕ) → Option (List ℕ) → (List ℕ → Type 0) → Type 0
+Gains before now P = (text : List ℕ) × Appends before now text × P text
 
--- The outcome is the verdict on the body. On Complete the sink gained all that is shown of it, after a
--- fault of the sink some front of that
-abbrev pub Shows : List ℕ → Option (List ℕ) → Option (List ℕ) → Outcome → Type 0
-Shows body before now (Complete n) = (n ≡ length body) × IsShownBy body (Appends before now)
-Shows body before now (BadReply b) = IsVerdict body (wrong b.kind b.place)
-Shows body before now Unbuilt = IsVerdict body unbuilt
-Shows body before now WriteFault = IsShownBy body (AppendsFront before now)
-Shows body before now ReadFault = ⊤
-Shows body before now Memory = ⊤
+-- of some front of these bytes, a front was put of what may be shown
+abbrev pub StopsWithin : List ℕ → List ℕ → Type 0
+StopsWithin bytes text = (good : List ℕ) × (rest : List ℕ) × (bytes ≡ good ++ rest) × ShowsPart good text
 
--- the outcome for that verdict on the body
-abbrev pub IsFor : List ℕ → Verdict → Outcome → Type 0
-IsFor body (good d ts) o = o ≡ Complete (length body)
-IsFor body (wrong kind place) o = o ≡ BadReply (record { kind = kind; place = place })
-IsFor body unbuilt o = o ≡ Unbuilt
+-- or they are a whole good body, and a front was put of all that is shown of it, without its last line feed
+abbrev pub StopsWithinShown : List ℕ → List ℕ → Type 0
+StopsWithinShown bytes text =
+    (d : Dataset) × (ts : List Tree) × (front : List ℕ) × IsVerdict dods_form bytes (good d ts) × (shown d ts (length bytes) ≡ front ++ codes "\n") × IsPrefix text front
 
--- nothing but a fault, or want of memory, comes in its place
-abbrev pub Answers : List ℕ → Verdict → Outcome → Type 0
-Answers body v ReadFault = ⊤
-Answers body v WriteFault = ⊤
-Answers body v Memory = ⊤
-Answers body v o = IsFor body v o
+abbrev pub BreaksOff : List ℕ → List ℕ → Type 0
+BreaksOff bytes text = StopsWithin bytes text ⊎ StopsWithinShown bytes text
 
--- these two alone put something to the sink
-abbrev pub IfNothingPut : Outcome → Type 0 → Type 0
-IfNothingPut (Complete n) P = ⊤
-IfNothingPut WriteFault P = ⊤
-IfNothingPut o P = P
+-- behind a good `Data:` line came at most so many bytes
+abbrev pub HasFewValues : ℕ → List ℕ → Type 0
+HasFewValues most bytes = (d : Dataset) (head values : List ℕ) → HasHeadOf bytes d head values → length values ≤ most
 
-abbrev pub OnComplete : Outcome → Type 0 → Type 0
-OnComplete (Complete n) P = P
-OnComplete o P = ⊤
-
-abbrev pub OnReadFault : Outcome → Type 0 → Type 0
-OnReadFault ReadFault P = P
-OnReadFault o P = ⊤
-
-abbrev pub OnWriteFault : Outcome → Type 0 → Type 0
-OnWriteFault WriteFault P = P
-OnWriteFault o P = ⊤
+-- some bytes were taken of a source, and are so
+abbrev pub Takes : Option (List ℕ) → Option (List ℕ) → (List ℕ → Type 0) → Type 0
+Takes before now P = (taken : List ℕ) × Consumes before now taken × P taken

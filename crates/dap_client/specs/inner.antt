@@ -1,2 +1,11 @@
-pub mod Lines
+pub mod Behind
+pub mod DasBodies
+pub mod DataLines
+pub mod DdsBodies
+pub mod FirstWords
+pub mod Objects
+pub mod Openings
+pub mod Readers
 pub mod Showing
+pub mod Stages
+pub mod TextBodies

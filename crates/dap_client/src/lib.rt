@@ -1,14 +1,32 @@
 //! Shows what a server sent (DAP 2.0). In come the bytes of a source, in any pieces; out go the DDS,
 //! a line for each element and a line that says that all came, as `shown` of `dap_model` defines
-//! them, or the verdict of `plain_decode` on what is wrong.
+//! them, or what the verdict of `specs/Verdict` says is wrong.
 #![tactic(auto)]
 
 mod body;
-mod elements;
-mod gather;
+mod bytes;
+mod das_body;
+mod data_line;
+mod dds_body;
+mod fetching;
+mod first_word;
+pub mod laws;
+mod object;
+mod opening;
 mod outcome;
-mod shown;
-mod values;
+mod part;
+mod reader;
+mod replies;
+mod reply;
+mod showing;
+mod stage;
+#[cfg(test)]
+mod tests;
+mod text_body;
+mod text_stage;
 
-pub use body::show;
+pub use fetching::{Fetched, fetch, fetch_all};
 pub use outcome::Outcome;
+pub use replies::{Replies, Stop};
+pub use reply::read_reply;
+pub use showing::show;

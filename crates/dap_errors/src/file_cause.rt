@@ -4,7 +4,7 @@ use std::fmt;
 /// columns and rows are counted from 1.
 #[derive(Clone, Copy, Debug, PartialEq, Eq)]
 pub enum FileCause {
-    /// No `CDF` with version 1 or 2 at the front (netCDF classic format, magic).
+    /// No `CDF` with version 1, 2 or 5 at the front (netCDF classic format, magic).
     NotCdf,
     /// The number of records is that of a stream (netCDF classic format, numrecs).
     Streaming,

@@ -4,6 +4,7 @@ use Rattle.std.specs.Prelude.{◌≡◌, ℕ, zero, suc, ◌+◌, ◌/◌, Bool,
 use Rattle.std.specs.List.{flat_map}
 use Rattle.std.specs.Fmt.{digits}
 use Rattle.httparse.specs.Ascii.{crlf_bytes}
+use Rattle.dap_types.specs.Limits.{most_piece}
 
 -- the first so many pieces of n bytes
 abbrev pub first_pieces : ℕ → ℕ → List ℕ → List (List ℕ)
@@ -11,7 +12,7 @@ first_pieces n zero body = []
 first_pieces n (suc k) body = take n body ∷ first_pieces n k (drop n body)
 
 unfoldable pub piece_size : ℕ
-piece_size = 65536
+piece_size = most_piece
 
 abbrev pub pieces : List ℕ → List (List ℕ)
 pieces body = first_pieces piece_size ((length body + 65535) / 65536) body

@@ -3,6 +3,7 @@ use Rattle.std.proofs.Common.{inl, inr}
 use Rattle.std.specs.Prelude.{◌≡◌, ℕ, ◌+◌, ◌≤◌, ◌<◌, ◌⊎◌, List, length, Bool, IsTrue, codes}
 use Rattle.std.specs.Str.{bytes_eq}
 use Rattle.httparse.specs.Grammar.{RequestHead, ResponseHead}
+use Rattle.dap_types.specs.Limits.{most_reply_heads}
 use Rattle.xdr_decode.specs.declared.bad.BadField.{BadField}
 use Rattle.xdr_decode.specs.declared.bad.Bad.{Bad}
 use Rattle.xdr_decode.specs.declared.bad.Bad.TheVariants as bad
@@ -56,7 +57,7 @@ is_at_front kind f = (f.kind ≡ kind) × (f.place ≡ 0)
 -- the final head stands in the bytes, within 65,536 of them, and gives this
 abbrev pub GivesFinal : List ℕ → List ℕ → Bad ⊎ Coding → Type 0
 GivesFinal bytes kept answer =
-    (head : ResponseHead) × HasFinal bytes head kept × (length bytes ≤ length kept + 65536) × (coding_in head ≡ answer)
+    (head : ResponseHead) × HasFinal bytes head kept × (length bytes ≤ length kept + most_reply_heads) × (coding_in head ≡ answer)
 
 -- What an answer says of the bytes read, those kept, and the end mark. Where no final head stands in
 -- them, all of them are kept.
@@ -74,6 +75,6 @@ Answers bytes kept ended reply.Memory = kept ≡ bytes
 -- what comes where a final head stands in the input: its coding or its fault, or that it is too long
 abbrev pub IsAnswered : List ℕ → ResponseHead → List ℕ → ReplyRead → Type 0
 IsAnswered input head rest (reply.Final coding) = coding_in head ≡ inr coding
-IsAnswered input head rest (reply.Refused f) = (coding_in head ≡ inl f.kind) ⊎ ((f.kind ≡ bad.HeadTooLong) × (length rest + 65536 < length input))
+IsAnswered input head rest (reply.Refused f) = (coding_in head ≡ inl f.kind) ⊎ ((f.kind ≡ bad.HeadTooLong) × (length rest + most_reply_heads < length input))
 IsAnswered input head rest reply.ReadFault = Unit {0}
 IsAnswered input head rest reply.Memory = Unit {0}

@@ -6,6 +6,7 @@ use Rattle.std.specs.Char.{is_ascii_digit}
 use Rattle.std.specs.Str.{bytes_eq, str_eq_ignore_ascii_case}
 use Rattle.std.specs.Str.Parse.{digits_value}
 use Rattle.httparse.specs.Grammar.{NeverHasResponse, ReadsResponse, ResponseHead, status_code}
+use Rattle.dap_types.specs.Limits.{most_reply_heads}
 use Rattle.xdr_decode.specs.declared.bad.Bad.{Bad}
 use Rattle.xdr_decode.specs.declared.bad.Bad.TheVariants as bad
 use Rattle.dap_http.specs.Fields.{named, values_of}
@@ -80,12 +81,12 @@ pub record IsNoReply (bytes : List ℕ) : Type 0 where
 
 -- the heads are too long
 pub record AreTooLong (bytes : List ℕ) : Type 0 where
-  pub many : 65536 ≤ length bytes
-  pub none : (head : ResponseHead) (rest : List ℕ) → HasFinal bytes head rest → length rest + 65536 < length bytes
+  pub many : most_reply_heads ≤ length bytes
+  pub none : (head : ResponseHead) (rest : List ℕ) → HasFinal bytes head rest → length rest + most_reply_heads < length bytes
 
 -- behind the heads of status 100 to 199 no head begins, and they end before one does
 pub record AreCut (bytes : List ℕ) : Type 0 where
-  pub few : length bytes < 65536
+  pub few : length bytes < most_reply_heads
   pub none : HasNoFinal bytes
   pub before : List ResponseHead
   pub behind : List ℕ

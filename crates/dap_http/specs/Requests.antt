@@ -4,6 +4,7 @@ use Rattle.std.specs.List.{list_any}
 use Rattle.std.specs.Str.{bytes_eq, str_eq_ignore_ascii_case}
 use Rattle.httparse.specs.Grammar.{AllPass, NeverHasRequest, ReadsRequest, RequestHead}
 use Rattle.httparse.specs.Pieces.{is_newline}
+use Rattle.dap_types.specs.Limits.{most_request_head}
 use Rattle.dap_http.specs.Fields.{is_named, named, parts_of}
 
 -- the bytes begin with this head, of at most 64 fields, and then have that rest
@@ -13,7 +14,7 @@ ReadsHead bytes head rest = ReadsRequest bytes head rest × (length head.fields 
 -- The first request of an input, and the input behind it: its shortest prefix that is a head (no head
 -- begins another), of at most 16,384 bytes.
 abbrev pub FirstRequest : List ℕ → RequestHead → List ℕ → Type 0
-FirstRequest input head rest = ReadsHead input head rest × (length input ≤ length rest + 16384)
+FirstRequest input head rest = ReadsHead input head rest × (length input ≤ length rest + most_request_head)
 
 abbrev pub HasNoRequest : List ℕ → Type 0
 HasNoRequest input = (head : RequestHead) (rest : List ℕ) → ¬ (FirstRequest input head rest)
@@ -85,11 +86,11 @@ pub record IsBadRequest (bytes : List ℕ) : Type 0 where
 
 -- they are too many
 pub record IsTooLong (bytes : List ℕ) : Type 0 where
-  pub many : 16384 ≤ length bytes
+  pub many : most_request_head ≤ length bytes
   pub none : HasNoRequest bytes
 
 -- they end before a head does
 pub record IsGone (bytes : List ℕ) : Type 0 where
-  pub few : length bytes < 16384
+  pub few : length bytes < most_request_head
   pub none : HasNoHead bytes
   pub why : MayBecomeHead bytes ⊎ (IsFirstLine bytes ⊎ (65 ≤ feeds bytes))

@@ -1,4 +1,4 @@
-ghost use Rattle.std.specs.Prelude.{◌≡◌, ◌≤◌, ◌==◌, Some, None, IfOk, IsTrue, MatchOption, length, drop};
+ghost use Rattle.std.specs.Prelude.{◌≡◌, ◌≤◌, ◌==◌, Some, None, IfOk, IsSome, IsTrue, MatchOption, length, drop};
 ghost use Rattle.std.specs.List.{before_first, list_all, position_or_len};
 ghost use Rattle.std.specs.Char.{is_ascii_digit};
 
@@ -41,6 +41,7 @@ impl Url {
     pub fn read(alloc: Global, text: &str) -> Result<Url, UrlRefusal>
         ensures ok { IfOk result (λ u. url_of text.now ≡ Some (record { host = u.host; port = u.port; path = u.path })) }
         ensures bad { result ≡ Err UrlRefusal.BadUrl → url_of text.now ≡ None }
+        ensures memory { result ≡ Err UrlRefusal.Memory → IsSome (url_of text.now) }
     {
         let bytes = text.as_bytes();
         if !bytes.starts_with(b"http://") {
@@ -56,6 +57,7 @@ impl Url {
     fn routed(alloc: Global, authority: &[u8], path: &[u8]) -> Result<Url, UrlRefusal>
         ensures ok { IfOk result (λ u. routed authority.now (Some path.now) ≡ Some (record { host = u.host; port = u.port; path = u.path })) }
         ensures bad { result ≡ Err UrlRefusal.BadUrl → routed authority.now (Some path.now) ≡ None }
+        ensures memory { result ≡ Err UrlRefusal.Memory → IsSome (routed authority.now (Some path.now)) }
     {
         if !Url::is_path(path) {
             return Err(UrlRefusal::BadUrl);
@@ -69,6 +71,7 @@ impl Url {
     fn hosted(alloc: Global, host: &[u8], port: u16, path: &[u8]) -> Result<Url, UrlRefusal>
         ensures ok { IfOk result (λ u. hosted host.now (Some port) path.now ≡ Some (record { host = u.host; port = u.port; path = u.path })) }
         ensures bad { result ≡ Err UrlRefusal.BadUrl → hosted host.now (Some port) path.now ≡ None }
+        ensures memory { result ≡ Err UrlRefusal.Memory → IsSome (hosted host.now (Some port) path.now) }
     {
         if !Url::is_host(host) {
             return Err(UrlRefusal::BadUrl);

@@ -1,7 +1,7 @@
 -- Hyperslabs (DAP 2.0, constraint expressions: projections of arrays): what they pick of a list, of
 -- a nested list and of the values of an array.
 use Rattle.std.specs.Prelude.{zero, suc, ℕ, ◌+◌, ◌-◌, ◌*◌, ◌/◌, ◌==◌, if◌then◌else◌, ◌≤◌, ◌<◌, All, List, [], ◌∷◌, map, slice_get}
-use Rattle.std.specs.List.{filter_map, flat_map, range_with_len, zip}
+use Rattle.std.specs.List.{AllZip, filter_map, flat_map, range_with_len, zip}
 use Rattle.dap_types.specs.Model.{Tree, one, many, trees_of, kids}
 use Rattle.dap_types.specs.declared.declarations.ArrayDecl.{ArrayDecl}
 use Rattle.dap_types.specs.declared.slabs.Slab.{Slab}
@@ -54,6 +54,10 @@ counted slabs a = record a { dims = map (λ p. record p.0 { size = p.1.count }) 
 -- it goes up, and every index that it picks is one of a dimension of that size
 abbrev pub IsWithin : Slab → ℕ → Type 0
 IsWithin s n = (1 ≤ s.stride) × All (λ i. i < n) (indexes s)
+
+-- there is a hyperslab for each dimension of these sizes, and each picks indexes of its dimension
+abbrev pub AreWithin : List Slab → List ℕ → Type 0
+AreWithin slabs sizes = AllZip IsWithin slabs sizes
 
 -- a dimension picked whole
 abbrev pub whole_slabs : List ℕ → List Slab

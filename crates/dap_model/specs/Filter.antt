@@ -2,12 +2,12 @@
 -- leaves are marked, the arrays among them with a hyperslab for each dimension, and rows are kept.
 use Rattle.std.specs.Prelude.{◌≡◌, zero, suc, length, ℕ, ◌+◌, ⊤, List, [], ◌∷◌, map, filter, Bool, true, false, ◌&&◌, ◌||◌, ◌==◌, nat_lt, if◌then◌else◌, Option, Some, None, is_some}
 use Rattle.std.specs.Cmp.Lexicographic.{pointwise}
-use Rattle.std.specs.List.{AllZip, list_any, range_with_len}
+use Rattle.std.specs.List.{list_any, range_with_len}
 use Rattle.std.specs.Option.{option_map_or}
 use Rattle.dap_types.specs.Model.{Member, scalar, array, structure, grid, sequence, Members, no_members, member, members_of, Dataset, Tree, many, trees_of, kids, count, sizes}
 use Rattle.dap_types.specs.declared.declarations.ArrayDecl.{ArrayDecl}
 use Rattle.dap_types.specs.declared.slabs.Slab.{Slab}
-pub use Rattle.dap_model.specs.Cutting.{indexes, pick, cut, counted, IsWithin, whole_slabs}
+pub use Rattle.dap_model.specs.Cutting.{indexes, pick, cut, counted, IsWithin, AreWithin, whole_slabs}
 
 -- by a leaf's number: its hyperslabs, where it is marked. A scalar and a column have none
 abbrev pub Marks : Type 0
@@ -91,7 +91,7 @@ abbrev mutual
 -- leaf n, if it is marked, has one hyperslab for each dimension of the array
 abbrev pub Suits : Option (List Slab) → ArrayDecl → Type 0
 Suits None a = ⊤
-Suits (Some slabs) a = AllZip IsWithin slabs (sizes a)
+Suits (Some slabs) a = AreWithin slabs (sizes a)
 
 abbrev pub SuitEach : Marks → ℕ → List ArrayDecl → Type 0
 SuitEach marks n [] = ⊤

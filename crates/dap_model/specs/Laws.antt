@@ -1,7 +1,7 @@
 -- What the definitions promise of one another, each as a statement over all datasets and values. They
 -- show that the definitions are not empty, and that they are not the code again.
 use Rattle.std.specs.Prelude.{◌≡◌, ℕ, ◌+◌, ◌*◌, ◌^◌, ◌<◌, ◌≤◌, ◌≢◌, Bool, T, true, false, List, [], ◌∷◌, ◌++◌, All, AllPairs, length, None, codes, slice_get}
-use Rattle.std.specs.List.{AllZip, flat_map, list_any}
+use Rattle.std.specs.List.{flat_map, list_any}
 use Rattle.std.specs.Option.{option_map_or}
 use Rattle.dap_types.specs.Limits.{body_limit, most_text}
 use Rattle.dap_types.specs.Model.{Dataset, Tree, kids, sizes, product}
@@ -11,7 +11,7 @@ use Rattle.dap_types.specs.declared.declarations.BaseType.{BaseType}
 use Rattle.dap_types.specs.declared.declarations.BaseType.TheVariants.{Byte, Float64, Text, Url}
 use Rattle.dap_types.specs.declared.slabs.Slab.{Slab}
 use Rattle.dap_types.specs.declared.values.Value.{Value}
-use Rattle.dap_model.specs.Cutting.{Nested, array_tree, counted, cut, cut_nested, flatten, pick, IsWithin}
+use Rattle.dap_model.specs.Cutting.{Nested, array_tree, counted, cut, cut_nested, flatten, pick, AreWithin}
 use Rattle.dap_model.specs.Filter.{Marks, Keeps, SuitsAll, MarksAllWhole, all_leaves_everywhere, constrained, constrained_trees}
 use Rattle.dap_model.specs.Fits.{FitsArray, FitsAll, values_in}
 use Rattle.dap_model.specs.Grammar.{DdsOf, HasWords, StandsFor, dataset_slots}
@@ -42,7 +42,7 @@ WholeStays = (marks : Marks) (d : Dataset) (ts : List Tree) → IsWellFormed d �
 
 -- a cut array has as many elements as the product of its counts
 abbrev pub CutHasCounts : Type 0
-CutHasCounts = (a : ArrayDecl) (slabs : List Slab) (t : Tree) → AllZip IsWithin slabs (sizes a) → FitsArray a.base (sizes a) t →
+CutHasCounts = (a : ArrayDecl) (slabs : List Slab) (t : Tree) → AreWithin slabs (sizes a) → FitsArray a.base (sizes a) t →
     length (values_in (cut slabs t)) ≡ product (sizes (counted slabs a))
 
 -- the values of a cut array in order are those that its hyperslabs pick, dimension by dimension
@@ -68,9 +68,11 @@ is_number base = true
 abbrev pub IsNumber : BaseType → Type 0
 IsNumber base = T (is_number base)
 
--- the bytes of an element in an array of numbers
+-- the bytes of an element in an array of numbers; 1 for a text
 abbrev pub element_width : BaseType → ℕ
 element_width Byte = 1
+element_width Text = 1
+element_width Url = 1
 element_width Float64 = 8
 element_width base = 4
 

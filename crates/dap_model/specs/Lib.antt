@@ -4,6 +4,7 @@ pub mod Dds
 pub mod Filter
 pub mod Fits
 pub mod Grammar
+pub mod Indexing
 pub mod Plain
 pub mod Raw
 pub mod Received

@@ -18,6 +18,7 @@ use Rattle.dap_server.specs.declared.served.Served.{Served}
 use Rattle.dap_server.specs.declared.turn.Answered.{Answered}
 use Rattle.dap_server.specs.declared.turn.Answered.TheVariants as answered
 use Rattle.dap_server.specs.inner.Serving.{Answers, PutsLast, PutsRefusal, Serves, ServesFrom, Stand, known, next_of, request_in}
+use Rattle.dap_server.proofs.Choices.{where_true}
 
 pub appends-known : (told : Told) (a b : Option (List ℕ)) (xs : List ℕ) → Appends a b xs → Appends (known told a) b xs
 appends-known None a b xs p = tt
@@ -32,10 +33,6 @@ same-request n h tree ends is e =
     ∙ ap (λ t. made tree.method t h.minor ends) is.target
     ∙ ap (λ k. made tree.method tree.target k ends) is.minor
     ∙ ap (λ b. made tree.method tree.target tree.minor b) (e ∙ ap (λ b. b || (n + 1 == 1000)) is.ends)
-
-where-true : (b : Bool) (P Q : Type 0) → b ≡ true → P → MatchBool b P Q
-where-true true P Q is p = p
-where-true false P Q is p = cc is
 
 -- ---- nothing was answered
 
@@ -103,8 +100,8 @@ one-turn n before told kept kept' taken l l' a b ended tree (answered.Whole stat
       consumes,
       subst (Appends (known told a.written) b.written) (sym (append-nil (text ++ []) ∙ append-nil text)) appends,
       record {
-        turns = (kept', (first, may), where-true (is_last (request (n + 1) tree) answer) _ _ (sym last) (refl, refl));
-        ends = where-true (is_last (request (n + 1) tree) answer) _ _ (sym last) tt;
+        turns = (kept', (first, may), where_true (is_last (request (n + 1) tree) answer) _ _ (sym last) (refl, refl));
+        ends = where_true (is_last (request (n + 1) tree) answer) _ _ (sym last) tt;
         counted = omega arith;
         status = is;
       },

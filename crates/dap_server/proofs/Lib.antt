@@ -1,4 +1,5 @@
 pub mod Accepted
+pub mod Choices
 pub mod OneAnswer
 pub mod Targets
 pub mod Fronts
@@ -19,3 +20,5 @@ pub mod Fronting
 pub mod Requesting
 pub mod Answered
 pub mod Connecting
+pub mod Rooms
+pub mod Through

@@ -20,12 +20,13 @@ use Rattle.dap_server.specs.Connections.{IsPart, LooksForFile, MayAnswer, MayAsk
 use Rattle.dap_server.specs.Costs.{IsCost, asks_shelf, most_first}
 use Rattle.dap_server.specs.Files.{Files, MayHave}
 use Rattle.dap_server.specs.Prepared.{MayGive}
-use Rattle.dap_server.specs.Replies.{IsAnswered, Request, error_head, error_object, head_of, is_head, is_last, reply_of, status_of, wants_memory}
-use Rattle.dap_server.specs.Results.{AnswersAsked, Results, Text, asked, text_of}
+use Rattle.dap_server.specs.Replies.{IsAnswered, Request, error_head, head_of, is_head, is_last, reply_of, status_of, wants_memory}
+use Rattle.dap_server.specs.Results.{AnswersAsked, Results, Text, asked, error_object, text_of}
 use Rattle.dap_server.specs.Steps.{found_or}
 use Rattle.dap_server.specs.declared.turn.Answered.{Answered}
 use Rattle.dap_server.specs.declared.turn.Answered.TheVariants as answered
 use Rattle.dap_server.specs.inner.Serving.{Answers, AnswersWith, Costs, PutsCause, PutsReply, PutsText, PutsValues, SaysWhole, Stand, broken, data_front, known, request_in}
+use Rattle.dap_server.proofs.Choices.{where_true, where_false}
 use Rattle.dap_server.proofs.Ends.{appends-known}
 
 -- ---- texts that stand whole
@@ -121,29 +122,21 @@ reply-known told q answer old new (answered.Whole status last) (s, l, appends) =
 reply-known told q answer old new answered.Broken (part, is, appends) = (part, is, appends-known told old new part appends)
 reply-known told q answer old new answered.WriteFault (part, is, appends) = (part, is, appends-known told old new part appends)
 
-match-false : (b : Bool) (P Q : Type 0) → b ≡ false → Q → MatchBool b P Q
-match-false true P Q is q = cc is
-match-false false P Q is q = q
-
-match-true : (b : Bool) (P Q : Type 0) → b ≡ true → P → MatchBool b P Q
-match-true true P Q is p = p
-match-true false P Q is p = cc is
-
 pub gives : (told : Told) (q : Request) (a : Asked) (answer : Result Text Cause) → is_other q.method ≡ false → target_of q.target ≡ Some a → MayGive told a answer → MayAnswer told q answer
 gives told q a answer served is (files, may, answers) =
-    inl (files, may, match-false (is_other q.method) _ (Results q.target files answer) served (inl (a, sym (ap (λ o. found_or o BadTarget) is), answers)))
+    inl (files, may, where_false (is_other q.method) _ (Results q.target files answer) served (inl (a, sym (ap (λ o. found_or o BadTarget) is), answers)))
 
 some-files : (told : Told) → (files : Files) × MayHave told files
 some-files None = ((λ name. None), tt)
 some-files (Some files) = (files, refl)
 
 pub bad-method : (told : Told) (q : Request) → is_other q.method ≡ true → MayAnswer told q (Err BadMethod)
-bad-method told q is = let (files, may) = some-files told in inl (files, may, match-true (is_other q.method) _ (Results q.target files (Err BadMethod)) is refl)
+bad-method told q is = let (files, may) = some-files told in inl (files, may, where_true (is_other q.method) _ (Results q.target files (Err BadMethod)) is refl)
 
 pub bad-target : (told : Told) (q : Request) → is_other q.method ≡ false → target_of q.target ≡ None → MayAnswer told q (Err BadTarget)
 bad-target told q served is =
     let (files, may) = some-files told in
-    inl (files, may, match-false (is_other q.method) _ (Results q.target files (Err BadTarget)) served (inr (BadTarget, sym (ap (λ o. found_or o BadTarget) is), refl)))
+    inl (files, may, where_false (is_other q.method) _ (Results q.target files (Err BadTarget)) served (inr (BadTarget, sym (ap (λ o. found_or o BadTarget) is), refl)))
 
 pub failed : (told : Told) (q : Request) (a : Asked) → is_other q.method ≡ false → target_of q.target ≡ Some a → IsTrue (asks_shelf a) → MayAnswer told q (Err ReadFailed)
 failed told q a served is asks = inr (inl (refl, served, subst LooksForFile (sym is) asks))

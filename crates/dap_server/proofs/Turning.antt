@@ -11,6 +11,7 @@ use Rattle.dap_server.specs.Replies.{Turn, replies, reply_of, request}
 use Rattle.dap_server.specs.declared.served.Ending.{Ending}
 use Rattle.dap_server.specs.declared.served.Served.{Served}
 use Rattle.dap_server.specs.inner.Serving.{GoesOn, ServesFrom, Stand, known}
+use Rattle.dap_server.proofs.Choices.{where_false}
 
 pub known-nil : (told : Told) (a : Option (List ℕ)) → Appends (known told a) a []
 known-nil None a = tt
@@ -29,10 +30,6 @@ pub request-stays : (input rest more : List ℕ) (head : RequestHead) → FirstR
 request-stays input rest more head first =
     ((ReadsRequest-append input head rest more first.0.0, first.0.1), omega (arith, first.1, length-append input more, length-append rest more))
 
-where-false : (b : Bool) (P Q : Type 0) → b ≡ false → Q → MatchBool b P Q
-where-false true P Q is q = cc is
-where-false false P Q is q = q
-
 -- one more turn in front of those that are served
 pub turn-before : (n before : ℕ) (told : Told) (kept kept' taken taken' : List ℕ) (t : Turn) (ended : Bool) (c : Connection) (served : Served) (status : ℕ)
     → FirstRequest (kept ++ taken) t.head kept' → Rattle.dap_server.specs.Connections.MayAnswer told (request (n + 1) t.head) t.answer
@@ -45,7 +42,7 @@ turn-before n before told kept kept' taken taken' t ended c served status first 
     let count : n + 1 + 1 + length c.turns ≡ n + 1 + length (t ∷ c.turns) = omega arith in
     let same : ends_after (is_last_turn (n + 1) t) (n + 1 + 1) c.turns ≡ ends_after false (n + 1 + 1) c.turns = ap (λ b. ends_after b (n + 1 + 1) c.turns) goes in
     record {
-      turns = (kept' ++ taken', (later, may), where-false (is_last_turn (n + 1) t) _ _ goes s.turns);
+      turns = (kept' ++ taken', (later, may), where_false (is_last_turn (n + 1) t) _ _ goes s.turns);
       ends = rw same (subst (λ k. MatchBool (ends_after false (n + 1 + 1) c.turns) (IsClosed served.ending c.behind) (Stops told k c.left ended served.ending c.behind)) count s.ends);
       counted = omega (arith, s.counted);
       status = rw (sym is) s.status;

@@ -19,6 +19,7 @@ use Rattle.dap_server.specs.Whole.{AnswersAll, EndsBehind, IsRefused}
 use Rattle.dap_server.specs.declared.served.Ending.{Ending}
 use Rattle.dap_server.specs.declared.served.Ending.TheVariants.{Closed, Gone, ReadFault, WriteFault, Broken}
 use Rattle.dap_server.specs.declared.served.Served.{Served}
+use Rattle.dap_server.proofs.Choices.{where_true, where_false}
 use Rattle.dap_server.proofs.Turning.{request-stays}
 
 -- ---- bytes that hold no request, with more behind them
@@ -89,14 +90,6 @@ answered-so files q answer (inl (other, is, answers)) none calm = subst (λ f. I
 answered-so files q answer (inr (inl (is, served, asks))) none calm = cc (none, ap Rattle.dap_server.specs.Connections.has_failed is)
 answered-so files q answer (inr (inr is)) none calm = cc (calm, ap wants is)
 
-where-true : (b : Bool) (P Q : Type 0) → b ≡ true → P → MatchBool b P Q
-where-true true P Q is p = p
-where-true false P Q is p = cc is
-
-where-false : (b : Bool) (P Q : Type 0) → b ≡ false → Q → MatchBool b P Q
-where-false true P Q is q = cc is
-where-false false P Q is q = q
-
 of-true : (b : Bool) (P Q : Type 0) → b ≡ true → MatchBool b P Q → P
 of-true true P Q is p = p
 of-true false P Q is p = cc is
@@ -123,7 +116,7 @@ last-one files k bytes rest more t before first may last none calm =
     let quiet : wants t.answer ≡ false = no-wants t.answer (calm last) in
     let ends : ends_connection k t.head ≡ true = sym (or-no (ends_connection k t.head) (wants t.answer) quiet) ∙ last in (
       (answered-so files (request k t.head) t.answer may none quiet, tt),
-      λ _. (rest ++ more, request-stays bytes rest more t.head first, where-true (ends_connection k t.head) _ _ ends (refl, refl)),
+      λ _. (rest ++ more, request-stays bytes rest more t.head first, where_true (ends_connection k t.head) _ _ ends (refl, refl)),
     )
 
 pub all-turns : (files : Files) (k : ℕ) (bytes left more : List ℕ) (turns : List Turn) (before : ℕ) → AreTurns (Some files) k bytes turns left
@@ -141,7 +134,7 @@ all-turns files k bytes left more (t ∷ turns) before (rest, (first, may), behi
       let ends : ends_connection k t.head ≡ false = no-left (ends_connection k t.head) (wants t.answer) goes in
       let quiet : wants t.answer ≡ false = no-right (ends_connection k t.head) (wants t.answer) goes in (
         (answered-so files (request k t.head) t.answer may (omega (arith, none)) quiet, answered),
-        λ has. (rest ++ more, request-stays bytes rest more t.head first, where-false (ends_connection k t.head) _ _ ends (requests (λ e. has (same ∙ e)))),
+        λ has. (rest ++ more, request-stays bytes rest more t.head first, where_false (ends_connection k t.head) _ _ ends (requests (λ e. has (same ∙ e)))),
       )
 ]
 
@@ -160,7 +153,7 @@ closed-whole files taken more c served turns none ends empty is calm =
       tail = [];
       replies = record { turns = c.turns; behind = c.left ++ more; requests = requests (λ open_end. absurd (true≢false (sym ends ∙ open_end))); answered = answered; are_these = refl };
       gained_is = ap (λ b. replies 1 c.turns ++ Rattle.dap_server.specs.Connections.behind_text b) empty;
-      ends = where-true (ends_after false 1 c.turns) _ _ ends (refl, is);
+      ends = where_true (ends_after false 1 c.turns) _ _ ends (refl, is);
     }
 
 open-whole : (files : Files) (taken more : List ℕ) (c : Connection) (served : Served) → AreTurns (Some files) 1 taken c.turns c.left → failed_turns c.turns ≡ 0 → ends_after false 1 c.turns ≡ false
@@ -172,7 +165,7 @@ open-whole files taken more c served turns none goes has ends =
       tail = Rattle.dap_server.specs.Connections.behind_text c.behind;
       replies = record { turns = c.turns; behind = c.left ++ more; requests = requests (λ _. has); answered = answered; are_these = refl };
       gained_is = refl;
-      ends = where-false (ends_after false 1 c.turns) _ _ goes ends;
+      ends = where_false (ends_after false 1 c.turns) _ _ goes ends;
     }
 
 -- how it may have ended where no count rose

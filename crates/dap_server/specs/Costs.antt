@@ -1,6 +1,7 @@
 -- What answering a target may ask of a shelf (this project's).
 use Rattle.std.specs.Prelude.{◌≡◌, ℕ, Bool, true, false, ◌&&◌, List, ◌++◌, length, min, codes, is_some, Option, Some, None}
 use Rattle.std.specs.Option.{option_map_or}
+use Rattle.dap_types.specs.Limits.{most_header, most_table}
 use Rattle.dap_outside.specs.Files.{Told}
 use Rattle.dap_model.specs.Dds.{dds}
 use Rattle.dap_model.specs.Filter.{Marks, constrained}
@@ -30,8 +31,8 @@ asks_shelf a = is_of_file a.kind && is_some (form_of a.name)
 
 -- the most that is read of a file before its answer: the front of a netCDF file, or a whole table
 abbrev pub most_of_form : Option Form → ℕ
-most_of_form (Some netcdf) = 1048576
-most_of_form (Some table) = 67108864
+most_of_form (Some netcdf) = most_header
+most_of_form (Some table) = most_table
 most_of_form None = 0
 
 -- of the file of a name: each byte once, where the files are told

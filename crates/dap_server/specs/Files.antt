@@ -2,6 +2,7 @@
 -- none (netCDF classic format; RFC 4180). The end of its name says how it is read (this project's).
 use Rattle.std.specs.Prelude.{◌≡◌, ℕ, ⊤, Bool, ◌&&◌, List, length, take, nat_eq, nat_lt, if◌then◌else◌, codes, Option, Some, None, Result, Ok, Err}
 use Rattle.std.specs.List.{ends_with}
+use Rattle.dap_types.specs.Limits.{most_header}
 use Rattle.dap_types.specs.Model.{Dataset, Tree}
 use Rattle.dap_outside.specs.Files.{Told}
 use Rattle.das_text.specs.Model.{Attributes}
@@ -61,7 +62,7 @@ table_stored t = record { dataset = table_dataset t; trees = table_trees t; attr
 
 -- the bytes in which a header has to end
 abbrev pub front : List ℕ → List ℕ
-front bytes = take 1048576 bytes
+front bytes = take most_header bytes
 
 -- the cause for which the first bytes of a file are no header. Want of memory is none
 abbrev pub header_cause : HeaderRefusal → Option FileCause

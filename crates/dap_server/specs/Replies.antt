@@ -4,8 +4,7 @@
 use Rattle.std.specs.Prelude.{◌≡◌, ℕ, ◌+◌, ⊤, Bool, true, false, ◌||◌, List, [], ◌∷◌, ◌++◌, length, map, if◌then◌else◌, codes, MatchBool, Option, Some, None, Result, Ok, Err}
 use Rattle.std.specs.Str.{bytes_eq}
 use Rattle.httparse.specs.Grammar.{RequestHead}
-use Rattle.dap_errors.specs.Causes.{error_code, http_status, message_text}
-use Rattle.dap_errors.specs.Printed.{error_text}
+use Rattle.dap_errors.specs.Causes.{http_status}
 use Rattle.dap_errors.specs.declared.cause.Cause.{Cause}
 use Rattle.dap_errors.specs.declared.cause.Cause.TheVariants.{BadMethod, OutOfMemory}
 use Rattle.dap_http.specs.Frames.{framed}
@@ -14,7 +13,7 @@ use Rattle.dap_http.specs.Texts.{description_of, head_text, is_chunked}
 use Rattle.dap_http.specs.declared.kind.Kind.{Kind}
 use Rattle.dap_http.specs.declared.kind.Kind.TheVariants.{Dds, Das, Dods, Ver}
 use Rattle.dap_server.specs.Files.{Files}
-use Rattle.dap_server.specs.Results.{Results, Text}
+use Rattle.dap_server.specs.Results.{Results, Text, error_object}
 
 -- what a request says, and whether it ends its connection
 pub record Request : Type 0 where
@@ -43,9 +42,6 @@ is_data Ver = false
 
 abbrev pub stated_length : Text → Option ℕ
 stated_length t = if is_data t.kind then None else Some (length t.text)
-
-abbrev pub error_object : Cause → List ℕ
-error_object cause = error_text (error_code cause) (message_text cause)
 
 -- behind a want of memory the connection ends
 abbrev pub wants_memory : Cause → Bool

@@ -5,6 +5,7 @@
 use Rattle.std.specs.Prelude.{◌≡◌, ℕ, List, length, nat_lt, if◌then◌else◌, Option, option_map, Result, Ok, Err}
 use Rattle.std.specs.Option.{option_and_then}
 use Rattle.viable.specs.Prefix.{is_byte, IsFault}
+use Rattle.dap_types.specs.Limits.{most_text}
 use Rattle.dap_types.specs.Model.{Dataset, Tree}
 use Rattle.dap_model.specs.Body.{body, too_large}
 use Rattle.dap_model.specs.Dds.{dds}
@@ -73,7 +74,7 @@ text_of kind text = record { kind = kind; text = text }
 
 -- a DDS may not be too long, and a data response may have no leaf with too many elements either
 abbrev pub dds_text : Dataset → Result Text Cause
-dds_text d = if nat_lt 16777216 (length (dds d)) then Err (TooLarge 0) else Ok (text_of Dds (dds d))
+dds_text d = if nat_lt most_text (length (dds d)) then Err (TooLarge 0) else Ok (text_of Dds (dds d))
 
 abbrev pub dods_text : Left → Result Text Cause
 dods_text left = unless (option_map (λ leaf. TooLarge leaf) (too_large left.dataset)) (text_of Dods (body left.dataset left.trees))

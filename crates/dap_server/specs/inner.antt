@@ -2,3 +2,4 @@ pub mod Opening
 pub mod Marking
 pub mod Preparing
 pub mod Serving
+pub mod Roomed

@@ -2,7 +2,6 @@
 
 ghost use Rattle.std.specs.Prelude.{◌≡◌, ◌≢◌, ◌≤◌, ◌+◌, ◌⊎◌, ℕ, List, Bool, Some, IsSome, Ok, Err, false, ◌||◌};
 ghost use Rattle.dap_outside.specs.Causes.{Rose};
-ghost use Rattle.dap_http.specs.Frames.{framed};
 ghost use Rattle.dap_http.specs.Requests.{is_other};
 ghost use Rattle.dap_http.specs.Targets.{target_of};
 ghost use Rattle.xdr_encode.specs.Bodies.{FitsFile, cost_in, text_in};
@@ -10,21 +9,22 @@ ghost use Rattle.dap_server.specs.Costs.{IsCost};
 ghost use Rattle.dap_server.specs.Prepared.{MayGive, asked_of};
 ghost use Rattle.dap_server.specs.Replies.{is_head, wants_memory};
 ghost use Rattle.dap_server.specs.Results.{text_of};
-ghost use Rattle.dap_server.specs.inner.Serving.{Answers, AnswersWith, Costs, PutsCause, PutsReply, PutsValues, SaysWhole, answered_by, data_front, request_in};
+ghost use Rattle.dap_server.specs.inner.Serving.{Answers, AnswersWith, Costs, PutsCause, PutsReply, data_front, request_in};
 
-use crate::framed::put_framed;
 use crate::prepared::Prepared;
 use crate::preparing::prepare;
-use crate::put::{put_reply, put_whole};
+use crate::put::put_reply;
 use crate::reply::{data_head, error_reply, text_reply};
 use crate::turn::Answered;
+use crate::values::put_values;
+use crate::way::Way;
 use dap_errors::{Cause, status};
-use dap_http::{Framer, Head, Kind, Target, TargetRefusal, memory_reply};
+use dap_http::{Head, Kind, Target, TargetRefusal, memory_reply};
 use dap_outside::{Shelf, Sink};
 use dap_types::{Bytes, Memory};
 use std::alloc::Global;
 use std::thread::Threads;
-use xdr_encode::{Body, Streamed};
+use xdr_encode::Body;
 
 /// Whether the head of the reply is all that is wanted.
 fn is_head(head: &Head) -> bool
@@ -100,55 +100,6 @@ fn put_text<O: Sink>(
     }
 }
 
-/// What became of a reply whose values went out so.
-fn answered_by(streamed: Streamed, ends: bool) -> Answered
-    ensures { result ≡ answered_by ends streamed }
-{
-    match streamed {
-        Streamed::Sent => Answered::Whole {
-            status: 200,
-            last: ends,
-        },
-        Streamed::ShelfFault => Answered::Broken,
-        Streamed::WriteFault => Answered::WriteFault,
-    }
-}
-
-/// Puts a head and the values that follow it, as they are read from their file. Takes no memory.
-fn put_values<R: Threads + Sync, S: Shelf, O: Sink>(
-    rt: &R,
-    shelf: &mut S,
-    file: &mut S::File,
-    body: &mut Body,
-    framer: Framer,
-    out: &mut O,
-    front: &[u8],
-    ends: bool,
-    workers: u32,
-) -> Answered
-    requires fits { FitsFile body.old (S.size_of shelf.old file.old) }
-    requires some { 1 ≤ workers }
-    requires many { workers ≤ 64 }
-    ensures puts { (bytes : List ℕ) → S.content shelf.old file.old ≡ Some bytes →
-        PutsValues front.now (framed framer.chunked (text_in body.old bytes)) ends (O.written out.old) (O.written out.new) result }
-    ensures last { SaysWhole ends result }
-    ensures shelf_later { S.faults shelf.old ≤ S.faults shelf.new }
-    ensures shelf_fault { result ≡ Answered.Broken → Rose (S.faults shelf.old) (S.faults shelf.new) }
-    ensures files { S.files shelf.new ≡ S.files shelf.old }
-    ensures asked { S.asked shelf.new ≤ S.asked shelf.old + cost_in body.old }
-    ensures fault { result ≡ Answered.WriteFault → Rose (O.put_faults out.old) (O.put_faults out.new) }
-    ensures later { O.put_faults out.old ≤ O.put_faults out.new }
-    ensures beside { O.beside_writing out.new ≡ O.beside_writing out.old }
-{
-    match put_whole(out, front) {
-        Ok(()) => answered_by(
-            put_framed(rt, shelf, file, body, framer, out, workers),
-            ends,
-        ),
-        Err(_) => Answered::WriteFault,
-    }
-}
-
 /// Answers a request of a data response with the values that are read from its file.
 fn answer_values<R: Threads + Sync, S: Shelf, O: Sink>(
     alloc: Global,
@@ -184,8 +135,8 @@ fn answer_values<R: Threads + Sync, S: Shelf, O: Sink>(
     ensures beside { O.beside_writing out.new ≡ O.beside_writing out.old }
 {
     let chunked = Kind::Dods.is_chunked(head.minor);
-    match Framer::new(alloc, chunked) {
-        Ok(framer) => put_values(rt, shelf, file, body, framer, out, front, ends, workers),
+    match Way::new(alloc, chunked) {
+        Ok(way) => put_values(rt, shelf, file, body, way, out, front, ends, workers),
         Err(Memory) => put_memory(out, head, ends),
     }
 }

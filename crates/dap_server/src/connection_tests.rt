@@ -65,6 +65,10 @@ const DAS: &[u8] =
 const DDS_HEAD: &[u8] =
     b"HTTP/1.1 200 OK\r\nXDODS-Server: dap2/1.0\r\nXDAP: 2.0\r\nContent-Description: dods_dds\r\nContent-Type: text/plain\r\nContent-Length: 96\r\nConnection: close\r\n\r\n";
 
+/// The DDS of a file without variables.
+const LONG_DDS: &[u8] =
+    b"HTTP/1.1 200 OK\r\nXDODS-Server: dap2/1.0\r\nXDAP: 2.0\r\nContent-Description: dods_dds\r\nContent-Type: text/plain\r\nContent-Length: 21\r\n\r\nDataset {\n} long.nc;\n";
+
 const GET_BUOYS: &[u8] = b"GET /buoys.csv.dods HTTP/1.1\r\nHost: x\r\n\r\n";
 
 const TWO: &[u8] =
@@ -130,13 +134,33 @@ fn joined(alloc: Global, parts: &[&[u8]]) -> Result<Vec<u8>, Memory> {
     Ok(bytes)
 }
 
+/// A file without variables whose header has 70,048 bytes: one attribute of 70,000 characters.
+fn long_header(alloc: Global) -> Result<List<MemFile>, Memory> {
+    let mut behind = Vec::new(alloc);
+    behind.resize(70_000, b'x')?;
+    behind.resize(70_008, 0)?;
+    let words = [0x43444601, 0, 0, 0, 12, 1, 1, 0x61000000, 2, 70_000];
+    let mut files = List::new(alloc);
+    files.push(file(alloc, "long.nc", &words, &behind)?)?;
+    Ok(files)
+}
+
 fn served_over<R: Threads + AllocGlobal + Sync>(
     rt: &R,
     input: &[u8],
     faults: Faults<'_>,
 ) -> Result<Done, Memory> {
+    served_from(rt, files(rt.alloc())?, input, faults)
+}
+
+fn served_from<R: Threads + AllocGlobal + Sync>(
+    rt: &R,
+    files: List<MemFile>,
+    input: &[u8],
+    faults: Faults<'_>,
+) -> Result<Done, Memory> {
     let alloc = rt.alloc();
-    let mut shelf = MemShelf::new(files(alloc)?, numbers(alloc, faults.shelf)?);
+    let mut shelf = MemShelf::new(files, numbers(alloc, faults.shelf)?);
     let takes = numbers(alloc, faults.takes)?;
     let puts = numbers(alloc, faults.puts)?;
     let piece = faults.piece.max(1);
@@ -362,6 +386,24 @@ fn a_failed_read_before_the_head_is_told(rt: HostRuntime) -> Result<(), Fail> {
     Ok(())
 }
 
+/// A header of more than 64 KiB takes one read more, and no third.
+#[test]
+fn a_long_header_is_read_on(rt: HostRuntime) -> Result<(), Fail> {
+    let alloc = rt.alloc();
+    for (call, written, status) in [(3u64, READ_FAILED, 500), (4, LONG_DDS, 200)] {
+        let fails: [u64; 1] = [call];
+        let faults = Faults {
+            shelf: &fails,
+            ..SURE
+        };
+        let input = b"GET /long.nc.dds HTTP/1.1\r\n\r\n";
+        let found = served_from(&rt, long_header(alloc)?, input, faults)?;
+        assert_eq!(rt; found.written.bytes(), written);
+        assert_eq!(rt; found.served, as_served(1, status, Ending::Gone));
+    }
+    Ok(())
+}
+
 /// A file that cannot be read further behind the head of its reply.
 #[test]
 fn a_failed_read_behind_the_head_breaks_off(rt: HostRuntime) -> Result<(), Fail> {
@@ -460,10 +502,10 @@ fn each_put_may_fail(rt: HostRuntime) -> Result<(), Fail> {
     Ok(())
 }
 
-/// A reply of stated length goes out in one put.
+/// A reply that fits in the room goes out in one put, its head with it.
 #[test]
 fn small_replies_are_one_put(rt: HostRuntime) -> Result<(), Fail> {
-    for (input, replies) in [(GET_VERSION, 1), (TWO, 2)] {
+    for (input, replies) in [(GET_VERSION, 1), (TWO, 2), (GET_BUOYS, 1)] {
         let fails: [u64; 1] = [u64::from(replies) + 1];
         let faults = Faults {
             puts: &fails,

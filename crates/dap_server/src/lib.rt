@@ -9,6 +9,7 @@ mod connection;
 #[cfg(test)]
 mod connection_tests;
 mod framed;
+mod front;
 mod kinds;
 pub mod laws;
 mod marked;
@@ -17,10 +18,14 @@ mod prepared;
 mod preparing;
 mod put;
 mod reply;
+mod room;
+mod roomed;
 mod served;
 mod stop;
 mod texts;
 mod turn;
+mod values;
+mod way;
 
 pub use connection::serve_connection;
 pub use prepared::Prepared;

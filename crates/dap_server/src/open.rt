@@ -1,26 +1,24 @@
 //! Opening the stored file of a name.
 
-ghost use Rattle.std.specs.Prelude.{◌≡◌, ◌+◌, ◌<◌, ◌≤◌, ◌^◌, ℕ, List, length, min, IfOk, IfErr, IsTrue, Ok, Err, Some, None, is_some, option_map};
+ghost use Rattle.std.specs.Prelude.{◌≡◌, ◌+◌, ◌<◌, ◌≤◌, ℕ, List, length, min, IfOk, IfErr, IsTrue, Ok, Err, Some, None, is_some, option_map};
 ghost use Rattle.csv_source.specs.Causes.{table_of};
 ghost use Rattle.dap_outside.specs.Causes.{Rose};
 ghost use Rattle.dap_outside.specs.Files.{Finds, HasSize, Reads};
-ghost use Rattle.netcdf_source.specs.Header.{IsHeader};
 ghost use Rattle.dap_server.specs.Costs.{most_first, most_of_form};
-ghost use Rattle.dap_server.specs.Files.{Files, IsHeaderCause, IsStored, IsTableCause, MayHave, form_of, front, has_end, header_cause, netcdf, table, table_cause};
+ghost use Rattle.dap_server.specs.Files.{Files, IsStored, IsTableCause, MayHave, form_of, has_end, table, table_cause};
 ghost use Rattle.dap_server.specs.Results.{Opens};
 ghost use Rattle.dap_server.specs.inner.Opening.{IsMissing, IsRead, Lies, OpenedAs, WhereFault, WhereRefused, form_view, stop_of};
 
-use crate::stop::Stop;
+use crate::front::open_netcdf;
+use crate::stop::{Stop, damaged};
 use csv_source::{Table, TableRefusal, read_table};
 use dap_errors::{Cause, FileCause};
 use dap_outside::Shelf;
 use file_names::last_segment;
-use netcdf_source::{Header, HeaderRefusal, read_header};
+use netcdf_source::Header;
 use std::alloc::Global;
 
-/// The most bytes of a netCDF header, and of a table.
-const HEADER_MAX: u64 = 1_048_576;
-
+/// The most bytes of a table.
 const TABLE_MAX: u64 = 67_108_864;
 
 /// A stored file.
@@ -63,28 +61,6 @@ fn read_front<S: Shelf>(
     }
 }
 
-/// The stop for a cause of a file.
-fn damaged(cause: FileCause) -> Stop
-    ensures { result ≡ Stop.Refused (Cause.Damaged cause) }
-{
-    Stop::Refused(Cause::Damaged(cause))
-}
-
-/// The stop for which there is no header.
-fn header_stop(refusal: HeaderRefusal) -> Stop
-    ensures { result ≡ stop_of (header_cause refusal) }
-{
-    match refusal {
-        HeaderRefusal::NotCdf => damaged(FileCause::NotCdf),
-        HeaderRefusal::Streaming => damaged(FileCause::Streaming),
-        HeaderRefusal::BadField { place } => damaged(FileCause::BadField { place }),
-        HeaderRefusal::HeaderCut => damaged(FileCause::HeaderCut),
-        HeaderRefusal::HeaderTooLong => damaged(FileCause::HeaderTooLong),
-        HeaderRefusal::PastEnd { var } => damaged(FileCause::PastEnd { var }),
-        HeaderRefusal::Memory => Stop::Memory,
-    }
-}
-
 /// The stop for which there is no table.
 fn table_stop(refusal: TableRefusal) -> Stop
     ensures { result ≡ stop_of (table_cause refusal) }
@@ -98,37 +74,6 @@ fn table_stop(refusal: TableRefusal) -> Stop
         TableRefusal::BadCell { row, column } => damaged(FileCause::BadCell { row, column }),
         TableRefusal::Memory => Stop::Memory,
     }
-}
-
-/// The header of a file of this size that begins with these bytes.
-fn header_of(alloc: Global, front: &[u8], size: u64) -> Result<Header, Stop>
-    requires front { length front.now ≡ min size 1048576 }
-    requires size { size < 2 ^ 63 }
-    ensures header { IfOk result (λ h. IsHeader h.contents front.now size × (h.length ≡ size)) }
-    ensures refused { IfErr result (WhereRefused (λ cause. IsHeaderCause front.now size cause)) }
-    ensures no_fault { IfErr result (WhereFault ⊥) }
-{
-    match read_header(alloc, front, size) {
-        Ok(header) => Ok(header),
-        Err(refusal) => Err(header_stop(refusal)),
-    }
-}
-
-/// The header of a netCDF file.
-fn open_netcdf<S: Shelf>(alloc: Global, shelf: &mut S, file: &mut S::File) -> Result<Header, Stop>
-    ensures header { IfOk result (λ h. (bytes : List ℕ) × IsRead (S.content shelf.old file.old) bytes × (S.size_of shelf.old file.old ≡ length bytes) × IsHeader h.contents (front bytes) (length bytes) × (h.length ≡ length bytes)) }
-    ensures refused { IfErr result (WhereRefused (λ cause. (bytes : List ℕ) × IsRead (S.content shelf.old file.old) bytes × IsHeaderCause (front bytes) (length bytes) cause)) }
-    ensures why { IfErr result (WhereFault (Rose (S.faults shelf.old) (S.faults shelf.new))) }
-    ensures later { S.faults shelf.old ≤ S.faults shelf.new }
-    ensures files { S.files shelf.new ≡ S.files shelf.old }
-    ensures content { S.content shelf.new file.new ≡ S.content shelf.old file.old }
-    ensures sizes { S.size_of shelf.new file.new ≡ S.size_of shelf.old file.old }
-    ensures told { HasSize (S.content shelf.old file.old) (S.size_of shelf.old file.old) }
-    ensures asked { S.asked shelf.new ≤ S.asked shelf.old + min (S.size_of shelf.old file.old) 1048576 }
-{
-    let size = shelf.size(file);
-    let front = read_front(alloc, shelf, file, size.min(HEADER_MAX))?;
-    header_of(alloc, front.as_slice(), size)
 }
 
 /// The table of a file of these bytes.

@@ -2,7 +2,8 @@
 
 ghost use Rattle.std.specs.Prelude.{◌≡◌, ◌++◌, [], Some, None, true, false, length, if◌then◌else◌, IfOk};
 ghost use Rattle.dap_http.specs.Texts.{description_of, head_text};
-ghost use Rattle.dap_server.specs.Replies.{error_head, error_object};
+ghost use Rattle.dap_server.specs.Replies.{error_head};
+ghost use Rattle.dap_server.specs.Results.{error_object};
 
 use dap_errors::{Cause, code, message, print_error, status};
 use dap_http::{Kind, reply_head};

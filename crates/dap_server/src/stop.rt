@@ -1,4 +1,6 @@
-use dap_errors::Cause;
+ghost use Rattle.std.specs.Prelude.{◌≡◌};
+
+use dap_errors::{Cause, FileCause};
 use dap_types::Memory as WantOfMemory;
 use std::alloc::AllocError;
 
@@ -33,4 +35,11 @@ impl From<AllocError> for Stop {
     fn from(_: AllocError) -> Stop {
         Stop::Memory
     }
+}
+
+/// The stop for a cause of a file.
+pub fn damaged(cause: FileCause) -> Stop
+    ensures { result ≡ Stop.Refused (Cause.Damaged cause) }
+{
+    Stop::Refused(Cause::Damaged(cause))
 }

@@ -51,3 +51,24 @@ most_columns = 1024
 -- the bytes of a netCDF file's header
 abbrev pub most_header : ℕ
 most_header = 1048576
+
+-- ---- HTTP
+
+-- the bytes of a request's head
+abbrev pub most_request_head : ℕ
+most_request_head = 16384
+
+-- the bytes of a request's target
+abbrev pub most_target : ℕ
+most_target = 16384
+
+-- the bytes of the heads of a reply, interim ones with them
+abbrev pub most_reply_heads : ℕ
+most_reply_heads = 65536
+
+-- the bytes of the line of a chunk, and of all trailers
+abbrev pub most_chunk_line : ℕ
+most_chunk_line = 1024
+
+abbrev pub most_trailers : ℕ
+most_trailers = 16384

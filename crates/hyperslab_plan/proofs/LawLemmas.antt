@@ -1,55 +1,26 @@
 -- The laws of places, plans and batches.
 use Rattle.std.proofs.Common.{◌≡◌, ℕ, zero, suc, ◌+◌, ◌-◌, ◌*◌, ◌^◌, ◌<◌, ◌≤◌, List, [], ◌∷◌, ◌++◌, length, map, take, drop, get_or, refl, sym, ap, subst, ◌∙◌, arith, zero-add, add-zero}
-use Rattle.std.proofs.lemmas.List.Elements.{All-get_or, All-cons, All-nil}
+use Rattle.std.proofs.lemmas.List.Elements.{All-cons, All-nil}
 use Rattle.std.proofs.lemmas.List.FromFn.{get_or-map-range_with_len, length-map-range_with_len}
-use Rattle.std.specs.List.{All, AllZip, range_with_len, flat_map}
+use Rattle.std.specs.List.{All, range_with_len}
 use Rattle.dap_types.specs.declared.slabs.Slab.{Slab}
-use Rattle.dap_types.specs.declared.values.Value.{Value}
-use Rattle.dap_model.specs.Cutting.{Nested, array_tree, cut, indexes, IsWithin}
-use Rattle.dap_model.specs.Fits.{values_in}
-use Rattle.hyperslab_plan.specs.Batches.{IsBatch, InTurn, Fetched}
-use Rattle.hyperslab_plan.specs.Laws.{IsNested, IsDistance, CutsArePlaced, PlansCut, PickedAreWithin, PickedAreBelow, LastIsHighest, PlansAreWithin, BatchHolds, BatchIsFetched, TurnsAreWhole}
-use Rattle.hyperslab_plan.specs.Nested.{AreWithin, placed, cut_values}
+use Rattle.dap_model.specs.Cutting.{AreWithin, indexes}
+use Rattle.dap_model.specs.Indexing.{AreIndexes, distance}
+use Rattle.hyperslab_plan.specs.Laws.{CutsArePlaced, PlansCut, PickedAreWithin, PickedAreBelow, LastIsHighest, PlansAreWithin, BatchHolds, BatchIsFetched, TurnsAreWhole}
+use Rattle.hyperslab_plan.specs.Nested.{cut_values}
 use Rattle.hyperslab_plan.specs.Picked.{picked}
 use Rattle.hyperslab_plan.specs.Plans.{places, place_of, place_in, size_in, total_of}
-use Rattle.hyperslab_plan.specs.declared.batch.Batch.{Batch}
-use Rattle.hyperslab_plan.specs.declared.plan.Plan.{Plan}
-use Rattle.hyperslab_plan.proofs.CutLemmas.{cut_values-picked, length-within}
+use Rattle.hyperslab_plan.proofs.CutLemmas.{cut_values-picked}
 use Rattle.hyperslab_plan.proofs.FetchedLemmas.{fetched}
 use Rattle.hyperslab_plan.proofs.NestedLemmas.{All-whole}
 use Rattle.hyperslab_plan.proofs.PickedLemmas.{picked-below_reach}
 use Rattle.hyperslab_plan.proofs.RunLemmas.{held, place-in_raw}
 
--- ---- what stands at the indexes stands at the places
-
-same-maps : {X Y : Type 0} (f g : X → Y) → ((x : X) → f x ≡ g x) → (xs : List X) → map f xs ≡ map g xs
-same-maps f g same [] = refl
-same-maps f g same (x ∷ xs) = ap (λ y. y ∷ map f xs) (same x) ∙ ap (λ ys. g x ∷ ys) (same-maps f g same xs)
-
-by-steps : (nested : (sizes : List ℕ) → (List ℕ → Value) → Nested Value (length sizes)) (distance : List ℕ → List ℕ → ℕ) → IsNested nested → IsDistance distance →
-    (sizes steps : List ℕ) (at : List ℕ → Value) (value : ℕ → Value) (base : ℕ) → length steps ≡ length sizes → ((is : List ℕ) → at is ≡ value (base + distance steps is)) →
-    nested sizes at ≡ placed Value value sizes steps base
-unfolding placed
-by-steps nested distance n d [] [] at value base e h = n.value at ∙ h [] ∙ ap value (ap (λ x. base + x) d.none ∙ add-zero base)
-by-steps nested distance n d [] (s ∷ steps) at value base e h = absurd (omega arith)
-by-steps nested distance n d (m ∷ sizes) [] at value base e h = absurd (omega arith)
-by-steps nested distance n d (m ∷ sizes) (s ∷ steps) at value base e h =
-    n.row m sizes at
-    ∙ same-maps (λ i. nested sizes (λ is. at (i ∷ is))) (λ i. placed Value value sizes steps (base + i * s))
-    (λ i. by-steps nested distance n d sizes steps (λ is. at (i ∷ is)) value (base + i * s) (omega arith)
-    (λ is. h (i ∷ is) ∙ ap value (ap (λ x. base + x) (d.more s steps i is) ∙ further base (i * s) (distance steps is))))
-    (range_with_len 0 m)
-  where
-    further : (x y z : ℕ) → x + (y + z) ≡ x + y + z
-    further x y z = omega arith
+-- ---- what is cut stands at the places
 
 pub cuts_are_placed : CutsArePlaced
 unfolding cut_values
-cuts_are_placed nested distance n d slabs sizes steps base value within e =
-    let deep : length sizes ≡ length slabs = length-within slabs sizes within in
-    ap (λ vs. values_in (cut slabs (array_tree (length sizes) vs)))
-    (by-steps nested distance n d sizes steps (λ is. value (base + distance steps is)) value base (sym e ∙ sym deep) (λ is. refl))
-    ∙ cut_values-picked slabs value sizes steps base within e
+cuts_are_placed slabs sizes steps base value within e = cut_values-picked slabs value sizes steps base within e
 
 map-twice : {X Y : Type 0} (g : X → Y) (f : ℕ → X) (ks : List ℕ) → map g (map f ks) ≡ map (λ k. g (f k)) ks
 map-twice g f [] = refl
@@ -57,37 +28,36 @@ map-twice g f (k ∷ ks) = ap (λ ys. g (f k) ∷ ys) (map-twice g f ks)
 
 pub plans_cut : PlansCut
 unfolding places
-plans_cut nested distance n d plan slabs sizes steps base value within e at =
-    cuts_are_placed nested distance n d slabs sizes steps base value within e ∙ sym (ap (map value) at) ∙ map-twice value (place_of plan) (range_with_len 0 (total_of plan))
+plans_cut plan slabs sizes steps base value within e at =
+    cuts_are_placed slabs sizes steps base value within e ∙ sym (ap (map value) at) ∙ map-twice value (place_of plan) (range_with_len 0 (total_of plan))
 
 -- ---- picked elements stand where elements of the array do
 
-picked-each : (distance : List ℕ → List ℕ → ℕ) → IsDistance distance → (P : ℕ → Type 0) (slabs : List Slab) (sizes steps : List ℕ) (base : ℕ) → AllZip IsWithin slabs sizes → length slabs ≡ length steps →
-    ((is : List ℕ) → AllZip (λ n i. i < n) sizes is → P (base + distance steps is)) → All P (picked slabs steps base)
-unfolding picked
-picked-each distance d P [] [] [] base w e each = All-cons P base [] (subst P (ap (λ x. base + x) d.none ∙ add-zero base) (each [] tt)) (All-nil P)
-picked-each distance d P [] [] (t ∷ ts) base w e each = absurd (omega arith)
-picked-each distance d P [] (n ∷ ns) ts base w e each = absurd w
-picked-each distance d P (s ∷ ss) [] ts base w e each = absurd w
-picked-each distance d P (s ∷ ss) (n ∷ ns) [] base w e each = absurd (omega arith)
-picked-each distance d P (s ∷ ss) (n ∷ ns) (t ∷ ts) base w e each =
+picked-each : (P : ℕ → Type 0) (slabs : List Slab) (sizes steps : List ℕ) (base : ℕ) → AreWithin slabs sizes → length slabs ≡ length steps →
+    ((is : List ℕ) → AreIndexes sizes is → P (base + distance steps is)) → All P (picked slabs steps base)
+unfolding picked AreIndexes
+picked-each P [] [] [] base w e each = All-cons P base [] (subst P (add-zero base) (each [] tt)) (All-nil P)
+picked-each P [] [] (t ∷ ts) base w e each = absurd (omega arith)
+picked-each P [] (n ∷ ns) ts base w e each = absurd w
+picked-each P (s ∷ ss) [] ts base w e each = absurd w
+picked-each P (s ∷ ss) (n ∷ ns) [] base w e each = absurd (omega arith)
+picked-each P (s ∷ ss) (n ∷ ns) (t ∷ ts) base w e each =
     All-whole P (λ i. picked ss ts (base + i * t)) (indexes s)
-    (λ k z lt. inner (picked-each distance d P ss ns ts (base + get_or (indexes s) k z * t) w.1 (omega arith)) (get_or (indexes s) k z) refl (w.0.1 k z lt))
+    (λ k z lt. inner (picked-each P ss ns ts (base + get_or (indexes s) k z * t) w.1 (omega arith)) (get_or (indexes s) k z) refl (w.0.1 k z lt))
   where
     further : (x y z : ℕ) → x + (y + z) ≡ x + y + z
     further x y z = omega arith
 
-    inner : {A : Type 0} {b : ℕ} → (((is : List ℕ) → AllZip (λ n i. i < n) ns is → P (b + distance ts is)) → A) → (i : ℕ) → b ≡ base + i * t → i < n → A
+    inner : {A : Type 0} {b : ℕ} → (((is : List ℕ) → AreIndexes ns is → P (b + distance ts is)) → A) → (i : ℕ) → b ≡ base + i * t → i < n → A
     inner deeper i is_base below =
-        deeper (λ is there. subst P (ap (λ x. base + x) (d.more t ts i is) ∙ further base (i * t) (distance ts is) ∙ ap (λ x. x + distance ts is) (sym is_base)) (each (i ∷ is) (below, there)))
+        deeper (λ is there. subst P (further base (i * t) (distance ts is) ∙ ap (λ x. x + distance ts is) (sym is_base)) (each (i ∷ is) (below, there)))
 
 pub picked_are_within : PickedAreWithin
-unfolding AreWithin
-picked_are_within distance d slabs sizes steps base size file_len within e each = picked-each distance d (λ place. place + size ≤ file_len) slabs sizes steps base within e each
+picked_are_within slabs sizes steps base size file_len within e each = picked-each (λ place. place + size ≤ file_len) slabs sizes steps base within e each
 
 pub picked_are_below : PickedAreBelow
-picked_are_below distance d slabs sizes steps base size file_len within e each some short =
-    let all = picked_are_within distance d slabs sizes steps base size file_len within e each in
+picked_are_below slabs sizes steps base size file_len within e each some short =
+    let all = picked_are_within slabs sizes steps base size file_len within e each in
     λ k z lt. below (get_or (picked slabs steps base) k z) (all k z lt)
   where
     below : (place : ℕ) → place + size ≤ file_len → place < 2 ^ 63
@@ -98,8 +68,8 @@ last_is_highest slabs sizes steps base most within e below = picked-below_reach 
 
 pub plans_are_within : PlansAreWithin
 unfolding places
-plans_are_within distance d plan slabs sizes steps base size file_len within e each at p lt =
-    let all : All (λ place. place + size ≤ file_len) (places plan) = subst (All (λ place. place + size ≤ file_len)) (sym at) (picked_are_within distance d slabs sizes steps base size file_len within e each) in
+plans_are_within plan slabs sizes steps base size file_len within e each at p lt =
+    let all : All (λ place. place + size ≤ file_len) (places plan) = subst (All (λ place. place + size ≤ file_len)) (sym at) (picked_are_within slabs sizes steps base size file_len within e each) in
     subst (λ place. place + size ≤ file_len) (get_or-map-range_with_len (place_of plan) 0 (total_of plan) p p 0 lt (zero-add p))
     (all p 0 (subst (λ n. p < n) (sym (length-map-range_with_len (place_of plan) 0 (total_of plan))) lt))
 

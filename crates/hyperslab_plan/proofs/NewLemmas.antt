@@ -6,10 +6,11 @@ use Rattle.std.specs.List.{All}
 use Rattle.std.specs.Prelude.{slice_get}
 use Rattle.dap_types.specs.declared.slabs.Slab.{Slab}
 use Rattle.dap_types.specs.declared.values.Value.{Value}
+use Rattle.dap_model.specs.Cutting.{AreWithin}
 use Rattle.hyperslab_plan.specs.Along.{starts, rel}
 use Rattle.hyperslab_plan.specs.Axes.{rows_of}
 use Rattle.hyperslab_plan.specs.Batches.{spent}
-use Rattle.hyperslab_plan.specs.Nested.{AreWithin, cut_places, cut_values}
+use Rattle.hyperslab_plan.specs.Nested.{cut_places, cut_values}
 use Rattle.hyperslab_plan.specs.Picked.{picked, count_of, cost_of}
 use Rattle.hyperslab_plan.specs.Plans.{place_of, places}
 use Rattle.hyperslab_plan.specs.Shapes.{elements, rel_at, row_cost}

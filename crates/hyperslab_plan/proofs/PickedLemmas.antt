@@ -5,11 +5,10 @@ use Rattle.std.proofs.lemmas.List.{drop_more}
 use Rattle.std.proofs.lemmas.List.Elements.{All-get_or, All-from_get_or}
 use Rattle.std.proofs.lemmas.List.Folds.{flat_map-map}
 use Rattle.std.proofs.lemmas.List.FromFn.{get_or-map-range_with_len, length-map-range_with_len}
-use Rattle.std.specs.List.{flat_map, range_with_len, AllZip, All}
-use Rattle.dap_model.specs.Cutting.{indexes, IsWithin}
+use Rattle.std.specs.List.{flat_map, range_with_len, All}
+use Rattle.dap_model.specs.Cutting.{indexes, AreWithin, IsWithin}
 use Rattle.dap_types.specs.declared.slabs.Slab.{Slab}
 use Rattle.hyperslab_plan.specs.Along.{starts, rel, Spaced}
-use Rattle.hyperslab_plan.specs.Nested.{AreWithin}
 use Rattle.hyperslab_plan.specs.Picked.{picked, count_of, reach, highest, cost_of}
 use Rattle.hyperslab_plan.proofs.BlockLemmas.{length-blocks, get_or-blocks}
 use Prim.Native.Nat.{zero, suc}
@@ -168,7 +167,7 @@ picked-below slabs steps base most e h =
     let inside : p < count_of slabs = omega (arith, length-picked slabs steps base e) in
     subst (λ x. x < most) (sym (get_or-picked slabs steps base p e inside)) (omega (arith, rel-highest slabs steps p e inside)))
 
-highest-reach : (slabs : List Slab) (sizes steps : List ℕ) → AllZip IsWithin slabs sizes → length slabs ≡ length steps → 0 < count_of slabs → highest slabs steps ≤ reach sizes steps
+highest-reach : (slabs : List Slab) (sizes steps : List ℕ) → AreWithin slabs sizes → length slabs ≡ length steps → 0 < count_of slabs → highest slabs steps ≤ reach sizes steps
 highest-reach [] [] ts w e h = omega arith
 highest-reach [] (n ∷ ns) ts w e h = absurd w
 highest-reach (s ∷ ss) [] ts w e h = absurd w
@@ -182,7 +181,6 @@ highest-reach (s ∷ ss) (n ∷ ns) (t ∷ ts) w e h =
 
 -- where the last element of an array stands below some place, each picked one does
 pub picked-below_reach : (slabs : List Slab) (sizes steps : List ℕ) (base most : ℕ) → AreWithin slabs sizes → length slabs ≡ length steps → base + reach sizes steps < most → All (λ a. a < most) (picked slabs steps base)
-unfolding AreWithin
 picked-below_reach slabs sizes steps base most w e h =
     All-from_get_or (λ a. a < most) (picked slabs steps base) 0
     (λ p below.

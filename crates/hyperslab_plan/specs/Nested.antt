@@ -1,26 +1,15 @@
--- What stands at the places of an array's elements, as nested lists and as the values of a variable,
--- and what hyperslabs cut out of it (DAP 2.0, constraint expressions).
-use Rattle.std.specs.Prelude.{ℕ, ◌+◌, ◌*◌, List, [], ◌∷◌, map, length}
-use Rattle.std.specs.List.{range_with_len, AllZip}
+-- The places of an array's elements as a nested list, and what hyperslabs cut out of them and of the values
+-- that stand there (DAP 2.0, constraint expressions).
+use Rattle.std.specs.Prelude.{ℕ, ◌+◌, List, length}
 use Rattle.dap_types.specs.declared.slabs.Slab.{Slab}
 use Rattle.dap_types.specs.declared.values.Value.{Value}
-use Rattle.dap_model.specs.Cutting.{Nested, flatten, cut_nested, array_tree, cut, IsWithin}
+use Rattle.dap_model.specs.Cutting.{Nested, flatten, cut_nested, cut}
 use Rattle.dap_model.specs.Fits.{values_in}
+use Rattle.dap_model.specs.Indexing.{by_index, distance, indexed_tree}
 
--- what stands at the places of the elements of an array of these sizes: each index adds its
--- dimension's step
-unfoldable pub placed : (X : Type 0) → (ℕ → X) → (sizes : List ℕ) → List ℕ → ℕ → Nested X (length sizes)
-placed X at [] steps base = at base
-placed X at (n ∷ sizes) [] base = []
-placed X at (n ∷ sizes) (step ∷ steps) base = map (λ i. placed X at sizes steps (base + i * step)) (range_with_len 0 n)
-
--- the places themselves
+-- where the element at each index of an array of these sizes stands
 abbrev pub places_of : (sizes : List ℕ) → List ℕ → ℕ → Nested ℕ (length sizes)
-places_of sizes steps base = placed ℕ (λ place. place) sizes steps base
-
--- there is a hyperslab for each dimension, and every index that it picks is one of the dimension
-unfoldable pub AreWithin : List Slab → List ℕ → Type 0
-AreWithin slabs sizes = AllZip IsWithin slabs sizes
+places_of sizes steps base = by_index ℕ sizes (λ indexes. base + distance steps indexes)
 
 -- the places of the cut array, in row-major order
 unfoldable pub cut_places : List Slab → List ℕ → List ℕ → ℕ → List ℕ
@@ -28,4 +17,4 @@ cut_places slabs sizes steps base = flatten ℕ (length sizes) (cut_nested ℕ (
 
 -- the values of the cut array in row-major order, where `value` stands at each place
 unfoldable pub cut_values : List Slab → (ℕ → Value) → List ℕ → List ℕ → ℕ → List Value
-cut_values slabs value sizes steps base = values_in (cut slabs (array_tree (length sizes) (placed Value value sizes steps base)))
+cut_values slabs value sizes steps base = values_in (cut slabs (indexed_tree sizes (λ indexes. value (base + distance steps indexes))))

@@ -2,7 +2,7 @@
 -- packs the bytes of an array).
 use Rattle.std.specs.Prelude.{ℕ, ◌≡◌, IsTrue}
 use Rattle.dap_types.specs.declared.declarations.BaseType.{BaseType}
-use Rattle.dap_types.specs.declared.declarations.BaseType.TheVariants.{Byte, Int16, UInt16, Float64, Text, Url}
+use Rattle.dap_types.specs.declared.declarations.BaseType.TheVariants.{Byte, Int16, UInt16, Float64}
 use Rattle.dap_model.specs.Laws.{element_width}
 pub use Rattle.dap_model.specs.Laws.{is_number}
 
@@ -20,6 +20,4 @@ HasSize base size = IsTrue (is_number base) → size ≡ number_size base
 
 -- the bytes of an element's XDR form in an array of numbers; 1 for a text
 abbrev pub width_of : BaseType → ℕ
-width_of Text = 1
-width_of Url = 1
 width_of base = element_width base

@@ -51,7 +51,8 @@ impl Plan {
     ghost use Rattle.std.specs.Prelude.{List, Some, map, take, drop};
     ghost use Rattle.dap_types.specs.declared.values.Value.{Value};
     ghost use Rattle.hyperslab_plan.specs.declared.batch.Batch.{Batch};
-    ghost use Rattle.hyperslab_plan.specs.Nested.{AreWithin, cut_places, cut_values};
+    ghost use Rattle.dap_model.specs.Cutting.{AreWithin};
+    ghost use Rattle.hyperslab_plan.specs.Nested.{cut_places, cut_values};
     ghost use Rattle.hyperslab_plan.specs.Picked.{picked, count_of, cost_of};
     ghost use Rattle.hyperslab_plan.specs.Numbers.{is_number, number_size};
     ghost use Rattle.hyperslab_plan.specs.Plans.{places, place_of, total_of, base_in, size_in, width_in, per_row_in, jump_in, place_in, IsDense};

@@ -16,13 +16,14 @@ use Rattle.dap_types.specs.declared.declarations.BaseType.{BaseType}
 use Rattle.dap_types.specs.declared.values.Value.{Value}
 use Rattle.dap_model.specs.Cutting.{Nested, array_tree}
 use Rattle.dap_model.specs.Fits.{IsOf, FitsArray, Fits, FitsAll}
+use Rattle.dap_model.specs.Indexing.{AreIndexes, by_index, indexed_tree}
 use Rattle.netcdf_source.specs.Header.{IsHeader}
 use Rattle.netcdf_source.specs.Laws.{ValuesFit, ValuesArePlaced}
-use Rattle.netcdf_source.specs.Layouts.{slice, element_sizes, element_at, AreWithin, layout_of, place, IsPlaced}
+use Rattle.netcdf_source.specs.Layouts.{slice, element_sizes, element_at, layout_of, place, IsPlaced}
 use Rattle.netcdf_source.specs.Mapping.{base_of, size_at, is_char_type, is_long, element_dimensions, element_size, is_offered, is_empty, is_grid, column_of, array_of, maps_of, member_of, leaf_in, leaves_from, leaf_variable}
 use Rattle.netcdf_source.specs.Parts.{past_end}
 use Rattle.netcdf_source.specs.inner.Sound.{IsSound}
-use Rattle.netcdf_source.specs.Values.{without_zeros, value_of, by_index, indexed_tree, tree_of, map_variables, member_tree}
+use Rattle.netcdf_source.specs.Values.{without_zeros, value_of, tree_of, map_variables, member_tree}
 use Rattle.netcdf_source.specs.declared.external_type.ExternalType.{ExternalType}
 use Rattle.netcdf_source.specs.declared.external_type.ExternalType.TheVariants.{Byte, Char, Short, Int, Float, Double, UByte, UShort, UInt, Int64, UInt64}
 use Rattle.netcdf_source.specs.declared.header.Contents.{Contents}
@@ -64,8 +65,8 @@ all_mapped : {X Y : Type 0} (P : Y → Type 0) (g : X → Y) (f : ℕ → X) (a 
 all_mapped P g f a zero h = All-nil P
 all_mapped P g f a (suc n) h = All-cons P (g (f a)) (map g (map f (range_with_len (a + 1) n))) (h a (omega arith)) (all_mapped P g f (a + 1) n (λ i lt. h i (omega arith)))
 
-indexed_fits : (base : BaseType) (ns : List ℕ) (at : List ℕ → Value) → ((is : List ℕ) → AreWithin ns is → IsOf base (at is)) → FitsArray base ns (indexed_tree ns at)
-unfolding by_index AreWithin
+indexed_fits : (base : BaseType) (ns : List ℕ) (at : List ℕ → Value) → ((is : List ℕ) → AreIndexes ns is → IsOf base (at is)) → FitsArray base ns (indexed_tree ns at)
+unfolding by_index AreIndexes
 indexed_fits base [] at h = h [] tt
 indexed_fits base (n ∷ ns) at h =
     let inner : ℕ → Nested Value (length ns) = λ i. by_index Value ns (λ is. at (i ∷ is)) in
@@ -81,8 +82,8 @@ map_same f g a zero h = refl
 map_same f g a (suc n) h =
     ap (λ x. x ∷ map f (range_with_len (a + 1) n)) (h a (omega arith)) ∙ ap (λ xs. g a ∷ xs) (map_same f g (a + 1) n (λ i lt. h i (omega arith)))
 
-same_indexed : {X : Type 0} (ns : List ℕ) (at at' : List ℕ → X) → ((is : List ℕ) → AreWithin ns is → at is ≡ at' is) → by_index X ns at ≡ by_index X ns at'
-unfolding by_index AreWithin
+same_indexed : {X : Type 0} (ns : List ℕ) (at at' : List ℕ → X) → ((is : List ℕ) → AreIndexes ns is → at is ≡ at' is) → by_index X ns at ≡ by_index X ns at'
+unfolding by_index AreIndexes
 same_indexed [] at at' h = h [] tt
 same_indexed {X} (n ∷ ns) at at' h =
     map_same (λ i. by_index X ns (λ is. at (i ∷ is))) (λ i. by_index X ns (λ is. at' (i ∷ is))) 0 n
@@ -100,7 +101,7 @@ slice_bytes : (file : List ℕ) (a w : ℕ) → IsBytes file → IsBytes (slice 
 slice_bytes file a w h = bytes-take w (drop a file) (later_bytes (take a file) (drop a file) (subst IsBytes (sym (take-append-drop a file)) h))
 
 element_is : (c : Contents) (file : List ℕ) (v : Variable) → IsBytes file → IsPlaced c (length file) v (layout_of c v) → is_offered c v ≡ true
-    → (indexes : List ℕ) → AreWithin (element_sizes c v) indexes → IsOf (base_of v.external_type) (value_of v.external_type (element_at c file v indexes))
+    → (indexes : List ℕ) → AreIndexes (element_sizes c v) indexes → IsOf (base_of v.external_type) (value_of v.external_type (element_at c file v indexes))
 unfolding IsPlaced
 element_is c file v bytes placed told indexes within =
     let at = place (layout_of c v) indexes in

@@ -9,7 +9,7 @@ use Rattle.netcdf_source.specs.declared.version.Width.{Width}
 use Rattle.netcdf_source.specs.declared.version.Width.TheVariants.{Four}
 use Rattle.netcdf_source.specs.inner.Reading.{◌>>=◌, judged_at, type_at, list_at, new_name_at, next_dimension, next_attribute, ids_at, variable_at, next_variable, contents_at}
 use Rattle.netcdf_source.specs.declared.external_type.ExternalType.{ExternalType}
-use Rattle.netcdf_source.specs.declared.header.Attribute.{Attribute}
+use Rattle.netcdf_source.specs.Attribute.{Attribute}
 use Rattle.netcdf_source.specs.declared.header.Contents.{Contents}
 use Rattle.netcdf_source.specs.declared.header.Dimension.{Dimension}
 use Rattle.netcdf_source.specs.declared.header.Variable.{Variable}

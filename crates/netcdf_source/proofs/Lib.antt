@@ -20,6 +20,7 @@ pub mod WellFormed
 pub mod Members
 pub mod Verdict
 pub mod Times
+pub mod Unread
 pub mod Fitting
 pub mod Shaped
 pub mod Zeros

@@ -8,7 +8,8 @@ use Rattle.std.proofs.Math.Nat.{mul-le-mul_right, mul-div_cancel_left}
 use Rattle.std.proofs.lemmas.Nat.{row_fits}
 use Rattle.dap_types.specs.Model.{product}
 use Rattle.dap_types.specs.declared.slabs.Layout.{Layout}
-use Rattle.netcdf_source.specs.Layouts.{slice, piece, chopped, element_sizes, whole_slice, record_slice, element_at, AreWithin, row_steps, steps_of, layout_of, distance, place, IsPlaced, LeafIsPlaced}
+use Rattle.dap_model.specs.Indexing.{AreIndexes, distance}
+use Rattle.netcdf_source.specs.Layouts.{slice, piece, chopped, element_sizes, whole_slice, record_slice, element_at, row_steps, steps_of, layout_of, place, IsPlaced, LeafIsPlaced}
 use Rattle.netcdf_source.specs.Mapping.{leaf_in, leaves_from, leaf_variable, is_char, has_single_bytes, has_texts, size_at, element_dimensions, element_size}
 use Rattle.netcdf_source.specs.Parts.{length_at, lengths, inner, is_record, begins_with_records, part, record_size, end_of, is_past, past_end}
 use Rattle.netcdf_source.specs.inner.Sound.{InTurn, IsVariable, IsSound}
@@ -32,9 +33,9 @@ length-slice xs a p le = omega (arith, length-take p (drop a xs), length-drop a 
 within_row : (i n m : ℕ) → i < n → i * m + m ≤ n * m
 within_row i n m lt = row_fits i m n m lt (omega arith)
 
-pub chop_is : (ns is bytes : List ℕ) (w : ℕ) → length bytes ≡ product ns * w → AreWithin ns is
+pub chop_is : (ns is bytes : List ℕ) (w : ℕ) → length bytes ≡ product ns * w → AreIndexes ns is
     → (distance (row_steps w ns) is + w ≤ length bytes) × (chopped ns is bytes ≡ slice bytes (distance (row_steps w ns) is) w)
-unfolding AreWithin row_steps chopped
+unfolding AreIndexes row_steps chopped
 chop_is [] [] bytes w len h = (omega (arith, len), sym (take_all w bytes (omega (arith, len))))
 chop_is [] (i ∷ is) bytes w len h = absurd h
 chop_is (n ∷ ns) [] bytes w len h = absurd h
@@ -144,8 +145,8 @@ record_fits k records step begin size file_len lt le = omega (arith, le, mul-le-
 
 record_placed : (c : Contents) (file_len : ℕ) (v : Variable) → ArePositive (inner (lengths c.dimensions (element_dimensions c v)))
     → is_record c.dimensions v.dimensions ≡ true → is_past c file_len v ≡ false → IsPlaced c file_len v (layout_of c v)
-unfolding IsPlaced element_at steps_of end_of AreWithin
-record_placed c file_len v positive is_rec past = λ file is len within. go file is len (subst (λ ns. AreWithin ns is) sizes within)
+unfolding IsPlaced element_at steps_of end_of AreIndexes
+record_placed c file_len v positive is_rec past = λ file is len within. go file is len (subst (λ ns. AreIndexes ns is) sizes within)
   where
     ids : List ℕ
     ids = element_dimensions c v
@@ -171,7 +172,7 @@ record_placed c file_len v positive is_rec past = λ file is len within. go file
     steps : steps_of c v ≡ step ∷ row_steps w ns
     steps = rw of_records refl
 
-    go : (file is : List ℕ) → length file ≡ file_len → AreWithin (c.records ∷ ns) is
+    go : (file is : List ℕ) → length file ≡ file_len → AreIndexes (c.records ∷ ns) is
         → (place (layout_of c v) is + w ≤ file_len) × (slice file (place (layout_of c v) is) w ≡ element_at c file v is)
     go file [] len h = absurd h
     go file (k ∷ is) len h =

@@ -9,7 +9,7 @@ use Rattle.netcdf_source.specs.Versions.{bytes_in, number_width}
 use Rattle.netcdf_source.specs.declared.version.Version.{Version}
 use Rattle.netcdf_source.specs.declared.version.Width.{Width}
 use Rattle.netcdf_source.specs.declared.version.Width.TheVariants.{Four}
-use Rattle.netcdf_source.specs.declared.header.Attribute.{Attribute}
+use Rattle.netcdf_source.specs.Attribute.{Attribute}
 use Rattle.netcdf_source.specs.declared.header.Dimension.{Dimension}
 use Rattle.netcdf_source.proofs.Ends.{Again, Sound, again_done, again_then, sound_done, sound_then, sound_as}
 use Rattle.netcdf_source.proofs.Singles.{again_single, sound_single, number_reader, type_reader, values_reader}
@@ -46,7 +46,7 @@ dimension_sound width before =
 
 -- ---- attributes
 
-attribute_again : (version : Version) (before : List Attribute) (a : AttributeTree) → Again (attribute_fields version before a) (attribute a) (next_attribute version before)
+pub attribute_again : (version : Version) (before : List Attribute) (a : AttributeTree) → Again (attribute_fields version before a) (attribute a) (next_attribute version before)
 unfolding attribute_fields attribute_at
 attribute_again version before a =
     let width = number_width version in
@@ -68,7 +68,7 @@ attribute_of p = record { name = p.0; number = p.1.0; count = p.1.1.0; values = 
 abbrev attribute_rest : Version → ℕ → ℕ × (List ℕ × Unit {0}) → List Judged
 attribute_rest version number p = (judged (number_width version) no_fault p.0 ∷ []) ++ ((fine (run (p.0 * size_of (external_type number)) p.1.0) ∷ []) ++ [])
 
-attribute_sound : (version : Version) (before : List Attribute) → Sound (attribute_fields version before) attribute (next_attribute version before)
+pub attribute_sound : (version : Version) (before : List Attribute) → Sound (attribute_fields version before) attribute (next_attribute version before)
 unfolding attribute_fields attribute_at
 attribute_sound version before =
     let width = number_width version in

@@ -18,7 +18,7 @@ use Rattle.netcdf_source.specs.Types.{size_of}
 use Rattle.netcdf_source.specs.Values.{value_of}
 use Rattle.netcdf_source.specs.declared.external_type.ExternalType.{ExternalType}
 use Rattle.netcdf_source.specs.declared.external_type.ExternalType.TheVariants.{Byte, Char, Short, Int, Float, Double, UByte, UShort, UInt, Int64, UInt64}
-use Rattle.netcdf_source.specs.declared.header.Attribute.{Attribute}
+use Rattle.netcdf_source.specs.Attribute.{Attribute}
 use Rattle.netcdf_source.specs.declared.header.Contents.{Contents}
 use Rattle.netcdf_source.specs.declared.header.Variable.{Variable}
 

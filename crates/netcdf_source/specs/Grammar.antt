@@ -18,7 +18,7 @@ use Rattle.netcdf_source.specs.Types.{size_of, type_numbered, type_of}
 use Rattle.netcdf_source.specs.Versions.{number_width, place_width, bytes_in, largest, all_ones}
 use Rattle.netcdf_source.specs.declared.external_type.ExternalType.{ExternalType}
 use Rattle.netcdf_source.specs.declared.external_type.ExternalType.TheVariants.{Byte}
-use Rattle.netcdf_source.specs.declared.header.Attribute.{Attribute}
+use Rattle.netcdf_source.specs.Attribute.{Attribute}
 use Rattle.netcdf_source.specs.declared.header.Contents.{Contents}
 use Rattle.netcdf_source.specs.declared.header.Dimension.{Dimension}
 use Rattle.netcdf_source.specs.declared.header.Variable.{Variable}

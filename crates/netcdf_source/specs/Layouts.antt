@@ -4,6 +4,7 @@ use Rattle.std.specs.Prelude.{◌≡◌, ℕ, ◌+◌, ◌*◌, ◌/◌, ◌^◌
 use Rattle.std.specs.List.{AllByRecursion}
 use Rattle.dap_types.specs.Model.{product}
 use Rattle.dap_types.specs.declared.slabs.Layout.{Layout}
+use Rattle.dap_model.specs.Indexing.{AreIndexes, distance}
 use Rattle.netcdf_source.specs.Mapping.{is_char, leaf_variable, size_at, element_dimensions, element_size}
 use Rattle.netcdf_source.specs.Parts.{lengths, inner, is_record, part, record_size}
 use Rattle.netcdf_source.specs.Types.{size_of}
@@ -48,13 +49,6 @@ element_at c file v indexes =
     if is_record c.dimensions v.dimensions then in_record c file v indexes
     else chopped (element_sizes c v) indexes (whole_slice c file v)
 
--- one index below each size
-unfoldable pub AreWithin : List ℕ → List ℕ → Type 0
-AreWithin [] [] = Unit {0}
-AreWithin [] (i ∷ is) = ⊥
-AreWithin (n ∷ ns) [] = ⊥
-AreWithin (n ∷ ns) (i ∷ is) = (i < n) × AreWithin ns is
-
 -- ---- steps
 
 -- from one index to the next: the bytes of all elements behind that index
@@ -71,11 +65,6 @@ steps_of c v =
 abbrev pub layout_of : Contents → Variable → Layout
 layout_of c v = record { base = v.begin; steps = steps_of c v; size = element_size c v }
 
-abbrev pub distance : List ℕ → List ℕ → ℕ
-distance [] is = 0
-distance (s ∷ ss) [] = 0
-distance (s ∷ ss) (i ∷ is) = i * s + distance ss is
-
 -- where the element at these indexes begins
 abbrev pub place : Layout → List ℕ → ℕ
 place l indexes = l.base + distance l.steps indexes
@@ -83,7 +72,7 @@ place l indexes = l.base + distance l.steps indexes
 -- Every element that is placed stands in the file, and is that piece of it.
 unfoldable pub IsPlaced : Contents → ℕ → Variable → Layout → Type 0
 IsPlaced c file_len v l =
-    (file indexes : List ℕ) → length file ≡ file_len → AreWithin (element_sizes c v) indexes
+    (file indexes : List ℕ) → length file ≡ file_len → AreIndexes (element_sizes c v) indexes
     → (place l indexes + l.size ≤ file_len) × (slice file (place l indexes) l.size ≡ element_at c file v indexes)
 
 -- the bytes of all elements behind each index are few enough

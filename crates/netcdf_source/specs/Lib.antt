@@ -1,5 +1,6 @@
 pub mod Versions
 pub mod Types
+pub mod Attribute
 pub mod Fields
 pub mod Parts
 pub mod Grammar

@@ -4,12 +4,11 @@
 use Rattle.std.specs.Prelude.{ℕ, ◌&&◌, List, [], ◌∷◌, length, map, filter, filter_map, ◌==◌, if◌then◌else◌}
 use Rattle.std.specs.Fmt.{decimal, signed_decimal}
 use Rattle.std.specs.Int.{w64, from_be_bytes, cast_signed}
-use Rattle.std.specs.List.{range_with_len}
 use Rattle.dap_types.specs.Model.{Tree, many, trees_of}
 use Rattle.dap_types.specs.declared.slabs.Layout.{Layout}
 use Rattle.dap_types.specs.declared.values.Value.{Value}
 use Rattle.dap_types.specs.declared.values.Value.TheVariants.{Text}
-use Rattle.dap_model.specs.Cutting.{Nested, array_tree}
+use Rattle.dap_model.specs.Indexing.{indexed_tree}
 use Rattle.dap_model.specs.Raw as raw
 use Rattle.netcdf_source.specs.Layouts.{slice, element_sizes, element_at, place}
 use Rattle.netcdf_source.specs.Mapping.{base_of, is_offered, is_grid, coordinate_variable}
@@ -30,14 +29,6 @@ value_of Char bytes = Text (without_zeros bytes)
 value_of Int64 bytes = Text (signed_decimal (cast_signed w64 (from_be_bytes w64 bytes)))
 value_of UInt64 bytes = Text (decimal (from_be_bytes w64 bytes))
 value_of t bytes = raw.value_of (base_of t) bytes
-
--- what stands at each index of an array of these sizes
-unfoldable pub by_index : (X : Type 0) (sizes : List ℕ) → (List ℕ → X) → Nested X (length sizes)
-by_index X [] at = at []
-by_index X (n ∷ sizes) at = map (λ i. by_index X sizes (λ indexes. at (i ∷ indexes))) (range_with_len 0 n)
-
-abbrev pub indexed_tree : (sizes : List ℕ) → (List ℕ → Value) → Tree
-indexed_tree sizes at = array_tree (length sizes) (by_index Value sizes at)
 
 -- the values of a variable: at each index that of its element
 unfoldable pub tree_of : Contents → List ℕ → Variable → Tree

@@ -3,3 +3,4 @@ pub mod Answering
 pub mod Sound
 pub mod Told
 pub mod Shapes
+pub mod Unread

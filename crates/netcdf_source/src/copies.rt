@@ -2,29 +2,9 @@ ghost use Rattle.std.specs.Prelude.{◌≡◌, ℕ, List, IfOk};
 ghost use Rattle.netcdf_source.specs.Mapping.{with_records};
 
 use crate::header::Contents;
-use crate::{Attribute, Dimension, Shape, Variable};
-use dap_types::{Bytes, List, Memory};
+use crate::{Dimension, Shape, Variable};
+use dap_types::{List, Memory};
 use std::alloc::Global;
-
-fn attribute(alloc: Global, attribute: &Attribute) -> Result<Attribute, Memory>
-    ensures { IfOk result (λ a. a ≡ attribute.now) }
-{
-    Ok(Attribute {
-        name: attribute.name.try_clone()?,
-        external_type: attribute.external_type,
-        values: Bytes::new(alloc, attribute.values.bytes())?,
-    })
-}
-
-fn attributes(alloc: Global, attributes: &[Attribute]) -> Result<List<Attribute>, Memory>
-    ensures { IfOk result (λ list. list ≡ attributes.now) }
-{
-    let mut copies = List::with_capacity(alloc, attributes.len())?;
-    for item in attributes {
-        copies.push(attribute(alloc, item)?)?;
-    }
-    Ok(copies)
-}
 
 fn dimension(dimension: &Dimension) -> Result<Dimension, Memory>
     ensures { IfOk result (λ d. d ≡ dimension.now) }
@@ -61,7 +41,7 @@ fn variable(alloc: Global, variable: &Variable) -> Result<Variable, Memory>
     Ok(Variable {
         name: variable.name.try_clone()?,
         dimensions: shape(alloc, variable.dimensions.items())?,
-        attributes: attributes(alloc, variable.attributes.items())?,
+        attributes: variable.attributes.try_clone(alloc)?,
         external_type: variable.external_type,
         begin: variable.begin,
     })
@@ -84,7 +64,7 @@ pub fn with_records(alloc: Global, contents: &Contents, records: u64) -> Result<
     Ok(Contents {
         records,
         dimensions: dimensions(alloc, contents.dimensions.items())?,
-        attributes: attributes(alloc, contents.attributes.items())?,
+        attributes: contents.attributes.try_clone(alloc)?,
         variables: variables(alloc, contents.variables.items())?,
     })
 }

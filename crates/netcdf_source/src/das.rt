@@ -7,10 +7,12 @@ ghost use Rattle.netcdf_source.specs.Mapping.{is_offered};
 ghost use Rattle.netcdf_source.specs.Types.{size_of};
 ghost use Rattle.netcdf_source.specs.Values.{without_zeros};
 
+use crate::ExternalType;
+use crate::attribute::Attribute;
+use crate::attributes::AttributeList;
 use crate::header::Contents;
-use crate::ids::file_id;
+use crate::ids::{file_id, stored_id};
 use crate::texts::is_offered;
-use crate::{Attribute, ExternalType};
 use dap_types::{BaseType, Bytes, Id, List, Memory};
 use das_text::{Attributes, Entry, Word};
 use std::alloc::Global;
@@ -171,8 +173,8 @@ fn words_of(alloc: Global, external_type: ExternalType, bytes: &[u8]) -> Result<
 fn attribute_of(alloc: Global, attribute: &Attribute) -> Result<das_text::Attribute, Memory>
     ensures { IfOk result (λ a. a ≡ attribute_of attribute.now) }
 {
-    let name = file_id(alloc, &attribute.name)?;
-    let bytes = attribute.values.bytes();
+    let name = stored_id(alloc, attribute.name())?;
+    let bytes = attribute.values();
     if bytes.is_empty() {
         return Ok(das_text::Attribute {
             base: BaseType::Text,
@@ -181,9 +183,9 @@ fn attribute_of(alloc: Global, attribute: &Attribute) -> Result<das_text::Attrib
         });
     }
     Ok(das_text::Attribute {
-        base: value_base(attribute.external_type),
+        base: value_base(attribute.external_type()),
         name,
-        values: words_of(alloc, attribute.external_type, bytes)?,
+        values: words_of(alloc, attribute.external_type(), bytes)?,
     })
 }
 
@@ -194,19 +196,20 @@ fn entry_of(alloc: Global, attribute: &Attribute) -> Result<Entry, Memory>
     Ok(Entry::Attr(attribute_of(alloc, attribute)?))
 }
 
-fn entries_of(alloc: Global, attributes: &[Attribute]) -> Result<List<Entry>, Memory>
+fn entries_of(alloc: Global, attributes: &AttributeList) -> Result<List<Entry>, Memory>
     ensures { IfOk result (λ es. map entry_view es ≡ map entry_of attributes.now) }
 {
     let mut entries = List::new(alloc);
-    for attribute in attributes {
-        entries.push(entry_of(alloc, attribute)?)?;
+    let mut unread = attributes.unread();
+    while let Some(attribute) = unread.next() {
+        entries.push(entry_of(alloc, &attribute)?)?;
     }
     Ok(entries)
 }
 
 /// The container of that name.
 #[tactic(auto, using(das_text::proofs::Views::views))]
-fn container_of(alloc: Global, name: Id, attributes: &[Attribute]) -> Result<Entry, Memory>
+fn container_of(alloc: Global, name: Id, attributes: &AttributeList) -> Result<Entry, Memory>
     ensures { IfOk result (λ e. entry_view e ≡ container_of name attributes.now) }
 {
     Ok(Entry::Container(name, entries_of(alloc, attributes)?))
@@ -220,7 +223,7 @@ fn variable_containers(alloc: Global, contents: &Contents) -> Result<List<Entry>
     for variable in contents.variables.items() {
         if is_offered(contents, variable) {
             let name = file_id(alloc, &variable.name)?;
-            containers.push(container_of(alloc, name, variable.attributes.items())?)?;
+            containers.push(container_of(alloc, name, &variable.attributes)?)?;
         }
     }
     Ok(containers)
@@ -232,6 +235,6 @@ pub fn attributes_of(alloc: Global, contents: &Contents) -> Result<Attributes, M
 {
     let mut containers = variable_containers(alloc, contents)?;
     let name = Id::raw(alloc, b"NC_GLOBAL")?;
-    containers.push(container_of(alloc, name, contents.attributes.items())?)?;
+    containers.push(container_of(alloc, name, &contents.attributes)?)?;
     Ok(Attributes { containers })
 }

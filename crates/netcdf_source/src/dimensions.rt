@@ -2,7 +2,7 @@ ghost use Rattle.std.specs.Prelude.{◌≡◌, ℕ, ◌+◌, ◌≤◌, Bool, �
 ghost use Rattle.dap_types.specs.NameSet.{HasAlso};
 ghost use Rattle.netcdf_source.specs.Grammar.{length_fault, is_record_dimension};
 ghost use Rattle.netcdf_source.specs.Parts.{length_at};
-ghost use Rattle.netcdf_source.specs.inner.Reading.{Gives, new_name_at, judged_at, dimension_at, next_dimension, times, list_at};
+ghost use Rattle.netcdf_source.specs.inner.Reading.{Gives, Reads, new_name_at, judged_at, dimension_at, next_dimension, times, list_at};
 
 use crate::Dimension;
 use crate::names::Names;
@@ -38,8 +38,8 @@ pub fn new_name<'a>(
 
 /// The length of a dimension, behind a record dimension or not.
 #[tactic(auto, unfolding(crate::specs::inner::Reading::judged_at, crate::specs::Grammar::length_fault))]
-fn length(width: Width, has_records: bool, bytes: &[u8]) -> Result<(u64, &[u8]), Stop>
-    ensures { Gives (λ x. (x.0, x.1.now)) result (judged_at width (length_fault width has_records) bytes.now) }
+fn length(width: Width, has_records: bool, bytes: &[u8]) -> Result<(u64, &[u8]), Failure>
+    ensures { Reads (λ x. (x.0, x.1.now)) result (judged_at width (length_fault width has_records) bytes.now) }
 {
     let (number, rest) = number(width, bytes)?;
     if number > width.largest() || number == 0 && has_records {

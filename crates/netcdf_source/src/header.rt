@@ -1,5 +1,6 @@
+use crate::attributes::AttributeList;
 use crate::{ExternalType, Shape};
-use dap_types::{Bytes, Id, List};
+use dap_types::{Id, List};
 
 /// A dimension (netCDF classic format, `dim`).
 #[derive(Debug, Drop)]
@@ -10,22 +11,13 @@ pub struct Dimension {
     pub length: u64,
 }
 
-/// An attribute of a variable or of the file (netCDF classic format, `attr`).
-#[derive(Debug, Drop)]
-pub struct Attribute {
-    pub name: Id,
-    pub external_type: ExternalType,
-    /// The bytes of its values, without padding.
-    pub values: Bytes,
-}
-
 /// A variable (netCDF classic format, `var`).
 #[derive(Debug, Drop)]
 pub struct Variable {
     pub name: Id,
     /// The numbers of its dimensions, from 0, the slowest first.
     pub dimensions: Shape,
-    pub attributes: List<Attribute>,
+    pub attributes: AttributeList,
     pub external_type: ExternalType,
     /// The place of its first byte in the file.
     pub begin: u64,
@@ -37,6 +29,6 @@ pub struct Contents {
     /// The number of records.
     pub records: u64,
     pub dimensions: List<Dimension>,
-    pub attributes: List<Attribute>,
+    pub attributes: AttributeList,
     pub variables: List<Variable>,
 }

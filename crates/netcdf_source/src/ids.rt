@@ -40,6 +40,18 @@ pub fn file_id(alloc: Global, name: &Id) -> Result<Id, Memory>
     }
 }
 
+/// The same of a name where it stands in a header.
+#[tactic(auto, using(crate::proofs::EscapedNames::kept_names))]
+pub fn stored_id(alloc: Global, name: &[u8]) -> Result<Id, Memory>
+    ensures { IfOk result (λ id. id ≡ file_id name.now) }
+{
+    if are_kept(name) {
+        Id::raw(alloc, name)
+    } else {
+        Id::of_file(alloc, name)
+    }
+}
+
 /// The names of some dimensions as those of variables, in order.
 pub fn dimension_ids(alloc: Global, dimensions: &[Dimension]) -> Result<List<Id>, Memory>
     ensures { IfOk result (λ ids. ids ≡ map (λ d. file_id d.name) dimensions.now) }

@@ -3,6 +3,7 @@
 //! the front, by `specs/Grammar`, `specs/Mapping`, `specs/Attributes` and `specs/Layouts`.
 #![tactic(auto)]
 
+mod attribute;
 mod attributes;
 mod coordinates;
 mod copies;
@@ -33,7 +34,7 @@ mod words;
 pub use das::without_zeros;
 use external_type::ExternalType;
 pub use file::Header;
-use header::{Attribute, Dimension, Variable};
+use header::{Dimension, Variable};
 pub use laws::{
     dataset_has_words, dataset_is_well_formed, each_has_verdict, leaves_agree, one_verdict,
     values_are_placed, values_fit, zeros_are_cut,

@@ -1,5 +1,5 @@
 ghost use Rattle.std.specs.Prelude.{◌≡◌};
-ghost use Rattle.netcdf_source.specs.declared.stop.Stop.TheVariants.{Memory as WantOfMemory};
+ghost use Rattle.netcdf_source.specs.declared.stop.Stop.TheVariants.{Failed, Memory as WantOfMemory};
 
 use dap_types::Memory;
 use std::alloc::{AllocError, AllocFailed};
@@ -20,6 +20,14 @@ pub enum Failure {
 pub enum Stop {
     Memory,
     Failed(Failure),
+}
+
+impl From<Failure> for Stop {
+    ghost from_gives = { λ f e. e ≡ Failed f };
+
+    fn from(failure: Failure) -> Stop {
+        Stop::Failed(failure)
+    }
 }
 
 impl From<Memory> for Stop {

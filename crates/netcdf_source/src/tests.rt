@@ -1,7 +1,10 @@
 mod attributes;
 mod climate;
 mod files;
+mod joining;
 mod made;
 mod mapping;
 mod refusals;
 mod seen;
+mod version_five;
+mod widths;

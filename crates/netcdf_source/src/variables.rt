@@ -3,13 +3,13 @@ ghost use Rattle.dap_types.specs.NameSet.{HasAlso};
 ghost use Rattle.netcdf_source.specs.Grammar.{rank_fault, dimension_fault, size_fault, part_fault};
 ghost use Rattle.netcdf_source.specs.Parts.{share};
 ghost use Rattle.netcdf_source.specs.Versions.{number_width};
-ghost use Rattle.netcdf_source.specs.inner.Reading.{Gives, judged_at, next_id, ids_at, variable_at, next_variable, times, list_at};
+ghost use Rattle.netcdf_source.specs.inner.Reading.{Gives, Reads, judged_at, next_id, ids_at, variable_at, next_variable, times, list_at};
 
 use crate::attributes::attributes;
 use crate::dimensions::{length_of, new_name};
 use crate::names::Names;
 use crate::parts::grown;
-use crate::stop::Stop;
+use crate::stop::{Failure, Stop};
 use crate::version::{Version, Width};
 use crate::words::{bad, begin, external_type, head, number};
 use crate::{Dimension, ExternalType, Shape, Variable};
@@ -24,8 +24,8 @@ const RANK_MAX: u64 = 32;
 const LEAST: usize = 32;
 
 #[tactic(auto, unfolding(crate::specs::inner::Reading::judged_at, crate::specs::Grammar::rank_fault))]
-fn rank(width: Width, bytes: &[u8]) -> Result<(u64, &[u8]), Stop>
-    ensures { Gives (λ x. (x.0, x.1.now)) result (judged_at width rank_fault bytes.now) }
+fn rank(width: Width, bytes: &[u8]) -> Result<(u64, &[u8]), Failure>
+    ensures { Reads (λ x. (x.0, x.1.now)) result (judged_at width rank_fault bytes.now) }
 {
     let (number, rest) = number(width, bytes)?;
     if number > RANK_MAX {
@@ -41,8 +41,8 @@ fn dimension<'a>(
     dimensions: &[Dimension],
     is_first: bool,
     bytes: &'a [u8],
-) -> Result<(u64, &'a [u8]), Stop>
-    ensures { Gives (λ x. (x.0, x.1.now)) result (judged_at width (dimension_fault dimensions.now is_first) bytes.now) }
+) -> Result<(u64, &'a [u8]), Failure>
+    ensures { Reads (λ x. (x.0, x.1.now)) result (judged_at width (dimension_fault dimensions.now is_first) bytes.now) }
 {
     let (number, rest) = number(width, bytes)?;
     if number >= dimensions.len() as u64 || !is_first && length_of(dimensions, number) == 0 {
@@ -93,9 +93,9 @@ fn vsize<'a>(
     ids: &[u64],
     external_type: ExternalType,
     bytes: &'a [u8],
-) -> Result<(u64, u64, &'a [u8]), Stop>
+) -> Result<(u64, u64, &'a [u8]), Failure>
     requires { sum ≤ 2 ^ 62 }
-    ensures reading { Gives (λ x. (x.0, x.2.now)) result (judged_at width (size_fault dimensions.now sum ids.now external_type) bytes.now) }
+    ensures reading { Reads (λ x. (x.0, x.2.now)) result (judged_at width (size_fault dimensions.now sum ids.now external_type) bytes.now) }
     ensures sum { IfOk result (λ x. (x.1 ≡ sum + share dimensions.now ids.now external_type) × (x.1 ≤ 2 ^ 62)) }
 {
     let (size, rest) = number(width, bytes)?;

@@ -83,7 +83,7 @@ continues (rows above name columns row ∷ us) own rest front tail fs vs last lo
 
 -- in the words of the model
 finish : (d : Dataset) (bs t : List ℕ) (fields : List Field) (vs : List Want) (good last : List ℕ) → Steps (wants_of d) fields vs → SpellsFields fields good → IsPart vs last → IsPrefix t (said (wants_of d) fields ++ says_next vs last)
-    → (HasGood d bs (good ++ last) ⊎ ((ts : List Tree) × EndsAt d ts bs (length (good ++ last)))) → ShowsSome d bs t
+    → (HasGood d bs (good ++ last) ⊎ ((ts : List Tree) × EndsAt d ts bs (length (good ++ last)) × IsPrefix (good ++ last) bs)) → ShowsSome d bs t
 finish d bs t fields vs good last steps spelled part front has =
     let shown = shows d fields vs good last steps spelled part in
     record { good = good ++ last; whole = shown.whole; more = shown.more; has_good = has; is_front = shown.is_front; within = prefix_trans t (said (wants_of d) fields ++ says_next vs last) (shown.whole ++ shown.more) front shown.within }
@@ -132,8 +132,9 @@ some_ended d bytes put t bs rest ws own s loose whole front e =
     let good = spells_join s.fields fs s.front e.front s.good e.leads.spelled in
     let parts : bs ≡ (s.front ++ e.front) ++ e.rest = whole ∙ ap (λ l. s.front ++ l) e.parts ∙ sym (append_assoc s.front e.front e.rest) in
     let (ts, at) = ended_at d bs (record { front = s.front ++ e.front; rest = e.rest; leads = record { fields = s.fields ++ fs; steps = steps; spelled = good }; parts = parts }) in
+    let whole' : s.front ++ e.front ≡ (s.front ++ e.front) ++ [] = sym (append-nil (s.front ++ e.front)) in
     finish d bs t (s.fields ++ fs) [] (s.front ++ e.front) [] steps good refl (goes_on d bytes put t ws own s fs [] [] front on)
-    (inr (ts, subst (λ l. EndsAt d ts bs (length l)) (sym (append-nil (s.front ++ e.front))) at))
+    (inr (ts, subst (λ l. EndsAt d ts bs (length l)) whole' at, (e.rest, subst (λ l. bs ≡ l ++ e.rest) whole' parts)))
 
 some_cut : (d : Dataset) (bytes put t bs rest : List ℕ) (ws : List Want) (own : List ℕ) (s : Spelled d bytes put ws own) → IsLoose ws own → bs ≡ s.front ++ (own ++ rest) → IsPrefix t put → IsCut ws (own ++ rest) → ShowsSome d bs t
 some_cut d bytes put t bs rest ws own s loose whole front e =

@@ -165,7 +165,7 @@ bad_line_head bytes p d head values (e, text, rest, at, h, b, is) a =
     let (texts, rests) = one_text bytes e d text rest whole.text (whole.line ++ values) h whole.has_text in
     line_not_bad whole.line values rest at whole.is_line rests b
 
-cut_head : (bytes : List ℕ) (d : Dataset) (head values : List ℕ) → EndsInHead bytes → HasHeadOf bytes d head values → ⊥
+pub cut_head : (bytes : List ℕ) (d : Dataset) (head values : List ℕ) → EndsInHead bytes → HasHeadOf bytes d head values → ⊥
 cut_head bytes d head values (inl o) a = let whole = headed bytes d head values a in open_alone bytes d whole.text (whole.line ++ values) o whole.has_text
 cut_head bytes d head values (inr (e, text, rest, h, c)) a =
     let whole = headed bytes d head values a in
@@ -176,7 +176,7 @@ bad_cut : (bytes : List ℕ) (p : ℕ) → IsBadText bytes p → EndsInHead byte
 bad_cut bytes p a (inl o) = bad_not_unfinished bytes p a o
 bad_cut bytes p a (inr (e, text, rest, h, c)) = bad_alone bytes p e text rest a h
 
-bad_head : (bytes : List ℕ) (p : ℕ) (d : Dataset) (head values : List ℕ) → IsBadText bytes p → HasHeadOf bytes d head values → ⊥
+pub bad_head : (bytes : List ℕ) (p : ℕ) (d : Dataset) (head values : List ℕ) → IsBadText bytes p → HasHeadOf bytes d head values → ⊥
 bad_head bytes p d head values a b = let whole = headed bytes d head values b in bad_alone bytes p d whole.text (whole.line ++ values) a whole.has_text
 
 bad_bad_line : (bytes : List ℕ) (p q : ℕ) → IsBadText bytes p → IsBadLine bytes q → ⊥

@@ -26,3 +26,4 @@ pub use bad::{Bad, BadField};
 pub use decode::decode_all;
 pub use decoder::{Decoder, Pushed};
 pub use filled::{AllRefusal, Filled};
+pub use value_text::put_shown_text;

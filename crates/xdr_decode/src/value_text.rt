@@ -1,10 +1,12 @@
-ghost use Rattle.std.specs.Prelude.{◌≡◌, ◌<◌, ◌≤◌, [], ◌∷◌, ◌++◌, ◌%◌, codes, false, IsTrue, IfOk, OnErr, length, take};
+ghost use Rattle.std.specs.Prelude.{◌≡◌, ◌<◌, ◌≤◌, [], ◌∷◌, ◌++◌, ◌%◌, codes, false, IsTrue, IfOk, OnErr, OnOk, length, take};
 ghost use Rattle.std.specs.Fmt.{decimal, signed_decimal};
 ghost use Rattle.std.specs.List.{flat_map};
 ghost use Rattle.xdr_decode.specs.inner.Buffered.{Passes, PassesFront, Puts};
 ghost use Rattle.dap_model.specs.Shown.{hex, shown_byte, shown_value};
 ghost use Rattle.std.specs.Fmt.{digit_glyph};
 ghost use Rattle.dap_outside.specs.Causes.{HasCause};
+ghost use Rattle.dap_outside.specs.Streams.{AppendsFront};
+ghost use Rattle.std.specs.Io.KnownBytes.{Appends};
 
 use crate::buffer::Buffer;
 use dap_outside::{Failed, Sink};
@@ -77,6 +79,19 @@ pub fn put_escaped<O: Sink>(buffer: &mut Buffer, out: &mut O, text: &[u8]) -> Re
         at += put_front(buffer, out, &text[at..])?;
     }
     Ok(())
+}
+
+/// Puts the bytes of a text to a sink, escaped as in the line of an element (`shown_byte` of `dap_model`),
+/// without the quotes around it. Fails only where the count of faults rose, and then a front of that is put.
+pub fn put_shown_text<O: Sink>(out: &mut O, text: &[u8]) -> Result<(), Failed>
+    ensures ok { OnOk result (Appends (O.written out.old) (O.written out.new) (flat_map shown_byte text.now)) }
+    ensures err { OnErr result (AppendsFront (O.written out.old) (O.written out.new) (flat_map shown_byte text.now)) }
+    ensures cause { HasCause (O.put_faults out.old) (O.put_faults out.new) result }
+    ensures beside { O.beside_writing out.new ≡ O.beside_writing out.old }
+{
+    let mut buffer = Buffer::new();
+    put_escaped(&mut buffer, out, text)?;
+    buffer.flush(out)
 }
 
 /// Puts a whole number in decimal digits.

@@ -4,10 +4,10 @@ use Rattle.std.proofs.lemmas.List.FromFn.{length-map-range_with_len, take-map-ra
 use Rattle.std.specs.List.{flat_map}
 use Rattle.std.specs.Prelude.{MatchOption}
 use Rattle.dap_types.specs.declared.slabs.Slab.{Slab}
+use Rattle.dap_model.specs.Cutting.{AreWithin}
 use Rattle.dap_model.specs.Filter.{Marks}
 use Rattle.dap_model.specs.Xdr.{bytes_of}
 use Rattle.hyperslab_plan.specs.Batches.{InTurn}
-use Rattle.hyperslab_plan.specs.Nested.{AreWithin}
 use Rattle.hyperslab_plan.specs.declared.batch.Batch.{Batch}
 use Rattle.hyperslab_plan.specs.declared.plan.Plan.{Plan}
 use Rattle.netcdf_source.specs.Laws.{HasHeader}

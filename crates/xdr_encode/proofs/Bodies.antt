@@ -1,5 +1,5 @@
 -- What stands before the values is put, and then the leaves.
-use Rattle.std.proofs.Common.{◌≡◌, ◌≢◌, ℕ, List, [], ◌++◌, Option, length, sym, ap, ◌∙◌, subst, Result, Ok, Err, OnOk, OnErr, IsOk}
+use Rattle.std.proofs.Common.{◌≡◌, ◌≢◌, ℕ, List, ◌++◌, Option, length, sym, ap, ◌∙◌, subst, Result, Ok, Err, OnOk, OnErr, IsOk}
 use Rattle.std.proofs.KnownBytes.{Appends-trans}
 use Rattle.std.specs.Io.KnownBytes.{Appends}
 use Rattle.dap_outside.proofs.Fronts.{front_of, front_more}

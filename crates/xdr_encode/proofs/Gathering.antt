@@ -5,7 +5,8 @@ use Rattle.std.proofs.lemmas.Grind.{flat_map-append}
 use Rattle.std.proofs.lemmas.List.{drop_more, length-map}
 use Rattle.std.proofs.lemmas.List.Elements.{All-append, All-nil, All-cons}
 use Rattle.std.proofs.lemmas.List.Sums.{sum_by-append, sum_by-cons}
-use Rattle.std.specs.List.{sum_by, zip, AllZip}
+use Rattle.std.proofs.lemmas.Slice.Zip.{AllZip-long}
+use Rattle.std.specs.List.{sum_by, zip}
 use Rattle.std.specs.Option.{option_map_or, option_to_list}
 use Rattle.std.specs.Prelude.{MatchOption, option_map, option_and_then, slice_get}
 use Rattle.dap_types.specs.Model.{product, sizes}
@@ -13,19 +14,17 @@ use Rattle.dap_types.specs.declared.declarations.BaseType.{BaseType}
 use Rattle.dap_types.specs.declared.declarations.Dim.{Dim}
 use Rattle.dap_types.specs.declared.slabs.Layout.{Layout}
 use Rattle.dap_types.specs.declared.slabs.Slab.{Slab}
-use Rattle.dap_model.specs.Cutting.{cut, counted, IsWithin}
+use Rattle.dap_model.specs.Cutting.{cut, counted, AreWithin, IsWithin}
 use Rattle.dap_model.specs.Filter.{Marks}
 use Rattle.dap_model.specs.Fits.{values_in}
 use Rattle.dap_model.specs.Xdr.{Field, scalar_fields, array_fields, bytes_of}
-use Rattle.hyperslab_plan.proofs.CutLemmas.{All-picked_places, length-within}
-use Rattle.hyperslab_plan.specs.Nested as nested
-use Rattle.hyperslab_plan.specs.Nested.{AreWithin}
+use Rattle.hyperslab_plan.proofs.LawLemmas.{picked_are_below}
+use Rattle.hyperslab_plan.specs.Laws.{AllWithin}
 use Rattle.hyperslab_plan.specs.Numbers.{HasSize, is_number, number_size}
 use Rattle.hyperslab_plan.specs.Picked.{picked, count_of, cost_of}
 use Rattle.hyperslab_plan.specs.Plans.{base_in, places, size_in}
 use Rattle.netcdf_source.specs.Laws.{HasHeader}
 use Rattle.netcdf_source.specs.Layouts.{element_sizes, steps_of, layout_of, IsPlaced, IsShaped, LeafIsPlaced, LeafIsShaped}
-use Rattle.netcdf_source.specs.Layouts as layouts
 use Rattle.netcdf_source.specs.Mapping.{base_of, dim_of, element_dimensions, element_size, size_at, is_char, is_empty, array_of, leaf_variable, leaves_from}
 use Rattle.netcdf_source.specs.Types.{size_of}
 use Rattle.netcdf_source.specs.Values.{tree_of}
@@ -34,7 +33,7 @@ use Rattle.netcdf_source.specs.declared.external_type.ExternalType.TheVariants.{
 use Rattle.netcdf_source.specs.declared.header.Contents.{Contents}
 use Rattle.netcdf_source.specs.declared.header.Variable.{Variable}
 use Rattle.xdr_encode.proofs.Asking.{marked-asks, parted, unknown-asks, unmarked-asks}
-use Rattle.xdr_encode.proofs.Inside.{all-placed, leaf_is_inside}
+use Rattle.xdr_encode.proofs.Inside.{all_within, leaf_is_inside, slab_steps}
 use Rattle.xdr_encode.proofs.LeafSent.{leaf_is_sent}
 use Rattle.xdr_encode.proofs.Suiting.{leaf-at}
 use Rattle.xdr_encode.specs.Asked.{LeafAsks, SlotAsks, SlotsAsk}
@@ -80,7 +79,7 @@ not-char v e = go v.external_type e
     go Int64 e = refl
     go UInt64 e = refl
 
-strides : (slabs : List Slab) (ns : List ℕ) → AllZip IsWithin slabs ns → All (λ s. 0 < s.stride) slabs
+strides : (slabs : List Slab) (ns : List ℕ) → AreWithin slabs ns → All (λ s. 0 < s.stride) slabs
 strides [] ns h = All-nil (λ s. 0 < s.stride)
 strides (s ∷ slabs) [] h = absurd h
 strides (s ∷ slabs) (n ∷ ns) h = All-cons (λ s. 0 < s.stride) s slabs (omega (arith, h.0.0)) (strides slabs ns h.1)
@@ -99,33 +98,23 @@ unfolding AreSuited
 wanted_within c file_len marks n layout base slabs w suited = suited n w.variable w.marked_by w.is w.marked
 
 pub wanted_ready : (c : Contents) (file_len : ℕ) (marks : Marks) (n : ℕ) (layout : Layout) (base : BaseType) (slabs : List Slab) → IsWanted c file_len marks n layout base slabs → AreSuited c marks → Ready layout base slabs
-unfolding AreWithin IsPlaced
 wanted_ready c file_len marks n layout base slabs w suited =
     let within : AreWithin slabs (element_sizes c w.variable) = subst (λ ss. AreWithin ss (element_sizes c w.variable)) (sym w.slabs_are) (wanted_within c file_len marks n layout base slabs w suited) in
-    let deep : length (element_sizes c w.variable) ≡ length slabs = length-within slabs (element_sizes c w.variable) within in
-    let sizes : length (element_sizes c w.variable) ≡ length (element_dimensions c w.variable) = length-map (element_dimensions c w.variable) (size_at c) in
-    let steps : length layout.steps ≡ length (element_dimensions c w.variable) = w.shaped.steps in
-    let some : 0 < layout.size = w.shaped.some in
+    let one_each : length slabs ≡ length (steps_of c w.variable) = slab_steps c w.variable slabs within in
+    let all : AllWithin (element_sizes c w.variable) (steps_of c w.variable) w.variable.begin (element_size c w.variable) file_len = all_within c file_len w.variable (subst (IsPlaced c file_len w.variable) w.layout_is w.placed) in
+    let some : 0 < element_size c w.variable = subst (λ l. 0 < l.size) w.layout_is w.shaped.some in
+    let short : file_len ≤ 2 ^ 63 = omega (arith, w.below) in
     record {
-      one_each = omega arith;
+      one_each = one_each ∙ sym (ap (λ l. length l.steps) w.layout_is);
       strided = strides slabs (element_sizes c w.variable) within;
-      below = All-picked_places (λ at. at < 2 ^ 63) slabs (element_sizes c w.variable) layout.steps layout.base within (omega arith)
-          (all-placed (λ at. at < 2 ^ 63) (element_sizes c w.variable) layout.steps layout.base (omega arith)
-          (λ is inside. let fits = (w.placed (zeros file_len) is (long file_len) inside).0 in omega (arith, fits, w.below, some)));
-      sized = some;
+      below = subst (λ l. All (λ place. place < 2 ^ 63) (picked slabs l.steps l.base)) (sym w.layout_is)
+          (picked_are_below slabs (element_sizes c w.variable) (steps_of c w.variable) w.variable.begin (element_size c w.variable) file_len within one_each all some short);
+      sized = w.shaped.some;
       small = w.shaped.few;
       typed = λ e.
           let number : is_number (base_of w.variable.external_type) ≡ true = sym (ap is_number w.base_is) ∙ e in
           w.shaped.typed (not-char w.variable number) ∙ sym (number-size w.variable.external_type number) ∙ ap number_size (sym w.base_is);
     }
-  where
-    zeros : (n : ℕ) → List ℕ
-    zeros zero = []
-    zeros (suc n) = 0 ∷ zeros n
-
-    long : (n : ℕ) → length (zeros n) ≡ n
-    long zero = refl
-    long (suc n) = ap suc (long n)
 
 -- ---- a member that was asked for
 
@@ -260,7 +249,7 @@ own-count c v slabs within = go (is_empty (element_dimensions c v)) within
     go : (b : Bool) → AreWithin (cond b [] slabs) (element_sizes c v) → cond b 1 (product (sizes (counted slabs (array_of c v)))) ≡ count_of (cond b [] slabs)
     go true h = refl
     go false h =
-        let deep : length (element_sizes c v) ≡ length slabs = length-within slabs (element_sizes c v) h in
+        let deep : length (element_sizes c v) ≡ length slabs = AllZip-long IsWithin slabs (element_sizes c v) h in
         let long : length (element_sizes c v) ≡ length (element_dimensions c v) = length-map (element_dimensions c v) (size_at c) in
         let dims : length (map (dim_of c) (element_dimensions c v)) ≡ length (element_dimensions c v) = length-map (element_dimensions c v) (dim_of c) in
         counts-product (map (dim_of c) (element_dimensions c v)) slabs (omega arith)

@@ -1,15 +1,14 @@
 -- Marks that suit the dataset of a file suit its leaves by number.
 use Rattle.std.proofs.Common.{◌≡◌, ℕ, zero, suc, ◌+◌, ◌-◌, ◌<◌, Bool, true, false, cond, eqb, List, [], ◌∷◌, ◌++◌, length, map, filter, get_or, Option, Some, None, refl, sym, ap, ◌∙◌, subst, arith, append_assoc, length-append}
 use Rattle.std.proofs.lemmas.Bool.{eqb-true, eqb-false}
-use Rattle.std.specs.List.{list_all, cons_option, AllZip}
+use Rattle.std.specs.List.{list_all, cons_option}
 use Rattle.std.specs.Prelude.{is_some, option_and_then, slice_get}
 use Rattle.dap_types.specs.Model.{scalar, array, grid, members_of, count, sizes}
 use Rattle.dap_types.specs.Names.{file_id}
 use Rattle.dap_types.specs.declared.slabs.Slab.{Slab}
 use Rattle.dap_model.proofs.Tests.{both_true}
-use Rattle.dap_model.specs.Cutting.{IsWithin}
+use Rattle.dap_model.specs.Cutting.{AreWithin}
 use Rattle.dap_model.specs.Filter.{Marks, Suits, SuitEach, SuitsMember, SuitsAll}
-use Rattle.hyperslab_plan.specs.Nested.{AreWithin}
 use Rattle.netcdf_source.proofs.GridMaps.{coordinate_found, grid_array, maps_are, at_front}
 use Rattle.netcdf_source.specs.Layouts.{element_sizes}
 use Rattle.netcdf_source.specs.Mapping.{element_dimensions, size_at, dim_of, is_empty, is_offered, is_grid, coordinate_at, column_of, array_of, maps_of, member_of, dataset_of, leaves_of, leaves_from, leaf_in, leaf_variable}
@@ -52,7 +51,6 @@ module _ (c : Contents) (marks : Marks) where
   SlotsSuit n (slot ∷ slots) = SlotSuits n slot × SlotsSuit (n + 1) slots
 
   no-sizes : (ids : List ℕ) → eqb (length ids) 0 ≡ true → AreWithin [] (map (size_at c) ids)
-  unfolding AreWithin
   no-sizes [] e = tt
   no-sizes (i ∷ ids) e = absurd (omega (arith, eqb-true (length (i ∷ ids)) 0 e))
 
@@ -61,15 +59,14 @@ module _ (c : Contents) (marks : Marks) where
   sizes-are (i ∷ ids) = ap (λ ns. size_at c i ∷ ns) (sizes-are ids)
 
   of-array : (n : ℕ) (v : Variable) → Suits (marks n) (array_of c v) → VariableSuits n v
-  unfolding AreWithin
   of-array n v suits slabs e = go (is_empty (element_dimensions c v)) refl
     where
-      picked : AllZip IsWithin slabs (sizes (array_of c v))
+      picked : AreWithin slabs (sizes (array_of c v))
       picked = subst (λ o. Suits o (array_of c v)) e suits
 
       go : (b : Bool) → is_empty (element_dimensions c v) ≡ b → AreWithin (cond b [] slabs) (element_sizes c v)
       go true e = no-sizes (element_dimensions c v) e
-      go false e = subst (λ ns. AllZip IsWithin slabs ns) (sizes-are (element_dimensions c v)) picked
+      go false e = subst (AreWithin slabs) (sizes-are (element_dimensions c v)) picked
 
   of-scalar : (n : ℕ) (v : Variable) → is_empty (element_dimensions c v) ≡ true → VariableSuits n v
   of-scalar n v e slabs marked = subst (λ b. AreWithin (cond b [] slabs) (element_sizes c v)) (sym e) (no-sizes (element_dimensions c v) e)

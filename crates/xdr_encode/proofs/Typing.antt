@@ -1,5 +1,5 @@
 -- What a value of some type is.
-use Rattle.std.proofs.Common.{◌≡◌, ℕ, ◌<◌, ◌≤◌, ◌^◌, ℤ, pos, neg_ℤ, List, length, Some, slice_get, get_or, []}
+use Rattle.std.proofs.Common.{◌≡◌, ℕ, ◌<◌, ◌^◌, ℤ, pos, neg_ℤ, List, length, Some, slice_get, get_or, []}
 use Rattle.std.specs.Prelude.{◌≤ℤ◌, ◌<ℤ◌}
 use Rattle.std.proofs.lemmas.Option.{slice_get-get_or}
 use Rattle.dap_model.proofs.Values.{text_short, whole_high, whole_low}

@@ -1,12 +1,12 @@
 -- What is asked of the marked leaves of a netCDF file.
-use Rattle.std.specs.Prelude.{◌≡◌, ℕ, ◌+◌, ◌≤◌, ◌<◌, ◌^◌, ◌⊎◌, List, [], ◌++◌, drop, length, All, Option, Some, None}
+use Rattle.std.specs.Prelude.{◌≡◌, ℕ, ◌+◌, ◌≤◌, ◌<◌, ◌^◌, ◌⊎◌, List, ◌++◌, drop, length, All, Option, Some, None}
 use Rattle.dap_types.specs.Limits.{most_elements}
 use Rattle.dap_types.specs.declared.declarations.BaseType.{BaseType}
 use Rattle.dap_types.specs.declared.slabs.Layout.{Layout}
 use Rattle.dap_types.specs.declared.slabs.Slab.{Slab}
+use Rattle.dap_model.specs.Cutting.{AreWithin}
 use Rattle.dap_model.specs.Filter.{Marks}
 use Rattle.dap_model.specs.Xdr.{bytes_of}
-use Rattle.hyperslab_plan.specs.Nested.{AreWithin}
 use Rattle.hyperslab_plan.specs.Picked.{count_of, cost_of}
 use Rattle.netcdf_source.specs.Laws.{HasHeader}
 use Rattle.netcdf_source.specs.Layouts.{element_sizes, layout_of, IsPlaced, IsShaped}

@@ -2,6 +2,7 @@
 
 ghost use Rattle.xdr_encode.specs.Counts.{CdfTooLarge};
 ghost use Rattle.xdr_encode.specs.Masks.{MaskKeeps};
+ghost use Rattle.xdr_encode.specs.Placed.{CutsArePlaced, PlansCut};
 ghost use Rattle.xdr_encode.specs.Rows.{RowsAreSent};
 
 /// A netCDF dataset that is not sent is told by its marked leaves.
@@ -20,4 +21,11 @@ pub fn rows_are_sent()
 #[tactic(auto, using(crate::proofs::Masking::mask_keeps))]
 pub fn mask_keeps()
     ensures { MaskKeeps }
+{}
+
+/// What hyperslabs cut out of the values of a file's variable stands at the places that they pick of the
+/// variable's layout, and so at the positions of a plan of them, in order.
+pub fn cuts_are_placed()
+    ensures places { CutsArePlaced }
+    ensures positions { PlansCut }
 {}

@@ -6,7 +6,7 @@ use Rattle.dap_server.specs.Results.{error_object}
 use Rattle.dap2.specs.Answer.{status_of}
 use Rattle.dap2.specs.Lines.{cause_line}
 use Rattle.dap2.specs.declared.status.Status.{Status}
-use Rattle.dap2.specs.declared.status.Status.TheVariants.{Complete, Words, Refused, Damaged, BadReply, ReadFault, WriteFault, LinkFault, Memory, Unbuilt}
+use Rattle.dap2.specs.declared.status.Status.TheVariants.{Complete, Words, Refused, Damaged, BadReply, ReadFault, WriteFault, LinkFault, Memory, ServerError}
 
 abbrev pub TextPut : List ℕ → (List ℕ → Type 0) → (List ℕ → Type 0) → Status → Type 0
 TextPut text Out Front Complete = Out text
@@ -17,7 +17,7 @@ TextPut text Out Front Damaged = ⊥
 TextPut text Out Front BadReply = ⊥
 TextPut text Out Front ReadFault = ⊥
 TextPut text Out Front Memory = ⊥
-TextPut text Out Front Unbuilt = ⊥
+TextPut text Out Front ServerError = ⊥
 TextPut text Out Front LinkFault = ⊥
 
 abbrev pub BodyPut : List ℕ → (List ℕ → Type 0) → (List ℕ → Type 0) → Status → Type 0
@@ -29,7 +29,7 @@ BodyPut text Out Front Refused = ⊥
 BodyPut text Out Front Damaged = ⊥
 BodyPut text Out Front BadReply = ⊥
 BodyPut text Out Front Memory = ⊥
-BodyPut text Out Front Unbuilt = ⊥
+BodyPut text Out Front ServerError = ⊥
 BodyPut text Out Front LinkFault = ⊥
 
 -- a body was put, or a fault ended it
@@ -53,5 +53,5 @@ RefusalPut cause Out Front Line Complete = ⊥
 RefusalPut cause Out Front Line Words = ⊥
 RefusalPut cause Out Front Line BadReply = ⊥
 RefusalPut cause Out Front Line ReadFault = ⊥
-RefusalPut cause Out Front Line Unbuilt = ⊥
+RefusalPut cause Out Front Line ServerError = ⊥
 RefusalPut cause Out Front Line LinkFault = ⊥

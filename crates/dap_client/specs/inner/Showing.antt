@@ -1,25 +1,18 @@
--- How the showing of a body ends that is good.
-use Rattle.std.specs.Prelude.{◌≡◌, ℕ, List, Option, ⊤}
-use Rattle.std.specs.Io.KnownBytes.{Appends}
-use Rattle.dap_outside.specs.Streams.{AppendsFront}
-use Rattle.dap_client.specs.declared.outcome.Outcome.{Outcome}
-use Rattle.dap_client.specs.declared.outcome.Outcome.TheVariants.{Complete, BadReply, Unbuilt, ReadFault, WriteFault, Memory}
-use Rattle.plain_decode.specs.declared.filled.AllRefusal.{AllRefusal}
-use Rattle.plain_decode.specs.declared.filled.AllRefusal.TheVariants as refusals
+-- What was read of a source into the reader of a body, and what was put by then.
+use Rattle.std.specs.Prelude.{◌≡◌, ◌⊎◌, false, List, ℕ, ◌++◌, Option}
+use Rattle.std.specs.Io.KnownBytes.{Appends, Consumes}
+use Rattle.dap_client.specs.inner.Readers.{StandsAfter, is_open}
+use Rattle.dap_client.specs.declared.reader.BodyReader.{BodyReader}
 
--- all of the text was put, or a front of it before a fault, or nothing for want of memory
-abbrev pub IsShowing : Option (List ℕ) → Option (List ℕ) → List ℕ → ℕ → Outcome → Type 0
-IsShowing before now text bytes (Complete n) = (n ≡ bytes) × Appends before now text
-IsShowing before now text bytes WriteFault = AppendsFront before now text
-IsShowing before now text bytes Memory = now ≡ before
-IsShowing before now text bytes o = ⊥
+-- the reader stood after some bytes: so many more were taken, and this was put of them
+abbrev pub ReadsOn : Option (List ℕ) → Option (List ℕ) → Option (List ℕ) → Option (List ℕ) → BodyReader → List ℕ → List ℕ → Type 0
+ReadsOn left now written text reader bytes put =
+    (more : List ℕ) × (further : List ℕ) × Consumes left now more × Appends written text further × StandsAfter reader (bytes ++ more) (put ++ further)
 
--- the outcome for a refusal
-abbrev pub IsOutcomeOf : AllRefusal → Outcome → Type 0
-IsOutcomeOf (refusals.Refused b) o = o ≡ BadReply b
-IsOutcomeOf refusals.Unbuilt o = o ≡ Unbuilt
-IsOutcomeOf refusals.Memory o = o ≡ Memory
+-- the reader was given all that was taken, and has put all that was put
+abbrev pub Reads : Option (List ℕ) → Option (List ℕ) → Option (List ℕ) → Option (List ℕ) → BodyReader → Type 0
+Reads left now written text reader = (bytes : List ℕ) × (put : List ℕ) × Consumes left now bytes × Appends written text put × StandsAfter reader bytes put
 
-abbrev pub IsNoReadFault : Outcome → Type 0
-IsNoReadFault ReadFault = ⊥
-IsNoReadFault o = ⊤
+-- no more is looked at, or nothing is left
+abbrev pub EndsReading : BodyReader → Type 0 → Type 0
+EndsReading reader AtEnd = (is_open reader ≡ false) ⊎ AtEnd

@@ -1,6 +1,6 @@
 -- A stored file that was opened, and why none was.
-use Rattle.std.specs.Prelude.{◌≡◌, ℕ, ⊤, List, length, Option, Some, None, IsSome, Ok, Err}
-use Rattle.dap_outside.specs.Files.{IsBytes, Told}
+use Rattle.std.specs.Prelude.{◌≡◌, ℕ, ◌≤◌, ◌*◌, ⊤, List, length, max, Option, Some, None, IsSome, Ok, Err}
+use Rattle.dap_outside.specs.Files.{IsBytes, Reads, Told}
 use Rattle.das_text.specs.Model.{Attributes}
 use Rattle.dap_types.specs.Model.{Dataset}
 use Rattle.dap_errors.specs.declared.cause.Cause.{Cause}
@@ -11,7 +11,7 @@ use Rattle.constraint_parse.specs.declared.refusal.ParseRefusal.TheVariants as p
 use Rattle.csv_source.specs.Causes.{table_of}
 use Rattle.csv_source.specs.Dataset.{table_attributes, table_dataset}
 use Rattle.netcdf_source.specs.Attributes.{attributes_of}
-use Rattle.netcdf_source.specs.Header.{IsHeader}
+use Rattle.netcdf_source.specs.Header.{IsCut, IsHeader}
 use Rattle.netcdf_source.specs.Mapping.{dataset_of}
 use Rattle.xdr_encode.specs.declared.refusal.BodyRefusal.{BodyRefusal}
 use Rattle.xdr_encode.specs.declared.refusal.BodyRefusal.TheVariants as bodies
@@ -27,6 +27,11 @@ use Rattle.dap_server.specs.declared.stop.Stop.TheVariants.{Refused, ShelfFault,
 abbrev pub IsRead : Option (List ℕ) → List ℕ → Type 0
 IsRead None bytes = ⊤
 IsRead (Some told) bytes = bytes ≡ told
+
+-- so many bytes are wanted of a file's front: 64 KiB, or twice as many of its first bytes as stop within the
+-- header
+abbrev pub IsWanted : Option (List ℕ) → ℕ → Type 0
+IsWanted content n = (held : List ℕ) × Reads content 0 held × IsCut held × (n ≤ max 65536 (2 * length held))
 
 -- The shelf may have a file of this name and these bytes, which are those of the content that is told. So
 -- many bytes has the file.

@@ -9,7 +9,7 @@ use Rattle.netcdf_source.specs.Parts.{shares}
 use Rattle.netcdf_source.specs.Types.{size_of, type_of}
 use Rattle.netcdf_source.specs.Versions.{number_width, place_width}
 use Rattle.netcdf_source.specs.declared.external_type.ExternalType.{ExternalType}
-use Rattle.netcdf_source.specs.declared.header.Attribute.{Attribute}
+use Rattle.netcdf_source.specs.Attribute.{Attribute}
 use Rattle.netcdf_source.specs.declared.header.Contents.{Contents}
 use Rattle.netcdf_source.specs.declared.header.Dimension.{Dimension}
 use Rattle.netcdf_source.specs.declared.header.Variable.{Variable}
@@ -35,6 +35,11 @@ Fails (stops.Failed f) read = read ≡ Err f
 abbrev pub Gives : {X Y : Type 0} → (X → Y) → Result X Stop → Result Y Failure → Type 0
 Gives view (Ok x) read = read ≡ Ok (view x)
 Gives view (Err e) read = Fails e read
+
+-- the same of a function that takes no memory
+abbrev pub Reads : {X Y : Type 0} → (X → Y) → Result X Failure → Result Y Failure → Type 0
+Reads view (Ok x) read = read ≡ Ok (view x)
+Reads view (Err f) read = read ≡ Err f
 
 -- the value, unless its field has a fault; the field stood at so many bytes from the end
 abbrev pub passed : {X : Type 0} → Option Fault → ℕ → X → Result X Failure

@@ -1,4 +1,5 @@
-use crate::read_header;
+use crate::tests::made::push_words;
+use crate::tests::seen::printed;
 use dap_types::Bytes;
 use std::alloc::Global;
 use std::test::Fail;
@@ -141,29 +142,11 @@ const VARIABLES: [u32; 28] = [
     324,
 ];
 
-fn push_words(bytes: &mut Vec<u8>, words: &[u32]) -> Result<(), Fail> {
-    for word in words {
-        bytes.extend_from_slice(&word.to_be_bytes())?;
-    }
-    Ok(())
-}
-
 fn push_zeros(bytes: &mut Vec<u8>, count: usize) -> Result<(), Fail> {
     for _ in 0..count {
         bytes.push(0)?;
     }
     Ok(())
-}
-
-/// The printed attributes of a small file.
-fn printed(alloc: Global, bytes: &[u8]) -> Result<Bytes, Fail> {
-    if bytes.len() > 1048576 {
-        return Err("a small file")?;
-    }
-    let header = read_header(alloc, bytes, bytes.len() as u64)
-        .ok()
-        .ok_or("a header")?;
-    Ok(das_text::print(alloc, &header.attributes(alloc)?)?)
 }
 
 /// The attributes of a variable.

@@ -11,7 +11,7 @@ pub struct Variable<'a> {
     pub begin: u32,
 }
 
-/// A variable without attributes.
+/// A variable without attributes, in versions 1 and 2.
 pub fn sample<'a>(name: &'a [u8], dimensions: &'a [u32], number: u32, begin: u32) -> Variable<'a> {
     Variable {
         name,
@@ -24,6 +24,13 @@ pub fn sample<'a>(name: &'a [u8], dimensions: &'a [u32], number: u32, begin: u32
 
 pub fn push_word(bytes: &mut Vec<u8>, word: u32) -> Result<(), Fail> {
     bytes.extend_from_slice(&word.to_be_bytes())?;
+    Ok(())
+}
+
+pub fn push_words(bytes: &mut Vec<u8>, words: &[u32]) -> Result<(), Fail> {
+    for word in words {
+        push_word(bytes, *word)?;
+    }
     Ok(())
 }
 

@@ -1,5 +1,5 @@
 use crate::{Header, read_header};
-use dap_types::{ArrayDecl, BaseType, Dataset, Decl, Layout};
+use dap_types::{ArrayDecl, BaseType, Bytes, Dataset, Decl, Layout};
 use std::alloc::Global;
 use std::test::Fail;
 
@@ -9,6 +9,12 @@ pub fn header(alloc: Global, bytes: &[u8], file_len: u64) -> Result<Header, Fail
         return Err("the front of the file")?;
     }
     Ok(read_header(alloc, bytes, file_len).ok().ok_or("a header")?)
+}
+
+/// The printed attributes of a file.
+pub fn printed(alloc: Global, bytes: &[u8]) -> Result<Bytes, Fail> {
+    let header = header(alloc, bytes, bytes.len() as u64)?;
+    Ok(das_text::print(alloc, &header.attributes(alloc)?)?)
 }
 
 fn type_word(base: BaseType) -> &'static [u8] {

@@ -1,12 +1,14 @@
-use Rattle.std.proofs.Common.{inl, inr, length, subst}
+use Rattle.std.proofs.Common.{◌≡◌, ◌∙◌, inl, inr, length, refl, subst, sym}
 use Rattle.std.specs.Io.KnownBytes.{Appends}
 use Rattle.dap_outside.specs.Streams.{AppendsFront}
 use Rattle.dap2.proofs.Answering.{same_target}
 use Rattle.dap2.proofs.Commanding.{same-serve}
+use Rattle.dap2.proofs.Fetching.{for-words, form-kind, form-of, no-answer, no-command, no-command-url, no-serve, no-show, no-url, no-ver}
 use Rattle.dap2.proofs.Obeying.{answer-no-words, serve-for, serve-no-words}
 use Rattle.dap2.specs.Answer.{AnswerSays, MustResult}
 use Rattle.dap2.specs.Lines.{IsSaid}
 use Rattle.dap2.specs.Serve.{lines_from}
+use Rattle.dap2.specs.declared.status.Status.TheVariants.{Words, LinkFault, WriteFault}
 use Rattle.dap2.proofs.run.obey.Goals as goal
 
 pub returns-in-Answer-clause-answer : goal.returns-in-Answer-clause-answer
@@ -49,3 +51,93 @@ returns-in-Serve-clause-no_command g c = λ no_one. absurd (no_one (inr (inr (in
 
 pub returns-in-Other-clause-serve : goal.returns-in-Other-clause-serve
 returns-in-Other-clause-serve g c = λ port workers requests are. absurd (c.in-Other.ensures (inr (inr (inl (port, workers, requests, are)))))
+
+pub returns-in-Answer-clause-fetch : goal.returns-in-Answer-clause-fetch
+returns-in-Answer-clause-fetch g c = λ u kind ces are. let (url, form) = form-of _ u kind ces are in absurd (no-answer _ _ _ url kind ces c.in-Answer.ensures.0 form)
+
+pub returns-in-Answer-clause-fetch_link : goal.returns-in-Answer-clause-fetch_link
+returns-in-Answer-clause-fetch_link g c = λ is. let (u, kind, ces, are) = is in let (url, form) = form-of _ u kind ces are in absurd (no-answer _ _ _ url kind ces c.in-Answer.ensures.0 form)
+
+pub returns-in-Answer-clause-fetch_shelf : goal.returns-in-Answer-clause-fetch_shelf
+returns-in-Answer-clause-fetch_shelf g c = λ is. let (u, kind, ces, are) = is in let (url, form) = form-of _ u kind ces are in absurd (no-answer _ _ _ url kind ces c.in-Answer.ensures.0 form)
+
+pub returns-in-Serve-clause-fetch : goal.returns-in-Serve-clause-fetch
+returns-in-Serve-clause-fetch g c = λ u kind ces are. let (url, form) = form-of _ u kind ces are in absurd (no-serve _ _ _ _ url kind ces c.in-Serve.ensures form)
+
+pub returns-in-Serve-clause-fetch_link : goal.returns-in-Serve-clause-fetch_link
+returns-in-Serve-clause-fetch_link g c = λ is. let (u, kind, ces, are) = is in let (url, form) = form-of _ u kind ces are in absurd (no-serve _ _ _ _ url kind ces c.in-Serve.ensures form)
+
+pub returns-in-Serve-clause-fetch_shelf : goal.returns-in-Serve-clause-fetch_shelf
+returns-in-Serve-clause-fetch_shelf g c = λ is. let (u, kind, ces, are) = is in let (url, form) = form-of _ u kind ces are in absurd (no-serve _ _ _ _ url kind ces c.in-Serve.ensures form)
+
+pub returns-in-Show-clause-fetch : goal.returns-in-Show-clause-fetch
+returns-in-Show-clause-fetch g c = λ u kind ces are. let (url, form) = form-of _ u kind ces are in absurd (no-show _ url kind ces c.in-Show.ensures form)
+
+pub returns-in-Show-clause-fetch_link : goal.returns-in-Show-clause-fetch_link
+returns-in-Show-clause-fetch_link g c = λ is. let (u, kind, ces, are) = is in let (url, form) = form-of _ u kind ces are in absurd (no-show _ url kind ces c.in-Show.ensures form)
+
+pub returns-in-Ver-clause-fetch : goal.returns-in-Ver-clause-fetch
+returns-in-Ver-clause-fetch g c = λ u kind ces are. let (url, form) = form-of _ u kind ces are in absurd (no-ver _ url kind ces c.in-Ver.ensures form)
+
+pub returns-in-Ver-clause-fetch_link : goal.returns-in-Ver-clause-fetch_link
+returns-in-Ver-clause-fetch_link g c = λ is. let (u, kind, ces, are) = is in let (url, form) = form-of _ u kind ces are in absurd (no-ver _ url kind ces c.in-Ver.ensures form)
+
+pub returns-in-Other-clause-fetch : goal.returns-in-Other-clause-fetch
+returns-in-Other-clause-fetch g c = λ u kind ces are. absurd (c.in-Other.ensures (inr (inr (inr (inr (u, kind, ces, are))))))
+
+pub returns-in-Other-clause-fetch_link : goal.returns-in-Other-clause-fetch_link
+returns-in-Other-clause-fetch_link g c = λ is. absurd (c.in-Other.ensures (inr (inr (inr (inr is)))))
+
+pub fetch-requires-clause-kind : goal.fetch-requires-clause-kind
+fetch-requires-clause-kind g c = form-kind _ _ _ _ c.in-Fetch.ensures
+
+pub returns-in-Fetch-clause-fetch : goal.returns-in-Fetch-clause-fetch
+returns-in-Fetch-clause-fetch g c = λ u kind ces are. for-words _ _ _ _ _ _ _ u _ _ _ _ _ _ c.in-Fetch.ensures c.fetch.ensures.says are
+
+pub returns-in-Fetch-clause-dial : goal.returns-in-Fetch-clause-dial
+returns-in-Fetch-clause-dial g c = λ no_fetch. (c.fetch.ensures.untouched (no-url _ _ _ _ c.in-Fetch.ensures no_fetch)).0
+
+pub returns-in-Fetch-clause-link_fault : goal.returns-in-Fetch-clause-link_fault
+returns-in-Fetch-clause-link_fault g c = λ no_fetch is. let clash : Words ≡ LinkFault = sym (c.fetch.ensures.words.1 (no-url _ _ _ _ c.in-Fetch.ensures no_fetch)) ∙ is in cc clash
+
+pub returns-in-Fetch-clause-write_fault : goal.returns-in-Fetch-clause-write_fault
+returns-in-Fetch-clause-write_fault g c = λ no_fetch is. let clash : Words ≡ WriteFault = sym (c.fetch.ensures.words.1 (no-url _ _ _ _ c.in-Fetch.ensures no_fetch)) ∙ is in cc clash
+
+pub returns-in-Fetch-clause-words : goal.returns-in-Fetch-clause-words
+returns-in-Fetch-clause-words g c = (
+  λ is command. no-command _ _ _ _ c.in-Fetch.ensures (c.fetch.ensures.words.0 is) command,
+  λ no_one. c.fetch.ensures.words.1 (no-command-url _ _ _ _ c.in-Fetch.ensures no_one),
+)
+
+pub returns-in-Fetch-clause-no_command : goal.returns-in-Fetch-clause-no_command
+returns-in-Fetch-clause-no_command g c = λ no_one. (refl, (c.fetch.ensures.untouched (no-command-url _ _ _ _ c.in-Fetch.ensures no_one)).1)
+
+pub returns-in-Fetch-clause-answer : goal.returns-in-Fetch-clause-answer
+returns-in-Fetch-clause-answer g c = λ target workers are. absurd (no-answer _ target workers _ _ _ are c.in-Fetch.ensures)
+
+pub returns-in-Fetch-clause-answered : goal.returns-in-Fetch-clause-answered
+returns-in-Fetch-clause-answered g c = λ target workers are. absurd (no-answer _ target workers _ _ _ are c.in-Fetch.ensures)
+
+pub returns-in-Fetch-clause-answer_asks : goal.returns-in-Fetch-clause-answer_asks
+returns-in-Fetch-clause-answer_asks g c = λ target workers are. absurd (no-answer _ target workers _ _ _ are c.in-Fetch.ensures)
+
+pub returns-in-Fetch-clause-answer_asked : goal.returns-in-Fetch-clause-answer_asked
+returns-in-Fetch-clause-answer_asked g c = λ target workers are. absurd (no-answer _ target workers _ _ _ are c.in-Fetch.ensures)
+
+pub returns-in-Fetch-clause-answer_read_fault : goal.returns-in-Fetch-clause-answer_read_fault
+returns-in-Fetch-clause-answer_read_fault g c = λ target workers are. absurd (no-answer _ target workers _ _ _ are c.in-Fetch.ensures)
+
+pub returns-in-Fetch-clause-serve : goal.returns-in-Fetch-clause-serve
+returns-in-Fetch-clause-serve g c = λ port workers requests are. absurd (no-serve _ port workers requests _ _ _ are c.in-Fetch.ensures)
+
+pub returns-in-Fetch-clause-ver : goal.returns-in-Fetch-clause-ver
+returns-in-Fetch-clause-ver g c = λ are. absurd (no-ver _ _ _ _ are c.in-Fetch.ensures)
+
+pub returns-in-Fetch-clause-show : goal.returns-in-Fetch-clause-show
+returns-in-Fetch-clause-show g c = λ are. absurd (no-show _ _ _ _ are c.in-Fetch.ensures)
+
+pub returns-in-Fetch-clause-verdict : goal.returns-in-Fetch-clause-verdict
+returns-in-Fetch-clause-verdict g c = λ are. absurd (no-show _ _ _ _ are c.in-Fetch.ensures)
+
+pub returns-in-Fetch-clause-read_fault : goal.returns-in-Fetch-clause-read_fault
+returns-in-Fetch-clause-read_fault g c = λ are. absurd (no-show _ _ _ _ are c.in-Fetch.ensures)

@@ -1,4 +1,4 @@
-use Rattle.std.proofs.Common.{◌≡◌, ◌<◌, ℕ, List, Some, All, [], refl, sym, ap, ◌∙◌, subst, arith, length}
+use Rattle.std.proofs.Common.{◌≡◌, ◌<◌, ℕ, List, Some, All, refl, sym, ap, ◌∙◌, subst, arith, length}
 use Rattle.std.specs.Io.KnownBytes.{Appends}
 use Rattle.dap_outside.proofs.Fronts.{on_err}
 use Rattle.xdr_encode.proofs.Sending.{appends-nothing}

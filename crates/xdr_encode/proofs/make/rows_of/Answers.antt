@@ -1,4 +1,4 @@
-use Rattle.std.proofs.Common.{true, false, sym, ap, ◌∙◌}
+use Rattle.std.proofs.Common.{sym, ap, ◌∙◌}
 use Rattle.std.specs.List.{list_any}
 use Rattle.grid_projection.specs.Resolved.{marks_in}
 use Rattle.xdr_encode.specs.Rows.{marked_columns}

@@ -1,4 +1,4 @@
-use Rattle.std.proofs.Common.{ℕ, List, []}
+use Rattle.std.proofs.Common.{ℕ, List}
 use Rattle.dap_outside.proofs.Fronts.{on_err}
 use Rattle.dap_outside.proofs.Passing.{stopped_before}
 use Rattle.dap_outside.specs.Streams.{AppendsFront}

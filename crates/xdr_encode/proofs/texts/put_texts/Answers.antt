@@ -1,4 +1,4 @@
-use Rattle.std.proofs.Common.{◌+◌, ◌-◌, [], ◌∙◌, arith, refl}
+use Rattle.std.proofs.Common.{◌+◌, ◌∙◌, arith, refl}
 use Rattle.dap_model.specs.Xdr.{bytes_of, string_fields}
 use Rattle.dap_outside.proofs.Passing.{puts_failed, way_ends, way_failed, way_more}
 use Rattle.xdr_encode.proofs.TextForms.{text-here, texts-begin, texts-end, texts-step}

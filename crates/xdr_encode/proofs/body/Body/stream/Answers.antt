@@ -1,4 +1,4 @@
-use Rattle.std.proofs.Common.{◌≡◌, ◌++◌, All, [], sym, ap, ◌∙◌, subst, append-nil}
+use Rattle.std.proofs.Common.{◌≡◌, ◌++◌, All, sym, ap, ◌∙◌, subst, append-nil}
 use Rattle.xdr_encode.proofs.Walk.{leaves-none}
 use Rattle.xdr_encode.specs.Bodies.{FitsFile, HasNoFile, front_in, leaves_in, text_in}
 use Rattle.xdr_encode.specs.Rows.{front_text}

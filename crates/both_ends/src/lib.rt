@@ -1,0 +1,23 @@
+//! What both ends promise of one another (DAP 2.0, DODS). In come the server's definitions of a target's
+//! result and of its reply, and the client's of a verdict; out go laws that join them, each the contract
+//! of a function that does nothing. `specs/Ends` states them.
+#![tactic(auto)]
+
+ghost use Rattle.both_ends.specs.Ends.{ReplyDelivers, ReplyIsGood, ResultIsGood};
+
+/// The data response that a target is answered with, of fewer than 2^40 bytes, is a good body, with the
+/// dataset and the values that the constraint leaves of the stored file.
+pub fn result_is_good()
+    ensures law { ResultIsGood }
+{}
+
+/// The reply to GET that carries a data response delivers it whole; in chunks, before whatever stands
+/// behind it.
+pub fn reply_delivers()
+    ensures law { ReplyDelivers }
+{}
+
+/// The verdict on the reply to GET is the verdict on the data response that it carries.
+pub fn reply_is_good()
+    ensures law { ReplyIsGood }
+{}

@@ -1,0 +1,150 @@
+-- What comes of a body with the bytes behind its head.
+use Rattle.std.proofs.Common.{◌≡◌, ℕ, ◌+◌, ◌-◌, ◌^◌, min, ◌<◌, ◌≤◌, ◌⊎◌, inl, inr, Bool, true, false, if◌then◌else◌, List, [], ◌∷◌, ◌++◌, length, take, drop, Option, Some, None, refl, ap, ◌∙◌, sym, subst, arith, append_assoc, append-nil, length-append, length-take-le, take-append-drop}
+use Rattle.std.proofs.lemmas.Bool.{cases_lt}
+use Rattle.std.proofs.lemmas.List.{take-append-le, take_all}
+use Rattle.std.proofs.lemmas.List.Edits.{length-between}
+use Rattle.std.proofs.Math.Seq.{take-append-add}
+use Rattle.dap_types.specs.Model.{Dataset}
+use Rattle.dap_model.specs.Received.{HasHead}
+use Rattle.xdr_decode.specs.Verdict.{HasHeadOf, budget}
+use Rattle.xdr_decode.specs.declared.bad.BadField.{BadField}
+use Rattle.dap_http.proofs.Framings.{no-end-cut, no-end-fault, one-cut, one-end}
+use Rattle.dap_http.proofs.Parts.{Opened, opened}
+use Rattle.dap_http.proofs.Runs.{run-append}
+use Rattle.dap_http.proofs.Seams.{split}
+use Rattle.dap_http.proofs.Whole.{ends-known, fails-known, goes-known}
+use Rattle.dap_http.specs.Codings.{Ends, Fails, Goes}
+use Rattle.dap_http.specs.Delivered.{HasCome, IsBrokenBody, IsWholeBody}
+use Rattle.dap_http.specs.Following.{Follows, body_coding, part_of, waiting}
+use Rattle.dap_http.specs.inner.Steps.{Known, advance, is_data, run, start}
+use Rattle.dap_http.specs.declared.body_parts.BodyParts.{BodyParts}
+use Rattle.dap_http.specs.declared.coding.Coding.{Coding}
+use Rattle.dap_http.specs.declared.coding.Coding.TheVariants.{Chunked, Length, ToEnd}
+use Rattle.dap_client.specs.After.{HasNoLine, StandsAfter}
+use Rattle.dap_client.specs.Shows.{HasFewValues}
+use Rattle.dap_client.specs.Verdict.{Form, dods_form}
+use Rattle.dap_client.specs.declared.body.Body.{Body}
+
+-- ---- as many bytes of the body come as bytes, at most
+
+grown : (d : Bool) (body : List ℕ) (b : ℕ) → (x : List ℕ) × ((if d then body ++ (b ∷ []) else body) ≡ body ++ x) × (length x ≤ 1)
+grown true body b = (b ∷ [], refl, omega arith)
+grown false body b = ([], sym (append-nil body), omega arith)
+
+grows-few : (k : Known) (bytes : List ℕ) → (x : List ℕ) × ((run k bytes).body ≡ k.body ++ x) × (length x ≤ length bytes)
+grows-few k [] = ([], sym (append-nil k.body), omega arith)
+grows-few k (b ∷ bytes) =
+    let (x, first, one) = grown (is_data k.at) k.body b in
+    let (y, more, few) = grows-few (advance k b) bytes in
+    (x ++ y, more ∙ ap (λ t. t ++ y) first ∙ append_assoc k.body x y, omega (arith, length-append x y, one, few))
+
+abbrev Further : List ℕ → List ℕ → ℕ → Type 0
+Further b other n = (y : List ℕ) × (other ≡ b ++ y) × (length y ≤ n)
+
+run-further : (used w b other : List ℕ) → (run start used).body ≡ b → (run start (used ++ w)).body ≡ other → Further b other (length w)
+run-further used w b other is same =
+    let (y, more, few) = grows-few (run start used) w in
+    (y, sym same ∙ ap (λ (k : Known). k.body) (run-append start used w) ∙ more ∙ ap (λ t. t ++ y) is, few)
+
+goes-further : (c : Coding) (used w b other : List ℕ) → Goes c used b → Goes c (used ++ w) other → Further b other (length w)
+goes-further Chunked used w b other goes on = run-further used w b other (goes-known used b goes).body (goes-known (used ++ w) other on).body
+goes-further (Length n) used w b other (is, few) (same, long) = (w, same ∙ ap (λ t. t ++ w) (sym is), omega arith)
+goes-further ToEnd used w b other is same = (w, same ∙ ap (λ t. t ++ w) (sym is), omega arith)
+
+ends-further : (c : Coding) (used w b other : List ℕ) → Goes c used b → Ends c (used ++ w) other → Further b other (length w)
+ends-further Chunked used w b other goes ends = run-further used w b other (goes-known used b goes).body (ends-known (used ++ w) other ends).body
+ends-further (Length n) used w b other (is, few) (same, long) = (w, same ∙ ap (λ t. t ++ w) (sym is), omega arith)
+ends-further ToEnd used w b other is none = absurd none
+
+to-end : (c : Coding) (used w b other front rest : List ℕ) → Goes c used b → Ends c front other → used ++ w ≡ front ++ rest → Further b other (length w)
+to-end c used w b other front rest goes ends e = go (cases_lt (length front) (length used)) where
+  go : (length front < length used) ⊎ (length used ≤ length front) → Further b other (length w)
+  go (inl less) =
+      let (x, is, tail) = split front rest used w (sym e) (omega (arith, less)) in
+      absurd (no-end-cut c front x used other b ends goes is)
+  go (inr le) =
+      let (x, is, tail) = split used w front rest e le in
+      let (y, more, few) = ends-further c used x b other goes (subst (λ (t : List ℕ). Ends c t other) is ends) in
+      (y, more, omega (arith, few, ap length tail, length-append x rest))
+
+pub come-further : (c : Coding) (used w b other : List ℕ) → Goes c used b ⊎ Ends c used b → HasCome c (used ++ w) other → Further b other (length w)
+come-further c used w b other now come = go now come.comes where
+  go : Goes c used b ⊎ Ends c used b → (Goes c come.front other × (come.rest ≡ [])) ⊎ Ends c come.front other → Further b other (length w)
+  go (inl goes) (inl (on, none)) =
+      let all : come.front ≡ used ++ w = sym (append-nil come.front) ∙ ap (λ t. come.front ++ t) (sym none) ∙ sym come.parts in
+      goes-further c used w b other goes (subst (λ (t : List ℕ). Goes c t other) all on)
+  go (inl goes) (inr ends) = to-end c used w b other come.front come.rest goes ends come.parts
+  go (inr ended) (inl (on, none)) =
+      let all : come.front ≡ used ++ w = sym (append-nil come.front) ∙ ap (λ t. come.front ++ t) (sym none) ∙ sym come.parts in
+      absurd (no-end-cut c used w come.front b other ended on all)
+  go (inr ended) (inr ends) =
+      let (same, rests) = one-end c used come.front w come.rest b other ended ends come.parts in
+      ([], sym same ∙ sym (append-nil b), omega arith)
+
+-- of a whole body, and of one that breaks off, what came with the first bytes is a front
+
+fails-further : (c : Coding) (used w b other : List ℕ) (place : ℕ) → Goes c used b → Fails c (used ++ w) other place → Further b other (length w)
+fails-further Chunked used w b other place goes fails = run-further used w b other (goes-known used b goes).body (fails-known (used ++ w) other place fails).body
+fails-further (Length n) used w b other place goes none = absurd none
+fails-further ToEnd used w b other place goes none = absurd none
+
+come-parts : (c : Coding) (front body : List ℕ) (h : HasCome c front body) → (Goes c h.front body × (h.rest ≡ [])) ⊎ Ends c h.front body → Goes c h.front body ⊎ Ends c h.front body
+come-parts c front body h (inl (goes, none)) = inl goes
+come-parts c front body h (inr ends) = inr ends
+
+further-come : (c : Coding) (front w body other : List ℕ) → HasCome c front body → HasCome c (front ++ w) other → (y : List ℕ) × (other ≡ body ++ y)
+further-come c front w body other h come =
+    let laid : front ++ w ≡ h.front ++ (h.rest ++ w) = ap (λ t. t ++ w) h.parts ∙ append_assoc h.front h.rest w in
+    let (y, is, few) = come-further c h.front (h.rest ++ w) body other (come-parts c front body h h.comes) (subst (λ (t : List ℕ). HasCome c t other) laid come) in
+    (y, is)
+
+pub brought-whole : (c : Coding) (front w body other rest : List ℕ) (ended : Bool) → HasCome c front body → IsWholeBody c (front ++ w) ended other rest → (y : List ℕ) × (other ≡ body ++ y)
+brought-whole c front w body other rest ended h (inl (framed, ends, parts)) = further-come c front w body other h (record { front = framed; rest = rest; parts = parts; comes = inr ends })
+brought-whole c front w body other rest ended h (inr (coding, end, same, nothing)) =
+    further-come c front w body other h (record { front = front ++ w; rest = []; parts = sym (append-nil (front ++ w)); comes = inl (subst (λ (d : Coding). Goes d (front ++ w) other) (sym coding) (sym same), refl) })
+
+broke-further : (c : Coding) (front w body other : List ℕ) (place : ℕ) (h : HasCome c front body) → (Goes c h.front body × (h.rest ≡ [])) ⊎ Ends c h.front body → Fails c (front ++ w) other place → (y : List ℕ) × (other ≡ body ++ y)
+broke-further c front w body other place h (inl (goes, none)) fails =
+    let laid : front ++ w ≡ h.front ++ (h.rest ++ w) = ap (λ t. t ++ w) h.parts ∙ append_assoc h.front h.rest w in
+    let (y, is, few) = fails-further c h.front (h.rest ++ w) body other place goes (subst (λ (t : List ℕ). Fails c t other place) laid fails) in
+    (y, is)
+broke-further c front w body other place h (inr ends) fails =
+    absurd (no-end-fault c h.front (h.rest ++ w) (front ++ w) body other place ends fails (ap (λ t. t ++ w) h.parts ∙ append_assoc h.front h.rest w))
+
+pub brought-broken : (c : Coding) (front w body other : List ℕ) (wrong : BadField) (ended : Bool) → HasCome c front body → IsBrokenBody c (front ++ w) ended other wrong → (y : List ℕ) × (other ≡ body ++ y)
+brought-broken c front w body other wrong ended h (inl (kind, fails)) = broke-further c front w body other wrong.place h h.comes fails
+brought-broken c front w body other wrong ended h (inr (goes, framed, end, cut)) =
+    further-come c front w body other h (record { front = front ++ w; rest = []; parts = sym (append-nil (front ++ w)); comes = inl (goes, refl) })
+
+-- ---- few values, where no `Data:` line had come
+
+pub few-values : (form : Form) (b z : List ℕ) → form ≡ dods_form → HasNoLine form b → length z ≤ 65536 → HasFewValues 65536 (b ++ z)
+few-values form b z is none few d head values (is_head, parts) = go (cases_lt (length b) (length head)) where
+  go : (length b < length head) ⊎ (length head ≤ length b) → length values ≤ 65536
+  go (inl less) = omega (arith, less, few, ap length parts, length-append b z, length-append head values)
+  go (inr le) =
+      let (x, front, tail) = split head values b z (sym parts) le in
+      absurd (none is (head, x, d, front, is_head))
+
+-- ---- the reader of the parts
+
+pub come-now : (p : BodyParts) (bytes body : List ℕ) (o : Opened p bytes body) → HasCome (body_coding p) o.used body
+come-now p bytes body o = record {
+  front = o.used;
+  rest = [];
+  parts = sym (append-nil o.used);
+  comes = elim o.comes [
+    | inl goes ↦ inl (goes, refl)
+    | inr ends ↦ inr ends
+  ];
+}
+
+pub part-room : (p : BodyParts) → length (part_of p) + length (waiting p) ≤ 65536
+part-room p =
+    omega (arith, length-between p.room.items p.from p.to (omega (arith, p.within, p.filled, p.size)), length-between p.room.items p.to p.end (omega (arith, p.filled, p.size)), p.filled, p.within, p.lent)
+
+-- ---- the reader of the body
+
+pub counted : (r : Body) (body put : List ℕ) → StandsAfter r body put → (r.taken ≡ length body) × (length body < budget)
+unfolding StandsAfter
+counted r body put (stage, taken, small) = (taken, small)

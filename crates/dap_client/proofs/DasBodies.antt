@@ -1,0 +1,100 @@
+-- From a front of the body of a DAS to one with another piece.
+use Rattle.std.proofs.Common.{◌≡◌, ℕ, ◌+◌, ◌-◌, ◌<◌, ◌≤◌, Bool, true, false, not, ◌&&◌, List, [], ◌∷◌, ◌++◌, length, take, drop, get_or, refl, sym, ap, subst, ◌∙◌, append_assoc, length-append, length-drop, length-take-le, IsTrue, inl, inr, ◌⊎◌, arith}
+use Rattle.std.proofs.lemmas.Grind.{common_steps}
+use Rattle.std.proofs.lemmas.List.{drop-append-le, take-append-le}
+use Rattle.std.proofs.lemmas.List.Elements.{All-head, All-tail}
+use Rattle.std.proofs.lemmas.List.Folds.{list_all-append}
+use Rattle.std.specs.List.{AllPass, list_all}
+use Rattle.dap_model.specs.Tokens as dds
+use Rattle.text_tokens.specs.Languages.{BadToken, Breaks, SpellsTo}
+use Rattle.text_tokens.specs.Tokens.{Placed, Reads, Token, TokenAt, is_token, is_white, quoted, sign, token_bytes, word}
+use Rattle.das_text.specs.Grammar.{IsDas, signs}
+use Rattle.das_text.specs.Model.{Attributes}
+use Rattle.das_text.specs.Reading.{DasOf, EndsAt, HasBehind, IsBad, IsTrailing, front, limit}
+use Rattle.dap_client.proofs.Begun.{whites}
+use Rattle.dap_client.proofs.Objects.{white_same}
+
+front_more : (bytes more : List ℕ) → limit ≤ length bytes → front (bytes ++ more) ≡ front bytes
+front_more bytes more long = take-append-le limit bytes more long
+
+token_some : (signs : List ℕ) (t : Token) → IsTrue (is_token signs t) → 0 < length (token_bytes t)
+token_some signs (sign b) is = omega arith
+token_some signs (quoted pieces) is = omega arith
+token_some signs (word []) is = cc
+token_some signs (word (b ∷ bytes)) is = omega arith
+
+token_within : (signs text : List ℕ) (place behind : ℕ) (t : Token) → TokenAt signs text place behind t → behind ≤ length text
+token_within signs text place behind t is =
+    let some = token_some signs t is.is_one in
+    let lengths : length (drop place text) ≡ length (token_bytes t) + length (drop behind text) = ap length is.bytes_are ∙ length-append (token_bytes t) (drop behind text) in
+    omega (arith, some, lengths, is.behind_is, length-drop place text, length-drop behind text)
+
+reads_within : (marks text : List ℕ) (at : ℕ) (ts : List Placed) (to : ℕ) → Reads marks text at ts to → at ≤ length text → to ≤ length text
+reads_within marks text at [] to is le = subst (λ n. n ≤ length text) (sym is) le
+reads_within marks text at (t ∷ ts) to (behind, next, rest) le = reads_within marks text behind ts to rest (token_within marks text t.place behind t.token next.token_at)
+
+ends_within : (bytes : List ℕ) (at : ℕ) (a : Attributes) → limit ≤ length bytes → EndsAt bytes at a → at ≤ length bytes
+ends_within bytes at a long is =
+    let within : at ≤ length (front bytes) = reads_within signs (front bytes) 0 is.tokens at is.read (omega arith) in
+    omega (arith, within, long, length-take-le limit bytes long)
+
+ends_more : (bytes more : List ℕ) (at : ℕ) (a : Attributes) → limit ≤ length bytes → EndsAt bytes at a → EndsAt (bytes ++ more) at a
+ends_more bytes more at a long is = subst (λ z. SpellsTo signs IsDas z at a) (sym (front_more bytes more long)) is
+
+behind_more : (bytes : List ℕ) (at : ℕ) (more : List ℕ) → at ≤ length bytes → drop at (bytes ++ more) ≡ drop at bytes ++ more
+behind_more bytes at more le = drop-append-le at bytes more le
+
+pub bad_stays : (bytes : List ℕ) (place : ℕ) → limit ≤ length bytes → IsBad bytes place → (more : List ℕ) → IsBad (bytes ++ more) place
+bad_stays bytes place long (inl b) more = inl (subst (λ z. BadToken signs IsDas z place) (sym (front_more bytes more long)) b)
+bad_stays bytes place long (inr (b, at, is)) more = inr (subst (λ z. Breaks signs IsDas z) (sym (front_more bytes more long)) b, omega (arith, at, length-append bytes more), is)
+
+pub trailing_stays : (bytes : List ℕ) (place : ℕ) → limit ≤ length bytes → IsTrailing bytes place → (more : List ℕ) → IsTrailing (bytes ++ more) place
+trailing_stays bytes place long t more = record {
+  behind = t.behind;
+  attributes = t.attributes;
+  ends = ends_more bytes more t.behind t.attributes long t.ends;
+  trails = record {
+    white = t.trails.white;
+    byte = t.trails.byte;
+    rest = t.trails.rest ++ more;
+    bytes_are = behind_more bytes t.behind more (ends_within bytes t.behind t.attributes long t.ends) ∙ ap (λ l. l ++ more) t.trails.bytes_are ∙ append_assoc t.trails.white (t.trails.byte ∷ t.trails.rest) more;
+    all_white = t.trails.all_white;
+    other = t.trails.other;
+    place_is = t.trails.place_is;
+  };
+}
+
+white_both : (xs ys : List ℕ) → IsTrue (list_all is_white xs) → IsTrue (list_all is_white ys) → IsTrue (list_all is_white (xs ++ ys))
+white_both xs ys a b = list_all-append is_white xs ys ∙ ap (λ c. c && list_all is_white ys) a ∙ b
+
+pub das_more : (bytes piece : List ℕ) (a : Attributes) → limit ≤ length bytes → DasOf bytes a → AllPass dds.is_white piece → (limit ≤ length (bytes ++ piece)) × DasOf (bytes ++ piece) a
+das_more bytes piece a long w all = (
+  omega (arith, long, length-append bytes piece),
+  record {
+    behind = w.behind;
+    ends = ends_more bytes piece w.behind a long w.ends;
+    white = subst (λ l. IsTrue (list_all is_white l)) (sym (behind_more bytes w.behind piece (ends_within bytes w.behind a long w.ends))) (white_both (drop w.behind bytes) piece w.white (whites piece all));
+  },
+)
+
+piece_whole : (white piece more : List ℕ) (at : ℕ) → at < length piece → white ++ (piece ++ more) ≡ (white ++ take at piece) ++ get_or piece at 0 ∷ (drop (at + 1) piece ++ more)
+piece_whole white piece more at lt = grind (arith, common_steps)
+
+pub das_stray : (bytes piece : List ℕ) (a : Attributes) (at : ℕ) → limit ≤ length bytes → DasOf bytes a → at < length piece → AllPass dds.is_white (take at piece) → dds.is_white (get_or piece at 0) ≡ false
+    → (more : List ℕ) → IsTrailing ((bytes ++ piece) ++ more) (length bytes + at)
+das_stray bytes piece a at long w lt all other more =
+    let within = ends_within bytes w.behind a long w.ends in
+    let here : IsTrailing (bytes ++ (piece ++ more)) (length bytes + at) = record {
+      behind = w.behind;
+      attributes = a;
+      ends = ends_more bytes (piece ++ more) w.behind a long w.ends;
+      trails = record {
+        white = drop w.behind bytes ++ take at piece;
+        byte = get_or piece at 0;
+        rest = drop (at + 1) piece ++ more;
+        bytes_are = behind_more bytes w.behind (piece ++ more) within ∙ piece_whole (drop w.behind bytes) piece more at lt;
+        all_white = white_both (drop w.behind bytes) (take at piece) w.white (whites (take at piece) all);
+        other = ap not (sym (white_same (get_or piece at 0)) ∙ other);
+        place_is = omega (arith, within, length-drop w.behind bytes, length-append (drop w.behind bytes) (take at piece), length-take-le at piece (omega (arith, lt)));
+      };
+    } in subst (λ l. IsTrailing l (length bytes + at)) (sym (append_assoc bytes piece more)) here

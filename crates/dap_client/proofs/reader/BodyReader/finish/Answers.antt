@@ -1,0 +1,31 @@
+use Rattle.std.proofs.Common.{append-nil, inl, ◌≡◌, ℕ, ◌++◌, List, [], take, codes, refl, sym, ap, subst, ◌∙◌}
+use Rattle.std.proofs.KnownBytes.{Appends-nil}
+use Rattle.std.specs.Fmt.{decimal}
+use Rattle.dap_client.proofs.Ending.{broken_off, whole_finished}
+use Rattle.dap_client.specs.Shows.{StopsWithin}
+use Rattle.dap_client.specs.inner.Readers.{IsFinished}
+use Rattle.dap_client.proofs.reader.BodyReader.finish.Goals as goal
+
+pub returns-in-Ok-clause-stands : goal.returns-in-Ok-clause-stands
+returns-in-Ok-clause-stands g c bytes put s = (_, c.in-Ok.ensures.ok, whole_finished bytes put _ s.taken (rw c.in-Whole.is at (c.ended.ensures.ended bytes put s)))
+
+pub returns-in-Err-clause-stands : goal.returns-in-Err-clause-stands
+returns-in-Err-clause-stands g c bytes put s =
+    let (k, le, sent) = c.in-Err.ensures.err in (_, sent, broken_off bytes put _ k s.taken (rw c.in-Whole.is at (c.ended.ensures.ended bytes put s)))
+
+pub returns-in-ServerError-clause-stands : goal.returns-in-ServerError-clause-stands
+returns-in-ServerError-clause-stands g c bytes put s =
+    ([], Appends-nil (g.O.Sink.written c.args.out.now), subst (IsFinished bytes put []) (sym c.server_error.ensures) (rw c.in-ServerError.is at (c.ended.ensures.ended bytes put s), refl))
+
+pub returns-in-Bad-clause-stands : goal.returns-in-Bad-clause-stands
+returns-in-Bad-clause-stands g c bytes put s = ([], Appends-nil (g.O.Sink.written c.args.out.now), (rw c.in-Bad.is at (c.ended.ensures.ended bytes put s), refl))
+
+pub returns-in-WriteFault-clause-stands : goal.returns-in-WriteFault-clause-stands
+returns-in-WriteFault-clause-stands g c bytes put s =
+    ([], Appends-nil (g.O.Sink.written c.args.out.now), inl (subst (StopsWithin bytes) (sym (append-nil put)) (rw c.in-WriteFault.is at (c.ended.ensures.ended bytes put s))))
+
+pub returns-in-Memory-clause-stands : goal.returns-in-Memory-clause-stands
+returns-in-Memory-clause-stands g c bytes put s = ([], Appends-nil (g.O.Sink.written c.args.out.now), (rw c.in-Memory.is at (c.ended.ensures.ended bytes put s), refl))
+
+pub returns-in-Bad-clause-stays : goal.returns-in-Bad-clause-stays
+returns-in-Bad-clause-stays g c bytes put s closed = rw c.in-Bad.is at (c.ended.ensures.stays bytes put s closed)

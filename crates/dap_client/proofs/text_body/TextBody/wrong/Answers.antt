@@ -1,0 +1,12 @@
+use Rattle.std.proofs.Common.{◌≡◌, ℕ, List, ap, ◌∙◌, subst, sym}
+use Rattle.dap_client.proofs.TextBodies.{dds_wrong, match_on}
+use Rattle.dap_client.specs.Verdict.{Form}
+use Rattle.dap_client.specs.inner.DdsBodies.{IsDdsBody}
+use Rattle.dap_client.specs.inner.TextBodies.{IsWrong}
+use Rattle.dap_client.proofs.text_body.TextBody.wrong.Goals as goal
+
+pub returns-in-Dds : goal.returns-in-Dds
+returns-in-Dds c = match_on c.wrong.result _ _ c.wrong.ensures
+    (λ field is form bytes none o.
+    let (same, body) = rw c.in-Dds.is at o in
+    subst (λ (f : Form). IsWrong f field bytes) (sym same) (dds_wrong field bytes none (subst (IsDdsBody bytes) is body)))

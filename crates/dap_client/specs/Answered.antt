@@ -1,0 +1,98 @@
+-- What the outcome of a reply says of the bytes that were taken, and of the text that was put.
+use Rattle.std.specs.Prelude.{◌≡◌, ℕ, ◌≤◌, ◌⊎◌, ⊤, Bool, List, [], ◌++◌, length, take, IsTrue}
+use Rattle.das_text.specs.Das.{das}
+use Rattle.das_text.specs.Model.{Attributes}
+use Rattle.dap_types.specs.Model.{Dataset}
+use Rattle.dap_model.specs.Dds.{dds}
+use Rattle.dap_model.specs.Partly.{ShowsLines}
+use Rattle.dap_model.specs.Received.{IsPrefix}
+use Rattle.dap_model.specs.Shown.{shown}
+use Rattle.xdr_decode.specs.Verdict.{budget}
+use Rattle.xdr_decode.specs.declared.bad.BadField.{BadField}
+use Rattle.dap_http.specs.Delivered.{BreaksOff, Delivers}
+use Rattle.dap_client.specs.Outcomes.{outcome_of}
+use Rattle.dap_client.specs.Replies.{Brings, BringsFirst, first_of}
+use Rattle.dap_client.specs.Shows as shows
+use Rattle.dap_client.specs.Shows.{HasFewValues, StopsWithin}
+use Rattle.dap_client.specs.Verdict.{Form, Verdict, IsVerdict, bad, das_form, dds_form, dods_form, good, good_das, good_dds, server_error}
+use Rattle.dap_client.specs.declared.outcome.Outcome.{Outcome}
+use Rattle.dap_client.specs.declared.outcome.Outcome.TheVariants.{Complete, ServerError, BadReply, ReadFault, WriteFault, LinkFault, Memory}
+
+-- what is put of a good body of so many bytes: a DDS and a DAS are printed again
+abbrev pub text_of : ℕ → Verdict → List ℕ
+text_of n (good d ts) = shown d ts n
+text_of n (good_dds d) = dds d
+text_of n (good_das a) = das a
+text_of n v = []
+
+-- the bytes before what is wrong
+abbrev pub good_part : Verdict → List ℕ → List ℕ
+good_part (bad kind place) bytes = take place bytes
+good_part v bytes = bytes
+
+-- of a body that is refused behind these good bytes: of a DDS and a DAS nothing
+abbrev pub ShowsRefused : Form → List ℕ → List ℕ → Type 0
+ShowsRefused dods_form bytes text = ShowsLines bytes text
+ShowsRefused dds_form bytes text = text ≡ []
+ShowsRefused das_form bytes text = text ≡ []
+
+-- of a body of which no more could be read
+abbrev pub ShowsStopped : Form → List ℕ → List ℕ → Type 0
+ShowsStopped dods_form body text = StopsWithin body text
+ShowsStopped dds_form body text = text ≡ []
+ShowsStopped das_form body text = text ≡ []
+
+-- of one of which no more could be put
+abbrev pub ShowsBroken : Form → List ℕ → List ℕ → Type 0
+ShowsBroken dods_form body text = shows.BreaksOff body text
+ShowsBroken dds_form body text = (d : Dataset) × IsVerdict dds_form body (good_dds d) × IsPrefix text (dds d)
+ShowsBroken das_form body text = (a : Attributes) × IsVerdict das_form body (good_das a) × IsPrefix text (das a)
+
+-- ---- What is wrong with a reply.
+
+-- the body that came is bad there, whatever follows
+abbrev pub IsLasting : Form → List ℕ → BadField → Type 0
+IsLasting form body field = (more : List ℕ) → IsVerdict form (body ++ more) (bad field.kind field.place)
+
+pub record BringsBad (form : Form) (reply : List ℕ) (field : BadField) (text : List ℕ) : Type 0 where
+  pub body : List ℕ
+  pub brings : BringsFirst reply body
+  pub lasting : IsLasting form body field
+  pub shows : ShowsRefused form (take field.place body) text
+
+-- the body has ended, and is bad
+pub record DeliversBad (form : Form) (reply : List ℕ) (ended : Bool) (rest : List ℕ) (field : BadField) (text : List ℕ) : Type 0 where
+  pub body : List ℕ
+  pub delivers : Delivers reply ended body rest
+  pub verdict : IsVerdict form body (bad field.kind field.place)
+  pub shows : ShowsRefused form (take field.place body) text
+
+-- the heads are wrong, or the framing is bad or cut; what is wrong with the bytes of the body that came
+-- goes first
+pub record BreaksBad (form : Form) (reply : List ℕ) (ended : Bool) (field : BadField) (text : List ℕ) : Type 0 where
+  pub body : List ℕ
+  pub wrong : BadField
+  pub front : Verdict
+  pub breaks : BreaksOff reply ended body wrong
+  pub verdict : IsVerdict form body front
+  pub is_first : bad field.kind field.place ≡ first_of front wrong
+  pub shows : ShowsRefused form (good_part front body) text
+
+-- ---- The outcome.
+
+-- Of the bytes of a reply, of whether they have ended, of those that stand behind its framing, and of the
+-- text that was put.
+abbrev pub Tells : Form → List ℕ → Bool → List ℕ → List ℕ → Outcome → Type 0
+Tells form reply ended rest text (Complete n) =
+    (body : List ℕ) × (v : Verdict) × Delivers reply ended body rest × IsVerdict form body v × (outcome_of (length body) v ≡ Complete n) × (text ≡ text_of n v)
+Tells form reply ended rest text (ServerError code message) =
+    (body : List ℕ) × Delivers reply ended body rest × IsVerdict form body (server_error (record { code = code; message = message })) × (text ≡ [])
+Tells form reply ended rest text (BadReply field) =
+    BringsBad form reply field text ⊎ (DeliversBad form reply ended rest field text ⊎ BreaksBad form reply ended field text)
+Tells form reply ended rest text ReadFault =
+    (body : List ℕ) × Brings reply body × ShowsStopped form body text
+Tells form reply ended rest text WriteFault =
+    (body : List ℕ) × BringsFirst reply body × ShowsBroken form (take budget body) text
+Tells form reply ended rest text LinkFault = ⊥
+Tells form reply ended rest text Memory =
+    (text ≡ []) × (form ≡ dods_form → (body : List ℕ) → Brings reply body → HasFewValues 65536 body)

@@ -1,0 +1,58 @@
+-- What the outcome of a reply says of the bytes behind its heads.
+use Rattle.std.specs.Prelude.{◌≡◌, ℕ, ◌⊎◌, Bool, List, [], ◌++◌, length, take}
+use Rattle.xdr_decode.specs.Verdict.{budget}
+use Rattle.xdr_decode.specs.declared.bad.BadField.{BadField}
+use Rattle.dap_http.specs.Delivered.{HasCome, IsBrokenBody, IsWholeBody}
+use Rattle.dap_http.specs.Following.{waiting}
+use Rattle.dap_http.specs.declared.body_parts.BodyParts.{BodyParts}
+use Rattle.dap_http.specs.declared.coding.Coding.{Coding}
+use Rattle.dap_client.specs.Answered.{IsLasting, ShowsBroken, ShowsRefused, ShowsStopped, good_part, text_of}
+use Rattle.dap_client.specs.Outcomes.{outcome_of}
+use Rattle.dap_client.specs.Replies.{first_of}
+use Rattle.dap_client.specs.Shows.{HasFewValues}
+use Rattle.dap_client.specs.Verdict.{Form, Verdict, IsVerdict, bad, dods_form, server_error}
+use Rattle.dap_client.specs.declared.outcome.Outcome.{Outcome}
+use Rattle.dap_client.specs.declared.outcome.Outcome.TheVariants.{Complete, ServerError, BadReply, ReadFault, WriteFault, LinkFault, Memory}
+
+pub record BringsBad (form : Form) (coding : Coding) (bytes : List ℕ) (field : BadField) (text : List ℕ) : Type 0 where
+  pub front : List ℕ
+  pub behind : List ℕ
+  pub body : List ℕ
+  pub parts : bytes ≡ front ++ behind
+  pub comes : HasCome coding front body
+  pub lasting : IsLasting form body field
+  pub shows : ShowsRefused form (take field.place body) text
+
+pub record DeliversBad (form : Form) (coding : Coding) (bytes : List ℕ) (ended : Bool) (rest : List ℕ) (field : BadField) (text : List ℕ) : Type 0 where
+  pub body : List ℕ
+  pub is_whole : IsWholeBody coding bytes ended body rest
+  pub verdict : IsVerdict form body (bad field.kind field.place)
+  pub shows : ShowsRefused form (take field.place body) text
+
+pub record BreaksBad (form : Form) (coding : Coding) (bytes : List ℕ) (ended : Bool) (field : BadField) (text : List ℕ) : Type 0 where
+  pub body : List ℕ
+  pub wrong : BadField
+  pub front : Verdict
+  pub breaks : IsBrokenBody coding bytes ended body wrong
+  pub verdict : IsVerdict form body front
+  pub is_first : bad field.kind field.place ≡ first_of front wrong
+  pub shows : ShowsRefused form (good_part front body) text
+
+abbrev pub IsToldBehind : Form → Coding → List ℕ → Bool → List ℕ → List ℕ → Outcome → Type 0
+IsToldBehind form coding bytes ended rest text (Complete n) =
+    (body : List ℕ) × (v : Verdict) × IsWholeBody coding bytes ended body rest × IsVerdict form body v × (outcome_of (length body) v ≡ Complete n) × (text ≡ text_of n v)
+IsToldBehind form coding bytes ended rest text (ServerError code message) =
+    (body : List ℕ) × IsWholeBody coding bytes ended body rest × IsVerdict form body (server_error (record { code = code; message = message })) × (text ≡ [])
+IsToldBehind form coding bytes ended rest text (BadReply field) =
+    BringsBad form coding bytes field text ⊎ (DeliversBad form coding bytes ended rest field text ⊎ BreaksBad form coding bytes ended field text)
+IsToldBehind form coding bytes ended rest text ReadFault =
+    (body : List ℕ) × HasCome coding bytes body × ShowsStopped form body text
+IsToldBehind form coding bytes ended rest text WriteFault =
+    (front : List ℕ) × (behind : List ℕ) × (body : List ℕ) × (bytes ≡ front ++ behind) × HasCome coding front body × ShowsBroken form (take budget body) text
+IsToldBehind form coding bytes ended rest text LinkFault = ⊥
+IsToldBehind form coding bytes ended rest text Memory =
+    (text ≡ []) × (form ≡ dods_form → (body : List ℕ) → HasCome coding bytes body → HasFewValues 65536 body)
+
+-- where the bytes wait that stand behind the framing
+abbrev pub TellsBehind : Form → Coding → List ℕ → Bool → BodyParts → List ℕ → Outcome → Type 0
+TellsBehind form coding bytes ended parts text outcome = IsToldBehind form coding bytes ended (waiting parts) text outcome

@@ -1,0 +1,7 @@
+mod cases;
+mod cut;
+mod faults;
+mod framings;
+mod long;
+mod replies;
+mod showing;

@@ -1,0 +1,43 @@
+-- What a sink has gained of a head and values that are put to it through a room.
+use Rattle.std.proofs.Common.{◌≡◌, ℕ, Bool, List, [], ◌++◌, Option, Some, None, refl, sym, ap, ◌∙◌, subst, append_assoc}
+use Rattle.std.proofs.lemmas.List.{append_cancel_left}
+use Rattle.std.specs.Io.KnownBytes.{Appends}
+use Rattle.dap_http.specs.Frames.{IsFront}
+use Rattle.dap_server.specs.inner.Roomed.{HasFront}
+use Rattle.dap_server.specs.inner.Serving.{PutsValues}
+use Rattle.dap_server.specs.declared.turn.Answered.TheVariants as answered
+
+pub start-kept : {A G : Type 0} (x y : A × G × Option (List ℕ)) → x ≡ y → x.2 ≡ y.2
+start-kept {A} {G} x y e = ap (λ (t : A × G × Option (List ℕ)). t.2) e
+
+-- a front of what was put through
+front-of : (w r o start : Option (List ℕ)) (text : List ℕ) → start ≡ w → ((all : List ℕ) → r ≡ Some all → HasFront start o all) → Appends w r text → (part : List ℕ) × Appends w o part × IsFront part text
+front-of None r o start text same has p = ([], tt, (text, refl))
+front-of (Some a) None o start text same has p = absurd p
+front-of (Some a) (Some b) o start text same has p =
+    let (part, rest, appends, is) = subst (λ s. HasFront s o b) same (has b refl) in
+    (part, appends, (rest, append_cancel_left a text (part ++ rest) (sym p ∙ is)))
+
+front-longer : (part xs ys : List ℕ) → IsFront part xs → IsFront xs ys → IsFront part ys
+front-longer part xs ys (rest, is) (more, all) = (rest ++ more, all ∙ ap (λ t. t ++ more) is ∙ append_assoc part rest more)
+
+front-behind : (front part text : List ℕ) → IsFront part text → IsFront (front ++ part) (front ++ text)
+front-behind front part text (rest, is) = (rest, ap (λ t. front ++ t) is ∙ sym (append_assoc front part rest))
+
+-- the sink failed at what the room held
+pub whole-failed : (front text : List ℕ) (ends last : Bool) (status : ℕ) (w w0 r o start : Option (List ℕ)) → w0 ≡ w → start ≡ w → ((all : List ℕ) → r ≡ Some all → HasFront start o all)
+    → PutsValues front text ends w0 r (answered.Whole status last) → PutsValues front text ends w o answered.WriteFault
+whole-failed front text ends last status w w0 r o start same began has p = front-of w r o start (front ++ text) began has (subst (λ s. Appends s r (front ++ text)) same p)
+
+pub broken-failed : (front text : List ℕ) (ends : Bool) (w w0 r o start : Option (List ℕ)) → w0 ≡ w → start ≡ w → ((all : List ℕ) → r ≡ Some all → HasFront start o all)
+    → PutsValues front text ends w0 r answered.Broken → PutsValues front text ends w o answered.WriteFault
+broken-failed front text ends w w0 r o start same began has (part, p, is) =
+    let (gained, appends, first) = front-of w r o start (front ++ part) began has (subst (λ s. Appends s r (front ++ part)) same p) in
+    (gained, appends, front-longer gained (front ++ part) (front ++ text) first (front-behind front part text is))
+
+-- or before
+pub stopped-put : (front text : List ℕ) (ends : Bool) (w w0 r o start : Option (List ℕ)) → w0 ≡ w → start ≡ w → ((all : List ℕ) → r ≡ Some all → HasFront start o all)
+    → PutsValues front text ends w0 r answered.WriteFault → PutsValues front text ends w o answered.WriteFault
+stopped-put front text ends w w0 r o start same began has (part, p, is) =
+    let (gained, appends, first) = front-of w r o start part began has (subst (λ s. Appends s r part) same p) in
+    (gained, appends, front-longer gained part (front ++ text) first is)

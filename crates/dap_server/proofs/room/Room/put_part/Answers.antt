@@ -1,0 +1,14 @@
+use Rattle.std.proofs.Common.{◌≡◌, ◌-◌, ap, arith, drop, length, length-drop, subst, take}
+use Rattle.std.proofs.lemmas.List.{take_all}
+use Rattle.std.specs.Io.KnownBytes.{Appends}
+use Rattle.dap_server.proofs.Rooms.{part-passes}
+use Rattle.dap_server.proofs.room.Room.put_part.Goals as goal
+
+pub returns-clause-passes : goal.returns-clause-passes
+returns-clause-passes g c =
+    let s = c.args.self.now in
+    let f = s.bytes.items in
+    let n = c.in_ok-count.count in
+    let all : take (length f - s.sent) (drop s.sent f) ≡ drop s.sent f = take_all (length f - s.sent) (drop s.sent f) (omega (arith, length-drop s.sent f)) in
+    part-passes (g.O.Sink.written c.args.out.now) _ f s.sent n
+    (subst (Appends (g.O.Sink.written c.args.out.now) (g.O.Sink.written c.put.new.self)) (ap (take n) all) (rw c.deref.ensures.value at c.in_ok-count.ensures.bytes))

@@ -1,0 +1,23 @@
+use Rattle.std.proofs.Common.{rules, ◌∙◌}
+use Rattle.dap_http.specs.Frames.{framed}
+use Rattle.xdr_encode.specs.Bodies.{text_in}
+use Rattle.dap_server.proofs.Through.{broken-failed, start-kept, stopped-put, whole-failed}
+use Rattle.dap_server.proofs.values.put_values.Goals as goal
+
+pub returns-in-Err-clause-puts : goal.returns-in-Err-clause-puts
+returns-in-Err-clause-puts g c = λ bytes is.
+    let (part, appends, front) = whole-failed c.args.front.now (framed c.args.way.framer.chunked (text_in c.args.body.now bytes)) c.args.ends c.in-Whole.last c.in-Whole.status _ _ _ _ _
+    c.before-roomed.ensures.written (start-kept _ _ c.put_streamed.ensures.beside ∙ c.before-roomed.ensures.began) c.in-Err.ensures.err (c.in-Whole.ensures.puts bytes is) in
+    (part, search (rules, appends), front)
+
+pub returns-in-Err-end-clause-puts : goal.returns-in-Err-end-clause-puts
+returns-in-Err-end-clause-puts g c = λ bytes is.
+    let (part, appends, front) = broken-failed c.args.front.now (framed c.args.way.framer.chunked (text_in c.args.body.now bytes)) c.args.ends _ _ _ _ _
+    c.before-roomed.ensures.written (start-kept _ _ c.put_streamed.ensures.beside ∙ c.before-roomed.ensures.began) c.in-Err-end.ensures.err (c.in-Broken.ensures.puts bytes is) in
+    (part, search (rules, appends), front)
+
+pub returns-in-WriteFault-clause-puts : goal.returns-in-WriteFault-clause-puts
+returns-in-WriteFault-clause-puts g c = λ bytes is.
+    let (part, appends, front) = stopped-put c.args.front.now (framed c.args.way.framer.chunked (text_in c.args.body.now bytes)) c.args.ends _ _ _ _ _
+    c.before-roomed.ensures.written (start-kept _ _ c.put_streamed.ensures.beside ∙ c.before-roomed.ensures.began) c.stop.ensures.part (c.in-WriteFault.ensures.puts bytes is) in
+    (part, search (rules, appends), front)

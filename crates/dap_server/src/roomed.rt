@@ -1,0 +1,85 @@
+//! A sink behind a room.
+
+ghost use Rattle.std.specs.Prelude.{◌≡◌, List, ℕ, Some, IsTrue, OnOk, OnErr};
+ghost use Rattle.dap_outside.specs.Causes.{HasCause};
+ghost use Rattle.dap_http.specs.Framings.{start_of};
+ghost use Rattle.dap_server.specs.inner.Roomed.{HasFront, has_grown, held_in};
+
+use crate::room::Room;
+use dap_outside::{Failed, Sink};
+use http_server::Log;
+
+/// A sink that gathers in a room what it puts to another. Its last parameter is always `Room`; it lets
+/// contracts speak of the other sink behind `end`. What it holds is put only by `end`.
+#[derive(Drop)]
+pub struct Roomed<'a, O: Sink, F> {
+    out: &'a mut O,
+    began: Log<O, u8>,
+    room: F,
+    ghost grows: { IsTrue (has_grown (start_of O.written began.items) (O.written out.now)) },
+}
+
+impl Room {
+    ghost use Rattle.std.specs.Prelude.{[]};
+
+    /// A sink over another, with this room between them, which is empty.
+    pub fn before<'a, O: Sink>(self, out: &'a mut O) -> Roomed<'a, O, Room>
+        requires empty { held_in self ≡ [] }
+        ensures written { ⟦<Roomed<'a, O, Room> as Sink>⟧.written result ≡ O.written out.old }
+        ensures out { result.out.now ≡ out.old }
+        ensures same { result.out.ghost_name ≡ out.entry.ghost_name }
+        ensures began { start_of O.written result.began.items ≡ O.written out.old }
+    {
+        let began = Log::new().and(&*out, &0);
+        Roomed {
+            out,
+            began,
+            room: self,
+        }
+    }
+}
+
+impl<'a, O: Sink> Roomed<'a, O, Room> {
+    /// Lets the other sink go. It has gained a front of what was put here.
+    pub fn stop(self)
+        ensures same { self.exit.0.now ≡ self.entry.out.now }
+        ensures part { (all : List ℕ) → ⟦<Roomed<'a, O, Room> as Sink>⟧.written self.entry ≡ Some all →
+            HasFront (start_of O.written self.entry.began.items) (O.written self.exit.0.now) all }
+    {}
+
+    /// Puts what the room holds. Behind an `Ok` the other sink has gained all that was put here, and else a
+    /// front of it.
+    pub fn end(self) -> Result<(), Failed>
+        ensures ok { OnOk result ((all : List ℕ) → ⟦<Roomed<'a, O, Room> as Sink>⟧.written self.entry ≡ Some all → O.written self.exit.0.now ≡ Some all) }
+        ensures err { OnErr result ((all : List ℕ) → ⟦<Roomed<'a, O, Room> as Sink>⟧.written self.entry ≡ Some all →
+            HasFront (start_of O.written self.entry.began.items) (O.written self.exit.0.now) all) }
+        ensures cause { HasCause (O.put_faults self.entry.out.now) (O.put_faults self.exit.0.now) result }
+        ensures beside { O.beside_writing self.exit.0.now ≡ O.beside_writing self.entry.out.now }
+    {
+        let Roomed {
+            out,
+            began: _,
+            room,
+        } = self;
+        let mut last = room;
+        last.flush(out)
+    }
+}
+
+impl<'a, O: Sink> Sink for Roomed<'a, O, Room> {
+    ghost use Rattle.std.specs.Prelude.{Option};
+    ghost use Rattle.std.specs.Borrow.{GName};
+    ghost use Rattle.dap_server.specs.inner.Roomed.{put_through};
+
+    ghost Rest = { O.Rest × GName × Option (List ℕ) };
+
+    ghost written = { λ s. put_through (start_of O.written s.began.items) (O.written s.out.now) (held_in s.room) };
+
+    ghost put_faults = { λ s. O.put_faults s.out.now };
+
+    ghost beside_writing = { λ s. (O.beside_writing s.out.now, s.out.ghost_name, start_of O.written s.began.items) };
+
+    fn put(&mut self, bytes: &[u8]) -> Result<usize, Failed> {
+        self.room.accept(self.out, bytes)
+    }
+}

@@ -1,0 +1,120 @@
+//! Data on its way to a sink: a head and the values behind it.
+
+ghost use Rattle.std.specs.Prelude.{◌≡◌, ◌≤◌, ◌+◌, ℕ, List, Some};
+ghost use Rattle.dap_outside.specs.Causes.{Rose};
+ghost use Rattle.dap_http.specs.Frames.{framed};
+ghost use Rattle.xdr_encode.specs.Bodies.{FitsFile, cost_in, text_in};
+ghost use Rattle.dap_server.specs.inner.Serving.{PutsValues, SaysWhole, answered_by};
+
+use crate::framed::put_framed;
+use crate::put::put_whole;
+use crate::turn::Answered;
+use crate::way::Way;
+use dap_http::Framer;
+use dap_outside::{Shelf, Sink};
+use std::thread::Threads;
+use xdr_encode::{Body, Streamed};
+
+/// What became of a reply whose values went out so.
+fn answered_by(streamed: Streamed, ends: bool) -> Answered
+    ensures { result ≡ answered_by ends streamed }
+{
+    match streamed {
+        Streamed::Sent => Answered::Whole {
+            status: 200,
+            last: ends,
+        },
+        Streamed::ShelfFault => Answered::Broken,
+        Streamed::WriteFault => Answered::WriteFault,
+    }
+}
+
+/// Puts a head and the values that follow it, as they are read from their file. Takes no memory.
+fn put_streamed<R: Threads + Sync, S: Shelf, O: Sink>(
+    rt: &R,
+    shelf: &mut S,
+    file: &mut S::File,
+    body: &mut Body,
+    framer: Framer,
+    out: &mut O,
+    front: &[u8],
+    ends: bool,
+    workers: u32,
+) -> Answered
+    requires fits { FitsFile body.old (S.size_of shelf.old file.old) }
+    requires some { 1 ≤ workers }
+    requires many { workers ≤ 64 }
+    ensures puts { (bytes : List ℕ) → S.content shelf.old file.old ≡ Some bytes →
+        PutsValues front.now (framed framer.chunked (text_in body.old bytes)) ends (O.written out.old) (O.written out.new) result }
+    ensures last { SaysWhole ends result }
+    ensures shelf_later { S.faults shelf.old ≤ S.faults shelf.new }
+    ensures shelf_fault { result ≡ Answered.Broken → Rose (S.faults shelf.old) (S.faults shelf.new) }
+    ensures files { S.files shelf.new ≡ S.files shelf.old }
+    ensures asked { S.asked shelf.new ≤ S.asked shelf.old + cost_in body.old }
+    ensures fault { result ≡ Answered.WriteFault → Rose (O.put_faults out.old) (O.put_faults out.new) }
+    ensures later { O.put_faults out.old ≤ O.put_faults out.new }
+    ensures beside { O.beside_writing out.new ≡ O.beside_writing out.old }
+{
+    match put_whole(out, front) {
+        Ok(()) => answered_by(
+            put_framed(rt, shelf, file, body, framer, out, workers),
+            ends,
+        ),
+        Err(_) => Answered::WriteFault,
+    }
+}
+
+/// Puts a head and the values that follow it through a room, so that a head and what fits behind it go out
+/// at once. Takes no memory.
+pub fn put_values<R: Threads + Sync, S: Shelf, O: Sink>(
+    rt: &R,
+    shelf: &mut S,
+    file: &mut S::File,
+    body: &mut Body,
+    way: Way,
+    out: &mut O,
+    front: &[u8],
+    ends: bool,
+    workers: u32,
+) -> Answered
+    requires fits { FitsFile body.old (S.size_of shelf.old file.old) }
+    requires some { 1 ≤ workers }
+    requires many { workers ≤ 64 }
+    ensures puts { (bytes : List ℕ) → S.content shelf.old file.old ≡ Some bytes →
+        PutsValues front.now (framed way.framer.chunked (text_in body.old bytes)) ends (O.written out.old) (O.written out.new) result }
+    ensures last { SaysWhole ends result }
+    ensures shelf_later { S.faults shelf.old ≤ S.faults shelf.new }
+    ensures shelf_fault { result ≡ Answered.Broken → Rose (S.faults shelf.old) (S.faults shelf.new) }
+    ensures files { S.files shelf.new ≡ S.files shelf.old }
+    ensures asked { S.asked shelf.new ≤ S.asked shelf.old + cost_in body.old }
+    ensures fault { result ≡ Answered.WriteFault → Rose (O.put_faults out.old) (O.put_faults out.new) }
+    ensures later { O.put_faults out.old ≤ O.put_faults out.new }
+    ensures beside { O.beside_writing out.new ≡ O.beside_writing out.old }
+{
+    let Way { framer, room } = way;
+    let mut roomed = room.before(out);
+    match put_streamed(
+        rt,
+        shelf,
+        file,
+        body,
+        framer,
+        &mut roomed,
+        front,
+        ends,
+        workers,
+    ) {
+        Answered::Whole { status, last } => match roomed.end() {
+            Ok(()) => Answered::Whole { status, last },
+            Err(_) => Answered::WriteFault,
+        },
+        Answered::Broken => match roomed.end() {
+            Ok(()) => Answered::Broken,
+            Err(_) => Answered::WriteFault,
+        },
+        Answered::WriteFault => {
+            roomed.stop();
+            Answered::WriteFault
+        }
+    }
+}

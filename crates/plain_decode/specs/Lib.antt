@@ -1,3 +1,0 @@
-pub mod Bads
-pub mod Verdict
-pub mod inner

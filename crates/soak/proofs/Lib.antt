@@ -1,0 +1,11 @@
+pub mod Answering
+pub mod Headers
+pub mod Leaving
+pub mod Reading
+pub mod Requested
+pub mod Serving
+pub mod Shown
+pub mod Spelled
+pub mod Standing
+pub mod Sums
+pub mod Values
