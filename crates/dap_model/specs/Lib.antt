@@ -5,7 +5,6 @@ pub mod Filter
 pub mod Fits
 pub mod Grammar
 pub mod Indexing
-pub mod Plain
 pub mod Raw
 pub mod Received
 pub mod Rows
