@@ -1,3 +1,4 @@
 pub mod Names
 pub mod Replying
 pub mod Resulting
+pub mod Standing

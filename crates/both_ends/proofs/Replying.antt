@@ -1,26 +1,19 @@
 -- The reply to GET carries a data response, and nothing else.
-use Rattle.std.proofs.Common.{◌≡◌, ℕ, ◌+◌, ◌<◌, ◌≤◌, ◌^◌, inl, inr, Bool, true, false, if◌then◌else◌, List, [], ◌++◌, length, codes, Option, Some, None, Ok, refl, sym, ap, ◌∙◌, subst, arith, append_assoc, append-nil, length-append, lit≤}
+use Rattle.std.proofs.Common.{◌≡◌, ℕ, ◌+◌, ◌<◌, ◌≤◌, ◌^◌, inl, inr, Bool, true, false, if◌then◌else◌, List, [], ◌++◌, length, codes, Some, None, Ok, refl, sym, ap, ◌∙◌, subst, arith, append_assoc, append-nil, length-append, lit≤}
 use Rattle.std.specs.Prelude.{◌==◌}
 use Rattle.std.proofs.lemmas.Bool.{true≢false}
 use Rattle.std.proofs.lemmas.List.Sums.{AllPass-from_list_all}
-use Rattle.httparse.specs.Grammar.{AllPass, ResponseHead, is_value_byte}
-use Rattle.dap_types.specs.Model.{Dataset, Tree}
+use Rattle.httparse.specs.Grammar.{AllPass, is_value_byte}
 use Rattle.dap_http.proofs.Carrying.{is-final}
 use Rattle.dap_http.proofs.FramedWhole.{framed-whole}
 use Rattle.dap_http.specs.Carried.{said}
-use Rattle.dap_http.specs.Chunks.{IsWhole}
-use Rattle.dap_http.specs.Codings.{Ends}
-use Rattle.dap_http.specs.Delivered.{Delivers, HasCoding, IsWholeBody}
+use Rattle.dap_http.specs.Delivered.{Delivers, IsWholeBody}
 use Rattle.dap_http.specs.Frames.{chunked, framed}
-use Rattle.dap_http.specs.Replies.{HasFinal, coding_in}
-use Rattle.dap_http.specs.Texts.{head_text, is_chunked}
-use Rattle.dap_http.specs.declared.coding.Coding.{Coding}
-use Rattle.dap_http.specs.declared.coding.Coding.TheVariants.{Chunked, Length, ToEnd}
+use Rattle.dap_http.specs.Replies.{HasFinal}
+use Rattle.dap_http.specs.Texts.{head_text}
 use Rattle.dap_http.specs.declared.kind.Kind.TheVariants.{Dods}
 use Rattle.dap_server.specs.Replies.{Request, is_head, is_last, reply_of}
 use Rattle.dap_server.specs.Results.{text_of}
-use Rattle.dap_client.specs.Replies.{IsReplyVerdict}
-use Rattle.dap_client.specs.Verdict.{IsVerdict, dods_form, good}
 use Rattle.both_ends.specs.Ends.{ReplyDelivers, ReplyIsGood}
 
 abbrev head : Bool → Bool → List ℕ

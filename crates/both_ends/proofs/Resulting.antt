@@ -1,6 +1,6 @@
 -- The data response of a stored file is good.
-use Rattle.std.proofs.Common.{◌≡◌, ◌≢◌, ℕ, ◌-◌, ◌<◌, ◌≤◌, ◌^◌, ◌⊎◌, inl, inr, Bool, true, false, cond, List, [], ◌++◌, All, length, take, drop, codes, Option, Some, None, Result, Ok, Err, refl, sym, ap, ◌∙◌, subst, arith, length-take}
-use Rattle.std.specs.Prelude.{nat_eq, nat_lt, ◌&&◌, option_map}
+use Rattle.std.proofs.Common.{◌≡◌, ◌≢◌, ℕ, ◌-◌, ◌<◌, ◌^◌, inl, inr, Bool, true, false, cond, List, [], All, length, take, codes, Option, Some, None, Result, Ok, Err, refl, sym, ap, ◌∙◌, subst, arith, length-take}
+use Rattle.std.specs.Prelude.{nat_eq, nat_lt, option_map}
 use Rattle.std.specs.List.{ends_with}
 use Rattle.std.specs.Option.{option_and_then}
 use Rattle.std.proofs.lemmas.Bool.{and_parts, ltb-true}
@@ -27,7 +27,7 @@ use Rattle.dap_model.proofs.Limits.{sent_is_read}
 use Rattle.dap_model.proofs.Staying.{stays_well_formed}
 use Rattle.dap_model.specs.Body.{body, too_large}
 use Rattle.dap_model.specs.Dds.{dds}
-use Rattle.dap_model.specs.Filter.{SuitsAll, constrained, constrained_trees}
+use Rattle.dap_model.specs.Filter.{SuitsAll}
 use Rattle.dap_model.specs.Fits.{FitsAll}
 use Rattle.dap_model.specs.Grammar.{HasWords}
 use Rattle.dap_model.specs.Rows.{kept}
@@ -43,13 +43,13 @@ use Rattle.sequence_select.specs.Selections.{selections}
 use Rattle.dap_http.specs.Targets.{Asked, target_of}
 use Rattle.dap_http.specs.declared.kind.Kind.{Kind}
 use Rattle.dap_http.specs.declared.kind.Kind.TheVariants.{Dds, Das, Dods, Ver}
-use Rattle.dap_server.specs.Files.{Files, Form, IsStored, Stored, form_of, has_end, netcdf, netcdf_stored, table, table_stored}
-use Rattle.dap_server.specs.Results.{Answers, AnswersAsked, DodsAnswers, File, Leaves, Left, Opens, Reads, Results, Text, dds_text, das_text, dods_text, file_named, left_of, text_of}
-use Rattle.dap_server.specs.Steps.{Is, Then, found_or, unless}
+use Rattle.dap_server.specs.Files.{Files, Form, IsStored, Stored, form_of, has_end, netcdf, table}
+use Rattle.dap_server.specs.Results.{Answers, DodsAnswers, File, Left, Opens, Text, dds_text, dods_text, file_named, left_of, text_of}
+use Rattle.dap_server.specs.Steps.{found_or, unless}
 use Rattle.dap_client.proofs.Bodies.{body_good}
 use Rattle.dap_client.specs.Verdict.{IsVerdict, dods_form, good}
 use Rattle.both_ends.proofs.Names.{target-name}
-use Rattle.both_ends.specs.Ends.{HoldBytes, IsGoodResult, ResultIsGood}
+use Rattle.both_ends.specs.Ends.{HoldBytes, ResultIsGood}
 
 -- ---- what a stored file has can be sent
 
@@ -119,7 +119,7 @@ found files name file is = go (form_of name) refl (files name) refl is where
       let one : record { form = form; bytes = bytes } ≡ file = cc in
       (e ∙ ap (λ (x : File). Some x.form) one, h ∙ ap (λ (x : File). Some x.bytes) one)
 
-opened : (files : Files) (name : List ℕ) (s : Stored) → HoldBytes files → All (λ b. b < 256) name → Opens files name (Ok s) → CanBeSent s.dataset s.trees
+pub opened : (files : Files) (name : List ℕ) (s : Stored) → HoldBytes files → All (λ b. b < 256) name → Opens files name (Ok s) → CanBeSent s.dataset s.trees
 opened files name s hold name_bytes (inl (file, is, stored_so)) =
     let (form, bytes) = found files name file (found-some (file_named files name) file is) in
     stored file.form name file.bytes s name_bytes (hold name file.bytes bytes) form stored_so
@@ -131,7 +131,7 @@ opened files name s hold name_bytes (inr (why, is, e)) = cc e
 
 -- ---- and what a constraint leaves of it
 
-left-good : (s : Stored) (c : Constraint) → CanBeSent s.dataset s.trees → cause s.dataset c ≡ None → too_large (left_of s c).dataset ≡ None → length (body (left_of s c).dataset (left_of s c).trees) < 2 ^ 40
+pub left-good : (s : Stored) (c : Constraint) → CanBeSent s.dataset s.trees → cause s.dataset c ≡ None → too_large (left_of s c).dataset ≡ None → length (body (left_of s c).dataset (left_of s c).trees) < 2 ^ 40
     → IsVerdict dods_form (body (left_of s c).dataset (left_of s c).trees) (good (left_of s c).dataset (left_of s c).trees)
 left-good s c can none small short =
     let suits : SuitsAll (marks s.dataset c) 1 s.dataset.members = marks_suit s.dataset c can.well_formed none in

@@ -1,18 +1,21 @@
 -- What both ends promise of one another (DAP 2.0, DODS; RFC 9112), over all targets and stored files.
-use Rattle.std.specs.Prelude.{◌≡◌, ℕ, ◌<◌, ◌^◌, false, true, List, [], ◌++◌, All, length, Option, Some, None, Result, Ok, Err}
+use Rattle.std.specs.Prelude.{◌≡◌, ℕ, ◌+◌, ◌<◌, Bool, false, true, List, [], ◌∷◌, ◌++◌, length, codes, Some, None, Ok}
+use Rattle.dap_types.specs.Limits.{body_limit}
 use Rattle.dap_types.specs.Model.{Dataset, Tree}
 use Rattle.dap_model.specs.Body.{body}
 use Rattle.dap_outside.specs.Files.{IsBytes}
-use Rattle.dap_errors.specs.declared.cause.Cause.{Cause}
 use Rattle.constraint_parse.specs.Values.{Spells}
 use Rattle.constraint_parse.specs.declared.constraint.Constraint.{Constraint}
 use Rattle.grid_projection.specs.Resolved.{cause}
 use Rattle.dap_http.specs.Delivered.{Delivers}
 use Rattle.dap_http.specs.Targets.{target_of}
 use Rattle.dap_http.specs.declared.kind.Kind.TheVariants.{Dods}
+use Rattle.dap_server.specs.Connections.{Connection, IsServed, put_from}
 use Rattle.dap_server.specs.Files.{Files, Stored}
-use Rattle.dap_server.specs.Replies.{Request, is_head, reply_of}
+use Rattle.dap_server.specs.Replies.{Request, Turn, is_head, replies, reply_of, request}
 use Rattle.dap_server.specs.Results.{Opens, Results, left_of, text_of}
+use Rattle.dap_server.specs.Whole.{AnswersAll}
+use Rattle.dap_server.specs.declared.served.Served.{Served}
 use Rattle.dap_client.specs.Replies.{IsReplyVerdict}
 use Rattle.dap_client.specs.Verdict.{IsVerdict, dods_form, good}
 
@@ -36,7 +39,7 @@ pub record IsGoodResult (target : List ℕ) (files : Files) (text : List ℕ) : 
 
 -- a data response of fewer than 2^40 bytes that a target is answered with is good
 abbrev pub ResultIsGood : Type 0
-ResultIsGood = (target : List ℕ) (files : Files) (text : List ℕ) → HoldBytes files → Results target files (Ok (text_of Dods text)) → length text < 2 ^ 40 → IsGoodResult target files text
+ResultIsGood = (target : List ℕ) (files : Files) (text : List ℕ) → HoldBytes files → Results target files (Ok (text_of Dods text)) → length text < body_limit → IsGoodResult target files text
 
 -- The reply to a request other than HEAD delivers the data response, whole; where it is sent in chunks, whatever stands
 -- behind it.
@@ -49,3 +52,34 @@ ReplyDelivers = (q : Request) (text : List ℕ) → is_head q ≡ false →
 abbrev pub ReplyIsGood : Type 0
 ReplyIsGood = (q : Request) (text : List ℕ) (d : Dataset) (ts : List Tree) → is_head q ≡ false → IsVerdict dods_form text (good d ts)
     → IsReplyVerdict dods_form (reply_of q (Ok (text_of Dods text))) (length text) (good d ts)
+
+-- ---- What a connection has put.
+
+-- the reply of a turn behind these turns
+abbrev pub reply_behind : List Turn → Turn → List ℕ
+reply_behind before t = reply_of (request (length before + 1) t.head) t.answer
+
+-- It stands in what was put right behind the replies of the turns before, and the verdict on it as it stands there,
+-- before the rest, is good with what the constraint leaves of the stored file; the next one begins where it ends.
+pub record StandsGood (files : Files) (put : List ℕ) (before : List Turn) (t : Turn) (text : List ℕ) : Type 0 where
+  pub rest : List ℕ
+  pub stands : put ≡ replies 1 before ++ (reply_behind before t ++ rest)
+  pub result : IsGoodResult t.head.target files text
+  pub delivers : Delivers (reply_behind before t ++ rest) true text rest
+  pub verdict : IsReplyVerdict dods_form (reply_behind before t ++ rest) (length text) (good (left_of result.stored result.constraint).dataset (left_of result.stored result.constraint).trees)
+
+-- so does the reply of each of these turns that answers GET with a data response of fewer than 2^40 bytes
+abbrev pub StandGood : Files → List ℕ → List Turn → Type 0
+StandGood files put turns =
+    (before after : List Turn) (t : Turn) (text : List ℕ) → turns ≡ before ++ t ∷ after → t.head.method ≡ codes "GET" → t.answer ≡ Ok (text_of Dods text) → length text < body_limit
+    → StandsGood files put before t text
+
+-- In every run of `serve_connection`, over a shelf that tells files which hold bytes: the replies in what it put, by
+-- its clause `served`.
+abbrev pub ServedIsGood : Type 0
+ServedIsGood = (files : Files) (taken : List ℕ) (ended : Bool) (c : Connection) (served : Served) → HoldBytes files → IsServed (Some files) taken ended c served → StandGood files (put_from 1 c) c.turns
+
+-- and in one in which no fault came and memory was had, the replies to all requests of the input, by its clause
+-- `no_fault`
+abbrev pub AllAreGood : Type 0
+AllAreGood = (input : List ℕ) (files : Files) (gained : List ℕ) (served : Served) → HoldBytes files → (all : AnswersAll input files gained served) → StandGood files gained all.replies.turns

@@ -3,7 +3,7 @@
 //! of a function that does nothing. `specs/Ends` states them.
 #![tactic(auto)]
 
-ghost use Rattle.both_ends.specs.Ends.{ReplyDelivers, ReplyIsGood, ResultIsGood};
+ghost use Rattle.both_ends.specs.Ends.{AllAreGood, ReplyDelivers, ReplyIsGood, ResultIsGood, ServedIsGood};
 
 /// The data response that a target is answered with, of fewer than 2^40 bytes, is a good body, with the
 /// dataset and the values that the constraint leaves of the stored file.
@@ -20,4 +20,15 @@ pub fn reply_delivers()
 /// The verdict on the reply to GET is the verdict on the data response that it carries.
 pub fn reply_is_good()
     ensures law { ReplyIsGood }
+{}
+
+/// Each reply to GET that carries a data response of fewer than 2^40 bytes is good where it stands in what
+/// a connection has put, and the next one begins where it ends.
+pub fn served_is_good()
+    ensures law { ServedIsGood }
+{}
+
+/// The same of the replies to all requests of an input, where no fault came and memory was had.
+pub fn all_are_good()
+    ensures law { AllAreGood }
 {}

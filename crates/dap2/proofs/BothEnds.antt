@@ -1,18 +1,40 @@
--- The body of a table is a good one.
-use Rattle.std.proofs.Common.{◌≡◌, ℕ, ◌<◌, ◌^◌, List, length, sym, subst}
-use Rattle.csv_source.proofs.Fitting.{fits}
-use Rattle.csv_source.proofs.Formed.{formed}
-use Rattle.csv_source.proofs.TableNames.{table-has-words}
-use Rattle.csv_source.specs.Dataset.{table_dataset, table_trees}
-use Rattle.dap_model.proofs.Limits.{sent_is_read}
-use Rattle.dap_client.proofs.Bodies.{body_good}
-use Rattle.dap_client.specs.Verdict.{IsVerdict, dods_form, good}
-use Rattle.dap2.specs.Laws.{AnsweredIsGood}
+-- What one end writes is good for the other, over the bytes that were written.
+use Rattle.std.proofs.Common.{◌≡◌, ℕ, List, inl, inr, Option, Some, None, Ok, refl, ap, subst, option_map}
+use Rattle.dap_model.specs.Body.{body, too_large}
+use Rattle.dap_errors.specs.declared.cause.Cause.TheVariants.{TooLarge}
+use Rattle.dap_http.specs.declared.kind.Kind.{Kind}
+use Rattle.dap_http.specs.declared.kind.Kind.TheVariants.{Dods}
+use Rattle.dap_server.specs.Files.{Files, Stored}
+use Rattle.dap_server.specs.Results.{AnswersAsked, DodsAnswers, Left, Results, Text, text_of}
+use Rattle.dap_server.specs.Steps.{unless}
+use Rattle.both_ends.proofs.Resulting.{result_is_good}
+use Rattle.both_ends.proofs.Standing.{served_is_good}
+use Rattle.dap2.proofs.Headlines.{answers, told}
+use Rattle.dap2.specs.Laws.{AnsweredIsGood, VisitsAreGood}
+
+-- a text for data is a data response
+dods-kind : (left : Left) (t : Text) → Ok t ≡ unless (option_map (λ (leaf : ℕ). TooLarge leaf) (too_large left.dataset)) (text_of Dods (body left.dataset left.trees)) → t.kind ≡ Dods
+dods-kind left t e = go (too_large left.dataset) e where
+  go : (o : Option ℕ) → Ok t ≡ unless (option_map (λ (leaf : ℕ). TooLarge leaf) o) (text_of Dods (body left.dataset left.trees)) → t.kind ≡ Dods
+  go None s = let same : t ≡ text_of Dods (body left.dataset left.trees) = cc in ap (λ (x : Text). x.kind) same
+  go (Some leaf) s = cc s
+
+data-kind : (s : Stored) (query : List ℕ) (t : Text) → DodsAnswers s query (Ok t) → t.kind ≡ Dods
+data-kind s query t (inl (left, leaves, is)) = dods-kind left t is
+data-kind s query t (inr (why, leaves, is)) = cc is
+
+asked-kind : (files : Files) (name query : List ℕ) (t : Text) → AnswersAsked files (record { name = name; kind = Dods; query = query }) (Ok t) → t.kind ≡ Dods
+asked-kind files name query t (inl (s, opens, answered)) = data-kind s query t answered
+asked-kind files name query t (inr (why, opens, is)) = cc is
 
 pub answered-is-good : AnsweredIsGood
-answered-is-good file bytes text name_bytes file_bytes some is short =
-    let t = is.table in
-    let d = table_dataset t in
-    let ts = table_trees t in
-    let read = sent_is_read d ts (table-has-words file bytes t name_bytes file_bytes some is.is_table) (formed file bytes t is.is_table) (fits file bytes t is.is_table) is.is_small (subst (λ l. length l < 2 ^ 40) is.is_body short) in
-    (t, is.is_table, subst (λ l. IsVerdict dods_form l (good d ts)) (sym is.is_body) (body_good _ d ts read))
+answered-is-good target name query files a is hold w =
+    let (t, may, out) = w.says in
+    let results : Results target files (Ok t) = told files target (Ok t) may in
+    let kind = asked-kind files name query t (answers files target (record { name = name; kind = Dods; query = query }) (Ok t) is results) in
+    (t.text, out, λ short. result_is_good target files t.text hold (subst (λ (k : Kind). Results target files (Ok (text_of k t.text))) kind results) short)
+
+pub visits-are-good : {W : Type 0} → VisitsAreGood W
+visits-are-good files state v hold is =
+    let (taken, took, served) = is.requests in
+    (is.gained refl, served_is_good files taken _ v.connection v.served hold served)

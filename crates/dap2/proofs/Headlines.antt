@@ -1,11 +1,9 @@
 -- The headline, from the clauses that it gathers.
-use Rattle.std.proofs.Common.{◌≡◌, ◌⊎◌, ℕ, Bool, true, false, List, [], ◌∷◌, ◌++◌, inl, inr, Some, None, Option, Result, Ok, Err, refl, sym, ap, subst, ◌∙◌, option_map}
+use Rattle.std.proofs.Common.{◌≡◌, ◌⊎◌, ℕ, Bool, true, false, List, [], ◌++◌, inl, inr, Some, None, Result, Ok, Err, refl, sym, ap, subst, ◌∙◌, option_map}
 use Rattle.std.specs.Prelude.{codes, IsTrue, MatchBool, if◌then◌else◌}
 use Rattle.std.specs.Io.KnownBytes.{Appends}
 use Rattle.std.specs.List.{list_all}
 use Rattle.dap_outside.specs.Streams.{AppendsFront}
-use Rattle.dap2.specs.Lines.{IsSaid}
-use Rattle.std.specs.Str.{bytes_eq}
 use Rattle.std.proofs.lemmas.List.Sums.{AllPass-from_list_all}
 use Rattle.viable.specs.Prefix.{is_byte}
 use Rattle.httparse.specs.Grammar.{RequestHead, is_value_byte}
@@ -25,15 +23,18 @@ use Rattle.dap_server.specs.Steps.{found_or, unless}
 use Rattle.dap_server.proofs.Accepted.{accepted_is_served}
 use Rattle.dap_server.proofs.OneAnswer.{one_result}
 use Rattle.dap_model.specs.Body.{body}
-use Rattle.constraint_parse.specs.declared.constraint.Constraint.{Constraint}
 use Rattle.dap2.specs.Answer.{AnswerSays, MayResult, status_of}
-use Rattle.dap2.specs.Headline.{Asks, HasResult, Headline, IsAccepted, IsFirstCause, IsRefused, IsServed, served_body}
+use Rattle.dap2.proofs.FetchedWhole.{fetched-alone, fetched-whole}
+use Rattle.dap2.proofs.ReadBack.{read-back}
+use Rattle.dap2.proofs.ShownWhole.{shown-alone, shown-whole}
+use Rattle.dap2.specs.Headline.{Headline}
+use Rattle.dap2.specs.ServerHalf.{Asks, HasResult, IsFirstCause, IsRefused, IsServed, SaysLine, served_body}
 use Rattle.dap2.specs.declared.status.Status.{Status}
 use Rattle.dap2.specs.declared.status.Status.TheVariants as status
 
 -- ---- one result of a target
 
-answers : (files : Files) (text : List ℕ) (a : Asked) (r : Result Text Cause) → target_of text ≡ Some a → Results text files r → AnswersAsked files a r
+pub answers : (files : Files) (text : List ℕ) (a : Asked) (r : Result Text Cause) → target_of text ≡ Some a → Results text files r → AnswersAsked files a r
 answers files text a r e (inl (b, is_b, given)) =
     let same : b ≡ a = same_value b a (Ok b) refl (is_b ∙ ap (λ o. found_or o causes.BadTarget) e) in
     subst (λ (x : Asked). AnswersAsked files x r) same given
@@ -69,7 +70,7 @@ has-result files target name query r is bytes has = record {
 
 -- ---- what is put
 
-told : (files : Files) (target : List ℕ) (r : Result Text Cause) → MayResult (Some files) target r → Results target files r
+pub told : (files : Files) (target : List ℕ) (r : Result Text Cause) → MayResult (Some files) target r → Results target files r
 told files target r (others, same, given) = subst (λ (fs : Files). Results target fs r) same given
 
 put-body : (files : Files) (target bytes : List ℕ) → HasResult target files (Ok (text_of Dods bytes)) → (Out Front Line : List ℕ → Type 0) → AnswerSays (Some files) target Out Front Line status.Complete → Out bytes
@@ -126,8 +127,20 @@ refuses files target name query why is bytes has =
     let all = has-result files target name query (Err why) is bytes has in
     record {
       has = all;
-      never = λ p says. never-whole files target why all (Appends p.out p.out_then) (AppendsFront p.out p.out_then) (λ line. IsSaid line p.err_faults p.err_faults_then p.err p.err_then) says;
-      put = λ p status either says. put-cause files target why all (Appends p.out p.out_then) (AppendsFront p.out p.out_then) (λ line. IsSaid line p.err_faults p.err_faults_then p.err p.err_then) status either says;
+      refused = λ a status w sound. w.comes (Err why) all.must sound.0 sound.1 sound.2;
+      never = λ a w. never-whole files target why all (Appends a.puts.out a.puts.out_then) (AppendsFront a.puts.out a.puts.out_then) (SaysLine a.puts) w.says;
+      put = λ a status either w. put-cause files target why all (Appends a.puts.out a.puts.out_then) (AppendsFront a.puts.out a.puts.out_then) (SaysLine a.puts) status either w.says;
+    }
+
+serves : (files : Files) (target name query bytes : List ℕ) → target_of target ≡ Some (record { name = name; kind = Dods; query = query }) → IsTrue (list_all is_byte query)
+    → Results target files (Ok (text_of Dods bytes)) → IsServed target files bytes
+serves files target name query bytes is all_bytes has =
+    let all = has-result files target name query (Ok (text_of Dods bytes)) is all_bytes has in
+    record {
+      has = all;
+      complete = λ a status w sound. w.comes (Ok (text_of Dods bytes)) all.must sound.0 sound.1 sound.2;
+      put = λ a w. put-body files target bytes all (Appends a.puts.out a.puts.out_then) (AppendsFront a.puts.out a.puts.out_then) (SaysLine a.puts) w.says;
+      carried = carried bytes;
     }
 
 first-cause : (target query : List ℕ) (files : Files) (s : Stored) (why : Cause) → Asks target query files s → IsFirstCause query s why → Results target files (Err why)
@@ -145,12 +158,16 @@ first-cause target query files s why a first =
           ap Err is ∙ sym (ap (λ o. unless (option_map (λ k. causes.TooLarge k) o) (text_of Dods (body left.dataset left.trees))) large),
         )
 
-pub headline : Headline
-headline = record {
+pub headline : {W : Type 0} → Headline W
+headline {W} = record {
   accepted = λ target query files s c a (spells, none, small).
-      let has = has-result files target a.name query (Ok (text_of Dods (served_body s c))) a.is_target a.is_bytes (accepted_is_served target a.name query files s c a.is_target a.is_stored spells none small) in
-      record { has = has; put = λ p says. put-body files target (served_body s c) has (Appends p.out p.out_then) (AppendsFront p.out p.out_then) (λ line. IsSaid line p.err_faults p.err_faults_then p.err p.err_then) says; carried = carried (served_body s c) };
+      serves files target a.name query (served_body s c) a.is_target a.is_bytes (accepted_is_served target a.name query files s c a.is_target a.is_stored spells none small);
   refused = λ target query files s why a first. refuses files target a.name query why a.is_target a.is_bytes (first-cause target query files s why a first);
   damaged = λ target name query files why is bytes opens.
       refuses files target name query why is bytes (inl (record { name = name; kind = Dods; query = query }, sym (ap (λ o. found_or o causes.BadTarget) is), inr (why, opens, refl)));
+  read_back = read-back;
+  shown = shown-whole;
+  shown_alone = shown-alone;
+  fetched = fetched-whole;
+  fetched_alone = fetched-alone;
 }

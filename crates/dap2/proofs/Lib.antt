@@ -1,9 +1,13 @@
 pub mod Answering
 pub mod BothEnds
 pub mod Commanding
+pub mod FetchedWhole
 pub mod Fetching
 pub mod Headlines
 pub mod Obeying
 pub mod Pieces
+pub mod ReadBack
+pub mod Seeds
 pub mod Shown
+pub mod ShownWhole
 pub mod Visiting

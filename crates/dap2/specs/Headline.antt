@@ -1,91 +1,56 @@
 -- THE HEADLINE. For every stored file, accepted constraint and number of workers, the served body is the
 -- constrained DDS, the `Data:` line and the XDR of the file's dataset filtered by the constraint; every other
--- constraint is answered by its first cause.
+-- constraint is answered by its first cause; and the client, whatever pieces it reads, shows that filtered
+-- dataset from exactly those bytes, and calls nothing else than a data response complete.
 --
--- `run` says by `answer` and `answered` what it puts for each target, for 1 to 64 workers, and
--- `serve_connection` by `served` and `no_fault` what it puts for each request. This is what that is.
-use Rattle.std.specs.Prelude.{◌≡◌, ℕ, ◌⊎◌, List, ◌++◌, codes, IsTrue, Option, Some, None, Result, Ok, Err}
-use Rattle.std.specs.Io.KnownBytes.{Appends}
+-- `ServerHalf` says what a target asks, and what is served; `ClientHalf` what a run of `show` and of `fetch` is.
+use Rattle.std.specs.Prelude.{◌≡◌, ℕ, ◌<◌, List, [], ◌∷◌, ◌++◌, length, codes, IsTrue, Some, Ok, Err}
 use Rattle.std.specs.List.{list_all}
-use Rattle.viable.specs.Prefix.{is_byte, IsFault}
-use Rattle.dap_model.specs.Body.{too_large}
-use Rattle.dap_model.specs.Dds.{dds}
-use Rattle.dap_model.specs.Xdr.{xdr}
+use Rattle.dap_types.specs.Limits.{body_limit}
+use Rattle.viable.specs.Prefix.{is_byte}
 use Rattle.dap_errors.specs.declared.cause.Cause.{Cause}
-use Rattle.dap_errors.specs.declared.cause.Cause.TheVariants.{Syntax, TooLarge}
-use Rattle.constraint_parse.specs.Values.{Spells}
 use Rattle.constraint_parse.specs.declared.constraint.Constraint.{Constraint}
-use Rattle.grid_projection.specs.Resolved.{cause}
 use Rattle.httparse.specs.Grammar.{RequestHead}
-use Rattle.dap_http.specs.Carried.{Carries}
 use Rattle.dap_http.specs.Targets.{target_of}
 use Rattle.dap_http.specs.declared.kind.Kind.TheVariants.{Dods}
-use Rattle.dap_outside.specs.Streams.{AppendsFront}
 use Rattle.dap_server.specs.Files.{Files, Stored}
-use Rattle.dap_server.specs.Replies.{IsAnswered, reply_of, request}
-use Rattle.dap_server.specs.Results.{Opens, Results, Text, error_object, left_of, text_of}
-use Rattle.dap2.specs.Answer.{AnswerSays, MustResult, status_of}
-use Rattle.dap2.specs.Lines.{IsSaid}
+use Rattle.dap_server.specs.Replies.{reply_of, request}
+use Rattle.dap_server.specs.Results.{Opens, left_of}
+use Rattle.dap_server.specs.Results as results
+use Rattle.both_ends.specs.Ends.{HoldBytes}
+use Rattle.dap2.specs.ClientHalf.{AreReplies, FetchesData, Fetching, HasRead, IsFetched, IsResponse, IsShown, Response, Showing, Shows, text_of, text_of_all}
+use Rattle.dap2.specs.ServerHalf.{Asks, IsAccepted, IsFirstCause, IsRefused, IsServed, served_body}
 use Rattle.dap2.specs.declared.status.Status.{Status}
-use Rattle.dap2.specs.declared.status.Status.TheVariants.{Complete, Refused, Damaged}
+use Rattle.dap2.specs.declared.status.Status.TheVariants.{Complete}
 
--- the target asks for the values of a stored file, by this query
-pub record Asks (target query : List ℕ) (files : Files) (s : Stored) : Type 0 where
-  pub name : List ℕ
-  pub is_target : target_of target ≡ Some (record { name = name; kind = Dods; query = query })
-  pub is_stored : Opens files name (Ok s)
-  pub is_bytes : IsTrue (list_all is_byte query)
+-- the served body, with the filtered dataset and its values
+abbrev pub served : Stored → Constraint → Response
+served s c = let left = left_of s c in record { bytes = served_body s c; dataset = left.dataset; trees = left.trees }
 
--- the constraint that the query spells has no cause, and what it leaves is not too large
-abbrev pub IsAccepted : List ℕ → Stored → Constraint → Type 0
-IsAccepted query s c = Spells query c × (cause s.dataset c ≡ None) × (too_large (left_of s c).dataset ≡ None)
+-- It is a data response of that dataset, and so is what the reply to GET carries, alone or, where it is in chunks,
+-- before others.
+pub record IsReadBack (s : Stored) (c : Constraint) : Type 0 where
+  pub is_response : IsResponse (served s c)
+  pub alone : (k : ℕ) (head : RequestHead) → head.method ≡ codes "GET" → AreReplies (served s c ∷ []) (reply_of (request k head) (Ok (results.text_of Dods (served_body s c))))
+  pub before : (k : ℕ) (head : RequestHead) (rs : List Response) (more : List ℕ) → head.method ≡ codes "GET" → head.minor ≡ 1 → AreReplies rs more
+      → AreReplies (served s c ∷ rs) (reply_of (request k head) (Ok (results.text_of Dods (served_body s c))) ++ more)
 
--- any other query has a first cause: its syntax, else its items and clauses, else the size of what they leave
-abbrev pub IsFirstCause : List ℕ → Stored → Cause → Type 0
-IsFirstCause query s why =
-    ((place : ℕ) × IsFault is_byte Spells query place × (why ≡ Syntax place))
-    ⊎ ((c : Constraint) × Spells query c
-    × ((cause s.dataset c ≡ Some why) ⊎ ((leaf : ℕ) × (cause s.dataset c ≡ None) × (too_large (left_of s c).dataset ≡ Some leaf) × (why ≡ TooLarge leaf))))
-
--- the constrained DDS, the `Data:` line and the XDR of the filtered dataset
-abbrev pub served_body : Stored → Constraint → List ℕ
-served_body s c = let left = left_of s c in dds left.dataset ++ codes "Data:\n" ++ xdr left.dataset left.trees
-
--- The target has this result and no other, so `answer` ends with its status where no fault came and memory was
--- had; and GET is answered by it.
-pub record HasResult (target : List ℕ) (files : Files) (r : Result Text Cause) : Type 0 where
-  pub must : MustResult (Some files) target r
-  pub only : (other : Result Text Cause) → Results target files other → other ≡ r
-  pub get : (k : ℕ) (head : RequestHead) (answer : Result Text Cause) → head.method ≡ codes "GET" → head.target ≡ target → IsAnswered files (request k head) answer → answer ≡ r
-
--- what a run did to its output and to standard error
-pub record Puts : Type 0 where
-  pub out : Option (List ℕ)
-  pub out_then : Option (List ℕ)
-  pub err : Option (List ℕ)
-  pub err_then : Option (List ℕ)
-  pub err_faults : ℕ
-  pub err_faults_then : ℕ
-
--- the clause `answer` of `run` for this target, over a shelf that tells these files
-abbrev pub Says : List ℕ → Files → Puts → Status → Type 0
-Says target files p status =
-    AnswerSays (Some files) target (Appends p.out p.out_then) (AppendsFront p.out p.out_then) (λ line. IsSaid line p.err_faults p.err_faults_then p.err p.err_then) status
-
--- `answer` puts a body where it is complete, and the reply to GET carries it
-pub record IsServed (target : List ℕ) (files : Files) (body : List ℕ) : Type 0 where
-  pub has : HasResult target files (Ok (text_of Dods body))
-  pub put : (p : Puts) → Says target files p Complete → Appends p.out p.out_then body
-  pub carried : (k : ℕ) (head : RequestHead) → head.method ≡ codes "GET" → Carries (reply_of (request k head) (Ok (text_of Dods body))) body
-
--- it is never complete for a cause, and puts the Error object of this one where it is refused, or the file damaged
-pub record IsRefused (target : List ℕ) (files : Files) (why : Cause) : Type 0 where
-  pub has : HasResult target files (Err why)
-  pub never : (p : Puts) → Says target files p Complete → ⊥
-  pub put : (p : Puts) (status : Status) → (status ≡ Refused) ⊎ (status ≡ Damaged) → Says target files p status → (status ≡ status_of why) × Appends p.out p.out_then (error_object why)
-
-pub record Headline : Type 0 where
+-- over the links W of a dial
+pub record Headline (W : Type 0) : Type 0 where
+  -- the server
   pub accepted : (target query : List ℕ) (files : Files) (s : Stored) (c : Constraint) → Asks target query files s → IsAccepted query s c → IsServed target files (served_body s c)
   pub refused : (target query : List ℕ) (files : Files) (s : Stored) (why : Cause) → Asks target query files s → IsFirstCause query s why → IsRefused target files why
   pub damaged : (target name query : List ℕ) (files : Files) (why : Cause) → target_of target ≡ Some (record { name = name; kind = Dods; query = query }) → IsTrue (list_all is_byte query)
       → Opens files name (Err why) → IsRefused target files why
+  -- what is served of files that hold bytes is read back
+  pub read_back : (target query : List ℕ) (files : Files) (s : Stored) (c : Constraint) → Asks target query files s → IsAccepted query s c → HoldBytes files
+      → length (served_body s c) < body_limit → IsReadBack s c
+  -- the client: `show` of a data response shows it, and nothing else is complete
+  pub shown : (s : Showing) (status : Status) (r : Response) → Shows s status → s.left ≡ Some r.bytes → IsResponse r → IsShown s status (text_of r)
+  pub shown_alone : (s : Showing) (bytes : List ℕ) → Shows s Complete → s.left ≡ Some bytes → (r : Response) × (r.bytes ≡ bytes) × IsResponse r
+  -- `fetch` shows as many data responses as there are constraints, out of the replies of its link, and nothing else
+  -- is complete
+  pub fetched : (f : Fetching W) (link : W) (input : List ℕ) (status : Status) (rs : List Response) → FetchesData f status → HasRead f link input → AreReplies rs input
+      → length rs ≡ length f.constraints → IsFetched f link status (text_of_all rs)
+  pub fetched_alone : (f : Fetching W) (link : W) (input : List ℕ) → FetchesData f Complete → HasRead f link input
+      → (rs : List Response) × (length rs ≡ length f.constraints) × AreReplies rs input

@@ -1,24 +1,25 @@
--- What both ends of the program promise of one another, over all targets and files.
-use Rattle.std.specs.Prelude.{◌≡◌, ◌≢◌, ℕ, ◌<◌, ◌^◌, List, [], All, length, codes, None, Ok}
-use Rattle.csv_source.specs.Dataset.{table_dataset, table_trees}
-use Rattle.csv_source.specs.Causes.{table_of}
-use Rattle.csv_source.specs.Names.{without_suffix}
-use Rattle.csv_source.specs.Table.{CsvTable}
-use Rattle.dap_model.specs.Body.{body, too_large}
-use Rattle.dap_client.specs.Verdict.{IsVerdict, dods_form, good}
-use Rattle.file_names.specs.Names.{segment}
+-- What one end of the program writes the other calls good, over the bytes that were written.
+use Rattle.std.specs.Prelude.{◌≡◌, ℕ, ◌<◌, List, length, Some}
+use Rattle.std.specs.Io.KnownBytes.{Appends}
+use Rattle.dap_types.specs.Limits.{body_limit}
+use Rattle.dap_http.specs.Targets.{target_of}
+use Rattle.dap_http.specs.declared.kind.Kind.TheVariants.{Dods}
+use Rattle.dap_server.specs.Connections.{put_from}
+use Rattle.dap_server.specs.Files.{Files}
+use Rattle.both_ends.specs.Ends.{HoldBytes, IsGoodResult, StandGood}
+use Rattle.dap2.specs.Serve.{IsVisit, LinkState, Visit}
+use Rattle.dap2.specs.ServerHalf.{Answering, Says}
+use Rattle.dap2.specs.declared.status.Status.TheVariants.{Complete}
 
--- the bytes of a file of that name are a table that is not too large, and the text is the body of its
--- data response
-pub record IsBodyOf (file bytes text : List ℕ) : Type 0 where
-  pub table : CsvTable
-  pub is_table : table_of file bytes ≡ Ok table
-  pub is_small : too_large (table_dataset table) ≡ None
-  pub is_body : text ≡ body (table_dataset table) (table_trees table)
-
--- the body for a file, within the budget of bytes, is whole and good, and the dataset and the trees of the
--- verdict are those of the file's table. What stands behind the last `/` of the file's name is not `.csv`
--- alone or nothing
+-- Where `answer` is complete for a target that asks for values, over a shelf that tells files which hold bytes: what
+-- the output gained is, if it has fewer than 2^40 bytes, a good data response of what the constraint leaves of the
+-- stored file.
 abbrev pub AnsweredIsGood : Type 0
-AnsweredIsGood = (file bytes text : List ℕ) → All (λ b. b < 256) file → All (λ b. b < 256) bytes → without_suffix (codes ".csv") (segment file) ≢ [] → IsBodyOf file bytes text → length text < 2 ^ 40 →
-    (t : CsvTable) × (table_of file bytes ≡ Ok t) × IsVerdict dods_form text (good (table_dataset t) (table_trees t))
+AnsweredIsGood = (target name query : List ℕ) (files : Files) (a : Answering) → target_of target ≡ Some (record { name = name; kind = Dods; query = query }) → HoldBytes files → Says target files a Complete
+    → (text : List ℕ) × Appends a.puts.out a.puts.out_then text × (length text < body_limit → IsGoodResult target files text)
+
+-- Each link that `serve` has handed back gained the replies to its requests, and each of them that answers GET with
+-- such a data response is good where it stands there.
+abbrev pub VisitsAreGood : Type 0 → Type 0
+VisitsAreGood W = (files : Files) (state : W → LinkState) (v : Visit W) → HoldBytes files → IsVisit (Some files) state v
+    → Appends (state v.came).written (state v.back).written (put_from 1 v.connection) × StandGood files (put_from 1 v.connection) v.connection.turns

@@ -1,10 +1,13 @@
 pub mod Answer
+pub mod ClientHalf
 pub mod Fetch
 pub mod Folder
 pub mod Headline
 pub mod Laws
 pub mod Lines
 pub mod Serve
+pub mod ServerHalf
 pub mod Show
+pub mod Soak
 pub mod Words
 pub mod inner

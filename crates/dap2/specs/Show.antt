@@ -4,6 +4,7 @@ use Rattle.std.specs.Prelude.{◌≡◌, ℕ, ◌⊎◌, ⊤, List, ◌++◌, le
 use Rattle.std.specs.Fmt.{signed_decimal}
 use Rattle.std.specs.Io.KnownBytes.{Appends}
 use Rattle.dap_errors.specs.declared.object.ErrorObject.{ErrorObject}
+use Rattle.dap_types.specs.Limits.{most_piece}
 use Rattle.dap_types.specs.Model.{Dataset, Tree}
 use Rattle.dap_model.specs.Partly.{ShowsLines}
 use Rattle.dap_model.specs.Shown.{shown}
@@ -45,7 +46,7 @@ ShowSays left now Ended AtEnd old new Line BadReply =
     Takes left now (λ taken. (field : BadField) × IsWrongTaken Ended AtEnd field taken × Gains old new (ShowsLines (take field.place taken)) × Line (bad_reply_line field))
 ShowSays left now Ended AtEnd old new Line ReadFault = Takes left now (λ taken. Gains old new (StopsWithin taken))
 ShowSays left now Ended AtEnd old new Line WriteFault = Takes left now (λ taken. Gains old new (BreaksOff taken))
-ShowSays left now Ended AtEnd old new Line Memory = (new ≡ old) × Takes left now (HasFewValues 65536)
+ShowSays left now Ended AtEnd old new Line Memory = (new ≡ old) × Takes left now (HasFewValues most_piece)
 ShowSays left now Ended AtEnd old new Line Words = ⊥
 ShowSays left now Ended AtEnd old new Line Refused = ⊥
 ShowSays left now Ended AtEnd old new Line Damaged = ⊥

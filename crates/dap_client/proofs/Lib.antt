@@ -4,10 +4,12 @@ pub mod Bodies
 pub mod DasBodies
 pub mod DataLines
 pub mod DdsBodies
+pub mod EachBody
 pub mod Ending
 pub mod EveryObject
 pub mod Filling
 pub mod FirstWords
+pub mod GoodParts
 pub mod Hosts
 pub mod Lasts
 pub mod Lifted

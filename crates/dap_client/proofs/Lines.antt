@@ -30,7 +30,7 @@ both_none (x ∷ a) b is = cc
 of_none : (d : Dataset) (bs put : List ℕ) → bs ≡ [] → Shows d bs put → (whole : List ℕ) × (more : List ℕ) × IsFront d [] whole more
 of_none d bs put none s = (s.whole, s.more, subst (λ l. IsFront d l s.whole s.more) none s.is_front)
 
-empty_front : (d : Dataset) → (whole : List ℕ) × (more : List ℕ) × IsFront d [] whole more
+pub empty_front : (d : Dataset) → (whole : List ℕ) × (more : List ℕ) × IsFront d [] whole more
 empty_front d = ⊎_elim
     (λ e. let (front, rest) = both_none e.front e.rest e.parts in of_none d (e.front ++ []) _ (append-nil e.front ∙ front) (shows d e.leads.fields [] e.front [] e.leads.steps e.leads.spelled refl))
     (λ r. ⊎_elim

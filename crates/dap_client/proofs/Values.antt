@@ -66,7 +66,7 @@ bad_more d bs more fault place b = record {
   is_place = b.is_place;
 }
 
-more_front : (d : Dataset) (bs more : List ℕ) (n : ℕ) (ts : List Tree) → EndsAt d ts bs n → n < length bs → HasMore d (bs ++ more) n
+pub more_front : (d : Dataset) (bs more : List ℕ) (n : ℕ) (ts : List Tree) → EndsAt d ts bs n → n < length bs → HasMore d (bs ++ more) n
 more_front d bs more n ts at less = by (drop n bs) (take-append-drop n bs) (length-drop n bs)
   where
     by : (rest : List ℕ) → take n bs ++ rest ≡ bs → length rest ≡ length bs - n → HasMore d (bs ++ more) n

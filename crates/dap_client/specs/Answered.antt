@@ -2,6 +2,7 @@
 use Rattle.std.specs.Prelude.{◌≡◌, ℕ, ◌≤◌, ◌⊎◌, ⊤, Bool, List, [], ◌++◌, length, take, IsTrue}
 use Rattle.das_text.specs.Das.{das}
 use Rattle.das_text.specs.Model.{Attributes}
+use Rattle.dap_types.specs.Limits.{most_piece}
 use Rattle.dap_types.specs.Model.{Dataset}
 use Rattle.dap_model.specs.Dds.{dds}
 use Rattle.dap_model.specs.Partly.{ShowsLines}
@@ -95,4 +96,4 @@ Tells form reply ended rest text WriteFault =
     (body : List ℕ) × BringsFirst reply body × ShowsBroken form (take budget body) text
 Tells form reply ended rest text LinkFault = ⊥
 Tells form reply ended rest text Memory =
-    (text ≡ []) × (form ≡ dods_form → (body : List ℕ) → Brings reply body → HasFewValues 65536 body)
+    (text ≡ []) × (form ≡ dods_form → (body : List ℕ) → Brings reply body → HasFewValues most_piece body)

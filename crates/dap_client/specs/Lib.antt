@@ -2,6 +2,7 @@ pub mod After
 pub mod Answered
 pub mod Fetched
 pub mod Following
+pub mod GoodParts
 pub mod Outcomes
 pub mod Replies
 pub mod Shows

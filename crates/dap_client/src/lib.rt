@@ -20,8 +20,6 @@ mod replies;
 mod reply;
 mod showing;
 mod stage;
-#[cfg(test)]
-mod tests;
 mod text_body;
 mod text_stage;
 

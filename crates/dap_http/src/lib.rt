@@ -22,8 +22,6 @@ pub mod laws;
 mod reply_judge;
 mod reply_reader;
 mod target;
-#[cfg(test)]
-mod tests;
 mod texts;
 mod unframer;
 mod url;

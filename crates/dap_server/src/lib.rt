@@ -6,8 +6,6 @@
 mod answer;
 mod bodies;
 mod connection;
-#[cfg(test)]
-mod connection_tests;
 mod framed;
 mod front;
 mod kinds;

@@ -8,7 +8,7 @@ use Rattle.netcdf_source.specs.Versions.{bytes_in, number_width, place_width}
 use Rattle.netcdf_source.specs.declared.version.Version.{Version}
 use Rattle.netcdf_source.specs.declared.version.Width.{Width}
 use Rattle.netcdf_source.specs.declared.version.Width.TheVariants.{Four, Eight}
-use Rattle.netcdf_source.specs.inner.Sound.{most_members}
+use Rattle.netcdf_source.specs.inner.Sound.{grid_members}
 use Rattle.netcdf_source.specs.declared.header.Dimension.{Dimension}
 use Rattle.netcdf_source.specs.declared.header.Variable.{Variable}
 use Rattle.netcdf_source.specs.declared.stop.Failure.{Failure}
@@ -55,26 +55,26 @@ unfolding in_turn id_fields
 ids_len width dims before [] = omega arith
 ids_len width dims before (n ∷ ids) = omega (arith, some_bytes width, ids_len width dims (before ++ n ∷ []) ids)
 
-variable_len : (version : Version) (dims : List Dimension) (before : List Variable) (v : VariableTree) → 4 * most_members (variable v) ≤ fields_len (variable_fields version dims before v)
+variable_len : (version : Version) (dims : List Dimension) (before : List Variable) (v : VariableTree) → 4 * grid_members (variable v) ≤ fields_len (variable_fields version dims before v)
 unfolding variable_fields
 variable_len version dims before v =
     let width = number_width version in
     let ids = in_turn (id_fields width dims) (λ n. n) [] v.dimensions in
     omega (arith, some_bytes width, some_bytes (place_width version), ids_len width dims [] v.dimensions, fields_len-append ids (rest2 version dims (shares dims before) v.dimensions v.attributes v.number v.size v.begin))
 
-variables_len : (version : Version) (dims : List Dimension) (before : List Variable) (vs : List VariableTree) → 4 * sum_by most_members (map variable vs) ≤ fields_len (in_turn (variable_fields version dims) variable before vs)
+variables_len : (version : Version) (dims : List Dimension) (before : List Variable) (vs : List VariableTree) → 4 * sum_by grid_members (map variable vs) ≤ fields_len (in_turn (variable_fields version dims) variable before vs)
 unfolding in_turn
 variables_len version dims before [] = omega arith
 variables_len version dims before (v ∷ vs) =
     omega (
       arith,
-      sum_by-cons most_members (variable v) (map variable vs),
+      sum_by-cons grid_members (variable v) (map variable vs),
       variable_len version dims before v,
       fields_len-append (variable_fields version dims before v) (in_turn (variable_fields version dims) variable (before ++ variable v ∷ []) vs),
       variables_len version dims (before ++ variable v ∷ []) vs,
     )
 
-pub header_len : (h : HeaderTree) → 4 * sum_by most_members (contents h).variables ≤ fields_len (header_fields h)
+pub header_len : (h : HeaderTree) → 4 * sum_by grid_members (contents h).variables ≤ fields_len (header_fields h)
 unfolding header_fields
 header_len h =
     let width = number_width h.version in

@@ -11,7 +11,7 @@ use Rattle.netcdf_source.specs.Versions.{number_width, largest}
 use Rattle.netcdf_source.specs.declared.version.Version.{Version}
 use Rattle.netcdf_source.specs.declared.version.Width.{Width}
 use Rattle.netcdf_source.specs.Parts.{length_at, is_record, part, share, shares}
-use Rattle.netcdf_source.specs.inner.Sound.{InTurn, IsDimension, IsId, IsVariable, IsSound, most_members}
+use Rattle.netcdf_source.specs.inner.Sound.{InTurn, IsDimension, IsId, IsVariable, IsSound, grid_members}
 use Rattle.netcdf_source.specs.declared.header.Contents.{Contents}
 use Rattle.netcdf_source.specs.declared.header.Dimension.{Dimension}
 use Rattle.netcdf_source.specs.declared.header.Variable.{Variable}
@@ -124,11 +124,11 @@ variable_good version dims before v h =
       place = leb-false _ _ (bad_if-none _ _ after_attributes.1.1.0);
     }
 
-few_variables : (vs : List Variable) → length vs ≤ sum_by most_members vs
+few_variables : (vs : List Variable) → length vs ≤ sum_by grid_members vs
 few_variables [] = omega arith
-few_variables (v ∷ vs) = omega (arith, sum_by-cons most_members v vs, few_variables vs)
+few_variables (v ∷ vs) = omega (arith, sum_by-cons grid_members v vs, few_variables vs)
 
-header_good : (h : HeaderTree) → AreGood (header_fields h) → sum_by most_members (contents h).variables ≤ 1000000 → IsSound (contents h)
+header_good : (h : HeaderTree) → AreGood (header_fields h) → sum_by grid_members (contents h).variables ≤ 1000000 → IsSound (contents h)
 unfolding header_fields
 header_good h good few =
     let width = number_width h.version in
@@ -155,7 +155,7 @@ read_sound version bytes c rest fits short e =
     go : (p : FlatHeader) (end : Result (List ℕ) Failure) → Ends (header_fields (header_of version p)) bytes end → with_value (contents (header_of version p)) end ≡ Ok (c, rest) → IsSound c
     go p (Ok r) h same =
         let is : contents (header_of version p) ≡ c = ap (λ (x : Contents × List ℕ). x.0) (ok_is (contents (header_of version p), r) (c, rest) same) in
-        let few : sum_by most_members (contents (header_of version p)).variables ≤ 1000000 = omega (arith, short, header_len (header_of version p), ends_len (header_fields (header_of version p)) bytes r h) in
+        let few : sum_by grid_members (contents (header_of version p)).variables ≤ 1000000 = omega (arith, short, header_len (header_of version p), ends_len (header_fields (header_of version p)) bytes r h) in
         subst IsSound is (header_good (header_of version p) (good_ends (header_fields (header_of version p)) bytes r h) few)
       where
         ok_is : (x y : Contents × List ℕ) → Path (Result (Contents × List ℕ) Failure) (Ok x) (Ok y) → x ≡ y
@@ -165,5 +165,5 @@ read_sound version bytes c rest fits short e =
 -- the header that some bytes begin with is sound
 pub stands_sound : (h : HeaderTree) (front rest : List ℕ) → length front ≤ 1048576 → Stands h front (Ok rest) → IsSound (contents h)
 stands_sound h front rest short s =
-    let few : sum_by most_members (contents h).variables ≤ 1000000 = omega (arith, short, header_len h, ends_len (header_fields h) s.body rest s.ends, ap length s.begins) in
+    let few : sum_by grid_members (contents h).variables ≤ 1000000 = omega (arith, short, header_len h, ends_len (header_fields h) s.body rest s.ends, ap length s.begins) in
     header_good h (good_ends (header_fields h) s.body rest s.ends) few

@@ -5,7 +5,7 @@ use Rattle.std.proofs.lemmas.Bool.Decides.{Decides-eqb}
 use Rattle.std.proofs.lemmas.Slice.Eq.{bytes_eq-Decides}
 use Rattle.dap_model.proofs.Tests.{both_true}
 use Rattle.netcdf_source.specs.Mapping.{VariableShape, shape_of, HaveSameShape}
-use Rattle.netcdf_source.specs.inner.Shapes.{all_same, type_number, same_dimension, same_variable}
+use Rattle.netcdf_source.specs.inner.Shapes.{all_same, type_number, same_dimension, same_variable, have_same_shape}
 use Rattle.netcdf_source.specs.declared.external_type.ExternalType.{ExternalType}
 use Rattle.netcdf_source.specs.declared.external_type.ExternalType.TheVariants.{Byte, Char, Short, Int, Float, Double, UByte, UShort, UInt, Int64, UInt64}
 use Rattle.netcdf_source.specs.declared.header.Contents.{Contents}
@@ -109,7 +109,8 @@ map_id : {X : Type 0} (xs : List X) → map (λ x. x) xs ≡ xs
 map_id [] = refl
 map_id (x ∷ xs) = ap (λ ys. x ∷ ys) (map_id xs)
 
-pub shapes_are : (c d : Contents) → (all_same same_dimension c.dimensions d.dimensions && all_same same_variable c.variables d.variables) ≡ true → HaveSameShape c d
+pub shapes_are : (c d : Contents) → have_same_shape c d ≡ true → HaveSameShape c d
+unfolding have_same_shape
 shapes_are c d h =
     let p = both_true (all_same same_dimension c.dimensions d.dimensions) (all_same same_variable c.variables d.variables) h in
     record {
@@ -117,7 +118,8 @@ shapes_are c d h =
       variables = lists_are same_variable shape_of variable_is c.variables d.variables p.1;
     }
 
-pub shapes_same : (c d : Contents) → HaveSameShape c d → (all_same same_dimension c.dimensions d.dimensions && all_same same_variable c.variables d.variables) ≡ true
+pub shapes_same : (c d : Contents) → HaveSameShape c d → have_same_shape c d ≡ true
+unfolding have_same_shape
 shapes_same c d h =
     both (all_same same_dimension c.dimensions d.dimensions) (all_same same_variable c.variables d.variables)
     (lists_same same_dimension (λ x. x) dimension_same c.dimensions d.dimensions (map_id c.dimensions ∙ h.dimensions ∙ sym (map_id d.dimensions)))
@@ -136,6 +138,3 @@ other_length same (x ∷ xs) (y ∷ ys) h = right (same x y) (all_same same xs y
     right : (a b : Bool) → b ≡ false → (a && b) ≡ false
     right true b e = e
     right false b e = refl
-
-pub both_of : (a b : Bool) → (a && b) ≡ true → (a ≡ true) × (b ≡ true)
-both_of a b e = both_true a b e

@@ -107,28 +107,29 @@ same_value xs ys (Ok r) rest e =
     (ap (λ (q : List Attribute × List ℕ). q.0) p, ap (λ (q : List Attribute × List ℕ). Ok q.1) p)
 same_value xs ys (Err f) rest e = absurd cc
 
-same_list : (xs ys : List Attribute) (behind : Result (List ℕ) Failure) (rest : List ℕ) → listed xs behind ≡ Ok (ys, rest) → xs ≡ ys
+same_list : (xs ys : List Attribute) (behind : Result (List ℕ) Failure) (rest : List ℕ) → listed xs behind ≡ Ok (ys, rest) → (xs ≡ ys) × (behind ≡ Ok rest)
 same_list xs ys (Ok r) rest e =
     let p : Path (List Attribute × List ℕ) (xs, r) (ys, rest) = cc in
-    ap (λ (q : List Attribute × List ℕ). q.0) p
+    (ap (λ (q : List Attribute × List ℕ). q.0) p, ap (λ (q : List Attribute × List ℕ). Ok q.1) p)
 same_list xs ys (Err f) rest e = absurd cc
 
--- what is read from the bytes is read from those in front of what is left
+-- what is read from the bytes is read from those in front of what is left, and takes all of these
 cut_list : (version : Version) (n : ℕ) (bytes rest : List ℕ) → IsBytes bytes → behind_at version n bytes ≡ Ok rest
-    → (front : List ℕ) × (bytes ≡ front ++ rest) × (attributes_in version n front ≡ attributes_in version n bytes)
+    → (front : List ℕ) × (bytes ≡ front ++ rest) × (attributes_in version n front ≡ attributes_in version n bytes) × (behind_at version n front ≡ Ok [])
 cut_list version n bytes rest fits is =
     let f = times_found (attribute_fields version) attribute (next_attribute version) (attribute_sound version) n [] bytes fits in
     let whole : times (next_attribute version) n [] bytes ≡ Ok (attributes_in version n bytes, rest) = times-listed version n [] bytes ∙ ap (listed (attributes_in version n bytes)) is in
     go f.0 f.1 f.2 f.3 (sym f.4 ∙ whole)
   where
     go : (ts : List AttributeTree) → length ts ≡ n → (end : Result (List ℕ) Failure) → Ends (fields_of version ts) bytes end → with_value (map attribute ts) end ≡ Ok (attributes_in version n bytes, rest)
-        → (front : List ℕ) × (bytes ≡ front ++ rest) × (attributes_in version n front ≡ attributes_in version n bytes)
+        → (front : List ℕ) × (bytes ≡ front ++ rest) × (attributes_in version n front ≡ attributes_in version n bytes) × (behind_at version n front ≡ Ok [])
     go ts count end ends e =
         let s = same_value (map attribute ts) (attributes_in version n bytes) end rest e in
         let c = cut_ends (fields_of version ts) bytes rest (subst (λ (r : Result (List ℕ) Failure). Ends (fields_of version ts) bytes r) s.1 ends) in
         let again : times (next_attribute version) (length ts) [] c.0 ≡ Ok (map attribute ts, []) = (times_again (attribute_fields version) attribute (next_attribute version) (attribute_again version) [] ts).at c.0 (Ok []) c.2 in
         let short : times (next_attribute version) n [] c.0 ≡ Ok (map attribute ts, []) = subst (λ (m : ℕ). times (next_attribute version) m [] c.0 ≡ Ok (map attribute ts, [])) count again in
-        (c.0, c.1, same_list (attributes_in version n c.0) (map attribute ts) (behind_at version n c.0) [] (sym (times-listed version n [] c.0) ∙ short) ∙ s.0)
+        let all = same_list (attributes_in version n c.0) (map attribute ts) (behind_at version n c.0) [] (sym (times-listed version n [] c.0) ∙ short) in
+        (c.0, c.1, all.0 ∙ s.0, all.1)
 
 -- ---- as the code takes them
 
@@ -153,3 +154,9 @@ pub front-list : (version : Version) (n : ℕ) (bytes rest : List ℕ) → IsByt
 front-list version n bytes rest fits is =
     let c = cut_list version n bytes rest fits is in
     ap (attributes_in version n) (take_front bytes c.0 rest c.1) ∙ c.2
+
+-- and nothing stands behind them there
+pub front-whole : (version : Version) (n : ℕ) (bytes rest : List ℕ) → IsBytes bytes → behind_at version n bytes ≡ Ok rest → behind_at version n (take (length bytes - length rest) bytes) ≡ Ok []
+front-whole version n bytes rest fits is =
+    let c = cut_list version n bytes rest fits is in
+    ap (behind_at version n) (take_front bytes c.0 rest c.1) ∙ c.3

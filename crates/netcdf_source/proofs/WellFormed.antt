@@ -15,7 +15,7 @@ use Rattle.dap_types.specs.declared.declarations.Dim.{Dim}
 use Rattle.dap_types.proofs.Faults.{length-places}
 use Rattle.dap_types.proofs.Rules.{Obeys, earlier-Decides, well_formed_where_all_obey, false_from_not}
 use Rattle.netcdf_source.specs.Mapping.{size_at, has_texts, element_dimensions, is_offered, own_dimension, coordinate_variable, differ, is_empty, is_grid, dim_of, column_of, array_of, maps_of, member_of, dataset_of}
-use Rattle.netcdf_source.specs.inner.Sound.{InTurn, IsVariable, IsSound, most_members}
+use Rattle.netcdf_source.specs.inner.Sound.{InTurn, IsVariable, IsSound, grid_members}
 use Rattle.netcdf_source.specs.declared.header.Contents.{Contents}
 use Rattle.netcdf_source.specs.declared.header.Variable.{Variable}
 use Rattle.netcdf_source.specs.inner.Told.{AreSmall}
@@ -220,23 +220,23 @@ few_maps c (i ∷ ids) = go (coordinate_variable c i) (few_maps c ids)
     go None few = omega arith
     go (Some w) few = omega arith
 
-member_few : (c : Contents) (v : Variable) → count (member_of c v) ≤ most_members v
+member_few : (c : Contents) (v : Variable) → count (member_of c v) ≤ grid_members v
 unfolding member_of
 member_few c v = go (is_empty (element_dimensions c v)) (is_grid c v)
   where
-    go : (e b : Bool) → count (cond e (scalar (column_of v)) (cond b (grid (file_id v.name) (array_of c v) (maps_of c v.dimensions)) (array (array_of c v)))) ≤ most_members v
+    go : (e b : Bool) → count (cond e (scalar (column_of v)) (cond b (grid (file_id v.name) (array_of c v) (maps_of c v.dimensions)) (array (array_of c v)))) ≤ grid_members v
     go true b = omega arith
     go false true = omega (arith, ap length (maps_are c v.dimensions), length-map (map_variables c v.dimensions) (array_of c), few_maps c v.dimensions)
     go false false = omega arith
 
-members_few : (c : Contents) (vs : List Variable) → count_all (members_of (map (member_of c) (filter (is_offered c) vs))) ≤ sum_by most_members vs
+members_few : (c : Contents) (vs : List Variable) → count_all (members_of (map (member_of c) (filter (is_offered c) vs))) ≤ sum_by grid_members vs
 members_few c [] = omega arith
 members_few c (v ∷ vs) = go (is_offered c v) (members_few c vs)
   where
-    go : (b : Bool) → count_all (members_of (map (member_of c) (filter (is_offered c) vs))) ≤ sum_by most_members vs
-        → count_all (members_of (map (member_of c) (cond b (v ∷ filter (is_offered c) vs) (filter (is_offered c) vs)))) ≤ sum_by most_members (v ∷ vs)
-    go true few = omega (arith, sum_by-cons most_members v vs, member_few c v, few)
-    go false few = omega (arith, sum_by-cons most_members v vs, few)
+    go : (b : Bool) → count_all (members_of (map (member_of c) (filter (is_offered c) vs))) ≤ sum_by grid_members vs
+        → count_all (members_of (map (member_of c) (cond b (v ∷ filter (is_offered c) vs) (filter (is_offered c) vs)))) ≤ sum_by grid_members (v ∷ vs)
+    go true few = omega (arith, sum_by-cons grid_members v vs, member_few c v, few)
+    go false few = omega (arith, sum_by-cons grid_members v vs, few)
 
 pub dataset_well_formed : (c : Contents) (file_name : List ℕ) → IsSound c → IsWellFormed (dataset_of c file_name)
 dataset_well_formed c file_name h =

@@ -12,6 +12,7 @@
 use Rattle.std.specs.Prelude.{ℕ, ◌+◌, ◌*◌, ◌^◌, Bool, ◌&&◌, ◌||◌, not, List, [], ◌∷◌, ◌++◌, length, map, ◌==◌, nat_lt, nat_le, if◌then◌else◌, Option, Some, None, unwrap_or, is_none}
 use Rattle.std.specs.List.{list_any}
 use Rattle.std.specs.Str.{bytes_eq}
+use Rattle.dap_types.specs.Limits.{most_dimensions}
 use Rattle.netcdf_source.specs.Fields.{run, Fault, streaming, bad_if, Judged, judged, fine}
 use Rattle.netcdf_source.specs.Parts.{length_at, part, is_record, share, shares}
 use Rattle.netcdf_source.specs.Types.{size_of, type_numbered, type_of}
@@ -100,7 +101,7 @@ abbrev pub no_fault : ℕ → Option Fault
 no_fault n = None
 
 unfoldable pub rank_fault : ℕ → Option Fault
-rank_fault n = bad_if (nat_lt 32 n) 0
+rank_fault n = bad_if (nat_lt most_dimensions n) 0
 
 -- a dimension of a variable, which is its first or not: the record dimension is the first alone
 unfoldable pub dimension_fault : List Dimension → Bool → ℕ → Option Fault

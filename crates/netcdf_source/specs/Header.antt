@@ -1,5 +1,6 @@
 -- The bytes that are a header, and the first thing that fails in those that are none.
 use Rattle.std.specs.Prelude.{◌≡◌, ℕ, ◌-◌, ◌<◌, ◌≤◌, ◌⊎◌, List, [], ◌∷◌, ◌++◌, length, Some, None, Result, Ok, Err}
+use Rattle.dap_types.specs.Limits.{most_header}
 use Rattle.netcdf_source.specs.Fields.{Ends}
 use Rattle.netcdf_source.specs.Grammar.{HeaderTree, contents, header_fields}
 use Rattle.netcdf_source.specs.Parts.{past_end}
@@ -37,8 +38,8 @@ IsHeader c front file_len = (h : HeaderTree) × (rest : List ℕ) × Stands h fr
 -- This is the first thing that fails in the first bytes of a file of that length.
 abbrev pub IsFirst : HeaderRefusal → List ℕ → ℕ → Type 0
 IsFirst refusals.NotCdf front file_len = HasNoMagic front
-IsFirst refusals.HeaderCut front file_len = (h : HeaderTree) × Stands h front (Err Cut) × (file_len ≤ 1048576)
-IsFirst refusals.HeaderTooLong front file_len = (h : HeaderTree) × Stands h front (Err Cut) × (1048576 < file_len)
+IsFirst refusals.HeaderCut front file_len = (h : HeaderTree) × Stands h front (Err Cut) × (file_len ≤ most_header)
+IsFirst refusals.HeaderTooLong front file_len = (h : HeaderTree) × Stands h front (Err Cut) × (most_header < file_len)
 IsFirst refusals.Streaming front file_len = (h : HeaderTree) × Stands h front (Err Streaming)
 IsFirst (refusals.BadField place) front file_len = (h : HeaderTree) × (left : ℕ) × Stands h front (Err (Bad left)) × (place ≡ length front - left)
 IsFirst (refusals.PastEnd var) front file_len = (h : HeaderTree) × (rest : List ℕ) × Stands h front (Ok rest) × (past_end (contents h) file_len ≡ Some var)

@@ -1,6 +1,7 @@
 -- What the definitions of this crate promise of one another and to those of `dap_model`, each as a
 -- statement over all headers and files.
 use Rattle.std.specs.Prelude.{◌≡◌, ◌≢◌, ℕ, ◌<◌, ◌≤◌, List, [], ◌∷◌, ◌++◌, replicate, take, length, All, Option, Some, None, Result, Ok, Err, option_map, option_and_then, if◌then◌else◌}
+use Rattle.dap_types.specs.Limits.{most_header}
 use Rattle.dap_types.specs.Model.{Member, scalar, array}
 use Rattle.dap_types.specs.WellFormed.{member_at, is_leaf, IsWellFormed}
 use Rattle.dap_model.specs.Fits.{FitsAll}
@@ -28,7 +29,7 @@ LeavesAgree = (c : Contents) (file_name : List ℕ) (n : ℕ) → option_and_the
 
 -- the file begins with a header that says this
 abbrev pub HasHeader : Contents → List ℕ → Type 0
-HasHeader c file = All (λ b. b < 256) file × IsHeader c (take 1048576 file) (length file)
+HasHeader c file = All (λ b. b < 256) file × IsHeader c (take most_header file) (length file)
 
 -- the values of a file are values of its dataset
 abbrev pub ValuesFit : Type 0
@@ -36,7 +37,7 @@ ValuesFit = (c : Contents) (file_name file : List ℕ) → HasHeader c file → 
 
 -- the values of a leaf are those that stand at the places of its layout
 abbrev pub ValuesArePlaced : Type 0
-ValuesArePlaced = (c : Contents) (file : List ℕ) (leaf : ℕ) (v : Variable) → IsHeader c (take 1048576 file) (length file) → leaf_variable c leaf ≡ Some v → tree_of c file v ≡ placed_tree c file v (layout_of c v)
+ValuesArePlaced = (c : Contents) (file : List ℕ) (leaf : ℕ) (v : Variable) → IsHeader c (take most_header file) (length file) → leaf_variable c leaf ≡ Some v → tree_of c file v ≡ placed_tree c file v (layout_of c v)
 
 -- a text lacks the zero bytes at its end, and nothing else
 abbrev pub ZerosAreCut : Type 0
@@ -57,7 +58,7 @@ EachHasVerdict = (front : List ℕ) (file_len : ℕ) → All (λ b. b < 256) fro
 
 -- the dataset of a header is well formed, with any number of records
 abbrev pub DatasetIsWellFormed : Type 0
-DatasetIsWellFormed = (c : Contents) (front file_name : List ℕ) (file_len records : ℕ) → length front ≤ 1048576 → IsHeader c front file_len →
+DatasetIsWellFormed = (c : Contents) (front file_name : List ℕ) (file_len records : ℕ) → length front ≤ most_header → IsHeader c front file_len →
     IsWellFormed (dataset_of c file_name) × IsWellFormed (dataset_of (with_records records c) file_name)
 
 -- the names in a file's dataset are words: those of its members, and its own where the file has one

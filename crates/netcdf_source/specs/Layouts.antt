@@ -2,6 +2,7 @@
 -- of a variable chopped into equal pieces, and the steps that lead to the same places.
 use Rattle.std.specs.Prelude.{◌≡◌, ℕ, ◌+◌, ◌*◌, ◌/◌, ◌^◌, ◌<◌, ◌≤◌, false, List, [], ◌∷◌, ◌++◌, length, map, take, drop, if◌then◌else◌, Option, Some, MatchOption}
 use Rattle.std.specs.List.{AllByRecursion}
+use Rattle.dap_types.specs.Limits.{most_piece}
 use Rattle.dap_types.specs.Model.{product}
 use Rattle.dap_types.specs.declared.slabs.Layout.{Layout}
 use Rattle.dap_model.specs.Indexing.{AreIndexes, distance}
@@ -94,7 +95,7 @@ LeafIsPlaced c file_len leaf found = MatchOption found (Unit {0}) (λ l. (v : Va
 pub record IsShaped (c : Contents) (v : Variable) (l : Layout) : Type 0 where
   pub steps : length l.steps ≡ length (element_dimensions c v)
   pub some : 0 < l.size
-  pub few : l.size ≤ 65536
+  pub few : l.size ≤ most_piece
   pub typed : is_char v ≡ false → l.size ≡ size_of v.external_type
 
 unfoldable pub LeafIsShaped : Contents → ℕ → Option Layout → Type 0

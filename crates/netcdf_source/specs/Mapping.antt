@@ -4,6 +4,7 @@ use Rattle.std.specs.Prelude.{◌≡◌, ℕ, ◌+◌, ◌-◌, Bool, true, fals
 use Rattle.std.specs.List.{list_all, list_any, position_from}
 use Rattle.std.specs.Option.{option_map_or}
 use Rattle.std.specs.Str.{bytes_eq}
+use Rattle.dap_types.specs.Limits.{most_elements, most_piece}
 use Rattle.dap_types.specs.Model.{Member, scalar, array, grid, Dataset, members_of}
 use Rattle.dap_types.specs.Names.{file_id}
 use Rattle.dap_types.specs.declared.declarations.ArrayDecl.{ArrayDecl}
@@ -82,12 +83,12 @@ element_size c v = if has_texts c v then length_at c.dimensions (slice_index v.d
 
 -- the sizes of these dimensions are Int32, as those of an array
 unfoldable pub are_small : Contents → List ℕ → Bool
-are_small c ids = list_all (λ i. nat_le (size_at c i) 2147483647) ids
+are_small c ids = list_all (λ i. nat_le (size_at c i) most_elements) ids
 
 -- a variable is offered where its type is one of DAP 2.0, its sizes are those of an array, and its
 -- texts have at most 65,536 bytes
 unfoldable pub is_offered : Contents → Variable → Bool
-is_offered c v = not (is_long v.external_type) && are_small c v.dimensions && not (nat_lt 65536 (element_size c v))
+is_offered c v = not (is_long v.external_type) && are_small c v.dimensions && not (nat_lt most_piece (element_size c v))
 
 -- ---- coordinate variables and Grids
 

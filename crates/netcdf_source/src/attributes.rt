@@ -1,4 +1,4 @@
-ghost use Rattle.std.specs.Prelude.{◌≡◌, ℕ, [], ◌∷◌, IfOk, MatchOption};
+ghost use Rattle.std.specs.Prelude.{◌≡◌, ℕ, [], ◌∷◌, IfOk, IfNone, MatchOption};
 ghost use Rattle.netcdf_source.specs.Versions.{number_width};
 ghost use Rattle.netcdf_source.specs.inner.Reading.{Gives, Reads, next_attribute, times, list_at};
 ghost use Rattle.netcdf_source.specs.inner.Unread.{behind_at, attributes_in};
@@ -14,8 +14,8 @@ use std::marker::Model;
 /// The tag of a list of attributes.
 const TAG: u32 = 12;
 
-/// The attributes of a variable or of the file, each made when it is asked for. Contracts see their
-/// list.
+/// The attributes of a variable or of the file, each made when it is asked for, of which no more bytes
+/// are kept than they stand in. Contracts see their list.
 #[derive(Debug, Drop)]
 pub struct AttributeList {
     version: Version,
@@ -25,14 +25,17 @@ pub struct AttributeList {
 }
 
 impl Model for AttributeList {
-    ghost use Rattle.std.specs.Prelude.{List};
+    ghost use Rattle.std.specs.Prelude.{◌≡◌, List, [], Ok};
     ghost use Rattle.netcdf_source.specs.Attribute.{Attribute};
 
     ghost Value = { List Attribute };
 
-    ghost use Rattle.netcdf_source.specs.inner.Unread.{attributes_in};
+    ghost use Rattle.netcdf_source.specs.inner.Unread.{attributes_in, behind_at};
 
     ghost view = { λ a. attributes_in a.version a.count a.bytes };
+
+    // Nothing stands behind the attributes.
+    ghost invariant = { λ a. behind_at a.version a.count a.bytes ≡ Ok [] };
 }
 
 /// Attributes that are still to be read, where they stand. Contracts see their list.
@@ -55,10 +58,11 @@ impl<'a> Model for Unread<'a> {
 }
 
 impl<'a> Unread<'a> {
-    /// The next attribute.
+    /// The next attribute. Behind the last one there is none, however often it is asked for.
     #[tactic(auto, unfolding(crate::specs::inner::Unread::attributes_in))]
     pub fn next(&mut self) -> Option<Attribute<'a>>
-        ensures { MatchOption result (self.old ≡ []) (λ a. self.old ≡ a ∷ self.new) }
+        ensures next { MatchOption result (self.old ≡ []) (λ a. self.old ≡ a ∷ self.new) }
+        ensures ended { IfNone result (self.new ≡ []) }
     {
         if self.count == 0 {
             return None;

@@ -1,5 +1,6 @@
 ghost use Rattle.std.specs.Prelude.{◌≡◌, ℕ, ◌+◌, ◌<◌, ◌≤◌, ◌^◌, Bool, true, false, None, IfOk, length, option_map, slice_get};
 ghost use Rattle.std.specs.Option.{option_copied, option_map_or};
+ghost use Rattle.dap_types.specs.Limits.{most_elements};
 ghost use Rattle.dap_types.specs.View.{dataset_view};
 ghost use Rattle.dap_types.specs.WellFormed.{IsWellFormed};
 ghost use Rattle.das_text.specs.View.{attributes_view};
@@ -13,7 +14,7 @@ use crate::coordinates::coordinates;
 use crate::copies::with_records;
 use crate::das::attributes_of;
 use crate::header::Contents;
-use crate::joining::{has_record_dimension, same_dimensions, same_variables};
+use crate::joining::{has_record_dimension, have_same_shape};
 use crate::layouts::layouts;
 use crate::leaves::{leaf_in, leaves};
 use crate::mapping::{base_of, dataset_of, grids};
@@ -165,13 +166,7 @@ impl Header {
         ensures same { result ≡ true → HaveSameShape self.now.contents other.now.contents }
         ensures differ { HaveSameShape self.now.contents other.now.contents → result ≡ true }
     {
-        same_dimensions(
-            self.contents.dimensions.items(),
-            other.contents.dimensions.items(),
-        ) && same_variables(
-            self.contents.variables.items(),
-            other.contents.variables.items(),
-        )
+        have_same_shape(&self.contents, &other.contents)
     }
 
     /// The dataset of the file with that name, as if it had so many records.
@@ -181,7 +176,7 @@ impl Header {
         file_name: &[u8],
         records: u64,
     ) -> Result<Dataset, Memory>
-        requires { records ≤ 2147483647 }
+        requires { records ≤ most_elements }
         ensures mapped { IfOk result (λ d. dataset_view d ≡ dataset_of (with_records records self.now.contents) file_name.now) }
         ensures well_formed { IfOk result (λ d. IsWellFormed (dataset_view d)) }
     {

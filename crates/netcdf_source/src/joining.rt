@@ -1,8 +1,9 @@
 ghost use Rattle.std.specs.Prelude.{◌≡◌, ℕ, Bool};
 ghost use Rattle.netcdf_source.specs.Grammar.{is_record_dimension};
 ghost use Rattle.std.specs.List.{list_any};
-ghost use Rattle.netcdf_source.specs.inner.Shapes.{all_same, same_dimension, same_variable};
+ghost use Rattle.netcdf_source.specs.inner.Shapes.{all_same, same_dimension, same_variable, have_same_shape};
 
+use crate::header::Contents;
 use crate::{Dimension, Variable};
 
 /// Whether one of these is the record dimension.
@@ -27,7 +28,7 @@ fn same_dimension(one: &Dimension, other: &Dimension) -> bool
 
 /// Whether these dimensions are the same, one by one.
 #[tactic(auto, unfolding(crate::specs::inner::Shapes::all_same))]
-pub fn same_dimensions(one: &[Dimension], other: &[Dimension]) -> bool
+fn same_dimensions(one: &[Dimension], other: &[Dimension]) -> bool
     ensures { result ≡ all_same same_dimension one.now other.now }
 {
     if one.len() != other.len() {
@@ -53,7 +54,7 @@ fn same_variable(one: &Variable, other: &Variable) -> bool
 
 /// Whether these variables are the same, one by one, but for their attributes and places.
 #[tactic(auto, unfolding(crate::specs::inner::Shapes::all_same))]
-pub fn same_variables(one: &[Variable], other: &[Variable]) -> bool
+fn same_variables(one: &[Variable], other: &[Variable]) -> bool
     ensures { result ≡ all_same same_variable one.now other.now }
 {
     if one.len() != other.len() {
@@ -65,4 +66,13 @@ pub fn same_variables(one: &[Variable], other: &[Variable]) -> bool
         }
     }
     true
+}
+
+/// Whether two headers have the same dimensions and the same variables.
+#[tactic(auto, unfolding(crate::specs::inner::Shapes::have_same_shape))]
+pub fn have_same_shape(one: &Contents, other: &Contents) -> bool
+    ensures { result ≡ have_same_shape one.now other.now }
+{
+    same_dimensions(one.dimensions.items(), other.dimensions.items())
+        && same_variables(one.variables.items(), other.variables.items())
 }

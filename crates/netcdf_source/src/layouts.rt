@@ -1,4 +1,5 @@
 ghost use Rattle.std.specs.Prelude.{◌≡◌, ℕ, ◌*◌, ◌^◌, ◌<◌, ◌≤◌, Bool, List, [], ◌∷◌, ◌++◌, map, length, IfOk, OnOk, if◌then◌else◌};
+ghost use Rattle.dap_types.specs.Limits.{most_piece};
 ghost use Rattle.netcdf_source.specs.Layouts.{row_steps, steps_of, layout_of, SuffixesFit, HasSteps, HaveSteps};
 ghost use Rattle.netcdf_source.specs.Mapping.{element_size};
 ghost use Rattle.netcdf_source.specs.Parts.{lengths, record_size};
@@ -53,7 +54,7 @@ fn layout(
     variable: &Variable,
 ) -> Result<Layout, Memory>
     requires steps { HasSteps contents.now variable.now }
-    requires size { element_size contents.now variable.now ≤ 65536 }
+    requires size { element_size contents.now variable.now ≤ most_piece }
     requires record { step ≡ record_size contents.now.dimensions contents.now.variables }
     ensures { IfOk result (λ l. l ≡ layout_of contents.now variable.now) }
 {

@@ -42,6 +42,3 @@ pub use laws::{
 pub use read::{read_front, read_header};
 pub use refusal::HeaderRefusal;
 use shape::Shape;
-
-#[cfg(test)]
-mod tests;

@@ -2,6 +2,7 @@ ghost use Rattle.std.specs.Prelude.{◌≡◌, ℕ, ◌<◌, ◌≤◌, ◌^◌,
 ghost use Rattle.std.specs.List.{list_all};
 ghost use Rattle.std.specs.Prelude.{is_some};
 ghost use Rattle.netcdf_source.specs.Coordinates.{AreCoordinates};
+ghost use Rattle.dap_types.specs.Limits.{most_elements};
 ghost use Rattle.dap_types.specs.Names.{file_id};
 ghost use Rattle.dap_types.specs.View.{member_view, dataset_view};
 ghost use Rattle.netcdf_source.specs.inner.Told.{AreSmall};
@@ -37,7 +38,7 @@ pub fn base_of(external_type: ExternalType) -> BaseType
 #[tactic(auto, using(crate::proofs::DimensionNames::dimension_names))]
 fn dim_of(alloc: Global, contents: &Contents, names: &[Id], id: u64) -> Result<Dim, Memory>
     requires names { names.now ≡ dimension_ids contents.now }
-    requires size { size_at contents.now id ≤ 2147483647 }
+    requires size { size_at contents.now id ≤ most_elements }
     ensures { IfOk result (λ d. d ≡ dim_of contents.now id) }
 {
     let name = dimension_id(alloc, names, id)?;

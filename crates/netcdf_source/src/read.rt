@@ -1,4 +1,5 @@
 ghost use Rattle.std.specs.Prelude.{◌≡◌, ℕ, ◌+◌, ◌^◌, ◌<◌, ◌≤◌, ◌⊎◌, ◌&&◌, Bool, true, false, not, None, nat_lt, if◌then◌else◌, min, List, [], ◌∷◌, ◌++◌, length, Result, Ok, Err, IfOk, IfErr, IfNone, IfSome, MatchResult, IsErrAnd};
+ghost use Rattle.dap_types.specs.Limits.{most_header};
 ghost use Rattle.netcdf_source.specs.Header.{contents_of, magic, HasNoMagic, IsHeader, IsFirst, IsCut};
 ghost use Rattle.netcdf_source.specs.inner.Answering.{version_of_byte, version_of, version_in, refusal_of, verdict, Answers, AnswersFront};
 ghost use Rattle.netcdf_source.specs.inner.Reading.{Gives, contents_at};
@@ -104,7 +105,7 @@ fn judge(
     whole: u64,
     file_len: u64,
 ) -> Result<Header, HeaderRefusal>
-    requires body { length body.now ≤ 1048576 }
+    requires body { length body.now ≤ most_header }
     requires file_len { file_len < 2 ^ 63 }
     ensures verdict { Answers result (verdict version body.now whole file_len) }
     ensures length { IfOk result (λ h. h.length ≡ file_len) }
@@ -129,7 +130,7 @@ fn judge(
 /// `HeaderTooLong` where a field does not end within `front`, and then `PastEnd` with the number of
 /// the variable. `Memory` where memory was wanted.
 pub fn read_header(alloc: Global, front: &[u8], file_len: u64) -> Result<Header, HeaderRefusal>
-    requires front { length front.now ≡ min file_len 1048576 }
+    requires front { length front.now ≡ min file_len most_header }
     requires file_len { file_len < 2 ^ 63 }
     // What is read is a header.
     ensures header { IfOk result (λ h. IsHeader (contents_of h) front.now file_len) }
@@ -149,9 +150,9 @@ pub fn read_header(alloc: Global, front: &[u8], file_len: u64) -> Result<Header,
 
 /// Whether these first bytes of a file are all that a header is read from.
 fn is_whole(front: &[u8], file_len: u64) -> bool
-    requires { length front.now ≤ min file_len 1048576 }
-    ensures whole { result ≡ true → length front.now ≡ min file_len 1048576 }
-    ensures short { result ≡ false → length front.now < min file_len 1048576 }
+    requires { length front.now ≤ min file_len most_header }
+    ensures whole { result ≡ true → length front.now ≡ min file_len most_header }
+    ensures short { result ≡ false → length front.now < min file_len most_header }
 {
     front.len() as u64 == file_len.min(HEADER_MAX)
 }
@@ -193,17 +194,17 @@ pub fn read_front(
     front: &[u8],
     file_len: u64,
 ) -> Result<Option<Header>, HeaderRefusal>
-    requires front { length front.now ≤ min file_len 1048576 }
+    requires front { length front.now ≤ min file_len most_header }
     requires file_len { file_len < 2 ^ 63 }
     // What is read is the header of whatever begins with these bytes.
     ensures header { IfOk result (λ found. IfSome found (λ h. (more : List ℕ) → IsHeader (contents_of h) (front.now ++ more) file_len)) }
     ensures length { IfOk result (λ found. IfSome found (λ h. h.length ≡ file_len)) }
     // More is wanted where these bytes are not all, and stop within a field.
-    ensures more { IfOk result (λ found. IfNone found ((length front.now < min file_len 1048576) × IsCut front.now)) }
+    ensures more { IfOk result (λ found. IfNone found ((length front.now < min file_len most_header) × IsCut front.now)) }
     // What is refused fails first in all that begins with these bytes and is as long as it may be.
-    ensures first_cause { IfErr result (λ e. (e ≡ HeaderRefusal.Memory) ⊎ ((more : List ℕ) → length (front.now ++ more) ≡ min file_len 1048576 → IsFirst e (front.now ++ more) file_len)) }
+    ensures first_cause { IfErr result (λ e. (e ≡ HeaderRefusal.Memory) ⊎ ((more : List ℕ) → length (front.now ++ more) ≡ min file_len most_header → IsFirst e (front.now ++ more) file_len)) }
     // Where these bytes are not all and stop within a field more is wanted, unless memory was.
-    ensures only_more { length front.now < min file_len 1048576 → IsCut front.now → MatchResult result (λ found. IfSome found (λ h. ⊥)) (λ e. e ≡ HeaderRefusal.Memory) }
+    ensures only_more { length front.now < min file_len most_header → IsCut front.now → MatchResult result (λ found. IfSome found (λ h. ⊥)) (λ e. e ≡ HeaderRefusal.Memory) }
 {
     let is_whole = is_whole(front, file_len);
     let Some((version, body)) = split_magic(front) else {

@@ -1,5 +1,6 @@
 -- What the definitions promise of the generated file.
 use Rattle.std.specs.Prelude.{◌≡◌, ℕ, ◌+◌, ◌-◌, ◌*◌, ◌/◌, ◌≤◌, length, take, Some, Ok}
+use Rattle.dap_types.specs.Limits.{most_header}
 use Rattle.netcdf_source.specs.Header.{IsHeader}
 use Rattle.dap_http.specs.declared.kind.Kind.TheVariants.{Dods}
 use Rattle.dap_server.specs.Files.{Files}
@@ -13,7 +14,7 @@ use Rattle.soak.specs.Header.{soak_contents}
 
 -- the first bytes of the file are a header, which says this
 abbrev pub HeaderIsRead : Type 0
-HeaderIsRead = (start records : ℕ) → records ≤ 4096 → IsHeader (soak_contents records) (take 1048576 (soak_bytes start records)) (length (soak_bytes start records))
+HeaderIsRead = (start records : ℕ) → records ≤ 4096 → IsHeader (soak_contents records) (take most_header (soak_bytes start records)) (length (soak_bytes start records))
 
 -- over files among which it is, its target has that body as its result
 abbrev pub IsServed : Type 0

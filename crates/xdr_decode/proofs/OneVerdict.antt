@@ -159,7 +159,7 @@ bad_line_cut bytes p (d, text, rest, at, h, b, is) (inl o) = open_alone bytes d 
 bad_line_cut bytes p (d, text, rest, at, h, b, is) (inr (e, own, more, g, c)) =
     let (texts, rests) = one_text bytes d e text rest own more h g in cut_not_bad rest at (subst EndsInDataLine (sym rests) c) b
 
-bad_line_head : (bytes : List ℕ) (p : ℕ) (d : Dataset) (head values : List ℕ) → IsBadLine bytes p → HasHeadOf bytes d head values → ⊥
+pub bad_line_head : (bytes : List ℕ) (p : ℕ) (d : Dataset) (head values : List ℕ) → IsBadLine bytes p → HasHeadOf bytes d head values → ⊥
 bad_line_head bytes p d head values (e, text, rest, at, h, b, is) a =
     let whole = headed bytes d head values a in
     let (texts, rests) = one_text bytes e d text rest whole.text (whole.line ++ values) h whole.has_text in

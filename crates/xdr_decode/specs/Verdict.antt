@@ -1,8 +1,9 @@
 -- How the client judges a data response (DAP 2.0, DODS; RFC 4506 for the fields): a DDS, the line
 -- `Data:` and the values. The first thing that is wrong decides, with its kind and its place, which are
 -- this project's, as is the limit. An Error object is a DDS that is bad at its first word.
-use Rattle.std.specs.Prelude.{◌≡◌, ℕ, ◌+◌, ◌<◌, ◌≤◌, ◌^◌, ◌⊎◌, List, ◌∷◌, ◌++◌, length, take, codes, Result, Ok, Err, ⊤, map}
+use Rattle.std.specs.Prelude.{◌≡◌, ℕ, ◌+◌, ◌<◌, ◌≤◌, ◌⊎◌, List, ◌∷◌, ◌++◌, length, take, codes, Result, Ok, Err, ⊤, map}
 use Rattle.std.specs.List.{AllPass}
+use Rattle.dap_types.specs.Limits.{body_limit, most_text}
 use Rattle.dap_types.specs.Model.{Dataset, Tree}
 use Rattle.dap_types.specs.View.{dataset_view, tree_view}
 use Rattle.dap_model.specs.Body.{IsBody, IsHead}
@@ -19,7 +20,7 @@ use Rattle.xdr_decode.specs.declared.filled.Filled.{Filled}
 
 -- a body has fewer bytes
 unfoldable pub budget : ℕ
-budget = 2 ^ 40
+budget = body_limit
 
 -- the kind of a bad field
 abbrev pub kind_of : Fault → Bad
@@ -72,7 +73,7 @@ pub record IsBadDataLine (bytes : List ℕ) (place : ℕ) : Type 0 where
 pub record HasText (bytes : List ℕ) (d : Dataset) (text rest : List ℕ) : Type 0 where
   pub parts : bytes ≡ text ++ rest
   pub is_text : DdsOf text d
-  pub text_limit : length text ≤ 16777216
+  pub text_limit : length text ≤ most_text
 
 -- the text of a dataset and the line behind it, and the values
 abbrev pub HasHeadOf : List ℕ → Dataset → List ℕ → List ℕ → Type 0

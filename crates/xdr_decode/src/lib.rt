@@ -15,8 +15,6 @@ mod filled;
 mod line;
 mod path;
 mod place;
-#[cfg(test)]
-mod tests;
 mod trees;
 mod turn;
 mod value_text;

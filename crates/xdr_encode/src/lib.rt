@@ -6,12 +6,8 @@
 mod array;
 mod body;
 mod buffered;
-#[cfg(test)]
-mod climatology_tests;
 mod elements;
 mod fault;
-#[cfg(test)]
-mod fault_tests;
 mod fetch;
 mod kept;
 pub mod laws;
@@ -22,16 +18,10 @@ mod numbers;
 mod plans;
 mod put;
 mod refusal;
-#[cfg(test)]
-mod row_tests;
 mod scalar;
-#[cfg(test)]
-mod slab_tests;
 mod stream;
 mod streamed;
 mod table_rows;
-#[cfg(test)]
-mod testing;
 mod texts;
 mod wanted;
 

@@ -1,5 +1,6 @@
 -- What the outcome of a reply says of the bytes behind its heads.
 use Rattle.std.specs.Prelude.{◌≡◌, ℕ, ◌⊎◌, Bool, List, [], ◌++◌, length, take}
+use Rattle.dap_types.specs.Limits.{most_piece}
 use Rattle.xdr_decode.specs.Verdict.{budget}
 use Rattle.xdr_decode.specs.declared.bad.BadField.{BadField}
 use Rattle.dap_http.specs.Delivered.{HasCome, IsBrokenBody, IsWholeBody}
@@ -51,7 +52,7 @@ IsToldBehind form coding bytes ended rest text WriteFault =
     (front : List ℕ) × (behind : List ℕ) × (body : List ℕ) × (bytes ≡ front ++ behind) × HasCome coding front body × ShowsBroken form (take budget body) text
 IsToldBehind form coding bytes ended rest text LinkFault = ⊥
 IsToldBehind form coding bytes ended rest text Memory =
-    (text ≡ []) × (form ≡ dods_form → (body : List ℕ) → HasCome coding bytes body → HasFewValues 65536 body)
+    (text ≡ []) × (form ≡ dods_form → (body : List ℕ) → HasCome coding bytes body → HasFewValues most_piece body)
 
 -- where the bytes wait that stand behind the framing
 abbrev pub TellsBehind : Form → Coding → List ℕ → Bool → BodyParts → List ℕ → Outcome → Type 0

@@ -1,5 +1,6 @@
 -- How far the reader of a data response is, and what it has put by then.
 use Rattle.std.specs.Prelude.{◌≡◌, ℕ, ◌+◌, ◌≤◌, ◌⊎◌, ⊤, Bool, true, false, List, [], ◌∷◌, ◌++◌, length, take, Option}
+use Rattle.dap_types.specs.Limits.{most_piece}
 use Rattle.dap_types.specs.Model.{Dataset}
 use Rattle.dap_types.specs.View.{dataset_view}
 use Rattle.dap_types.specs.WellFormed.{IsWellFormed}
@@ -30,7 +31,7 @@ use Rattle.dap_client.specs.declared.stage.Stage.TheVariants as stage
 
 -- so many bytes are taken at once
 abbrev pub piece_length : ℕ
-piece_length = 65536
+piece_length = most_piece
 
 -- a reader of the DDS has had these bytes
 abbrev pub HadAll : DdsReader → List ℕ → Type 0

@@ -1,6 +1,7 @@
 -- What is answered to the bytes of a header, by reading them.
 use Rattle.std.specs.Prelude.{◌≡◌, ℕ, ◌-◌, ◌⊎◌, Bool, true, false, ◌&&◌, ◌==◌, List, ◌∷◌, Option, Some, None, Result, Ok, Err, if◌then◌else◌, nat_lt}
 use Rattle.std.specs.Option.{option_map_or}
+use Rattle.dap_types.specs.Limits.{most_header}
 use Rattle.netcdf_source.specs.Parts.{past_end}
 use Rattle.netcdf_source.specs.inner.Reading.{contents_at}
 use Rattle.netcdf_source.specs.declared.header.Contents.{Contents}
@@ -26,7 +27,7 @@ version_in (a ∷ b ∷ c ∷ version ∷ body) = version_of a b c version
 version_in front = None
 
 unfoldable pub refusal_of : Failure → ℕ → ℕ → HeaderRefusal
-refusal_of Cut whole file_len = if nat_lt 1048576 file_len then refusals.HeaderTooLong else refusals.HeaderCut
+refusal_of Cut whole file_len = if nat_lt most_header file_len then refusals.HeaderTooLong else refusals.HeaderCut
 refusal_of Streaming whole file_len = refusals.Streaming
 refusal_of (Bad left) whole file_len = refusals.BadField (whole - left)
 

@@ -3,6 +3,7 @@ use Rattle.std.specs.Prelude.{ℕ, Bool, true, false, ◌&&◌, List, [], ◌∷
 use Rattle.std.specs.Str.{bytes_eq}
 use Rattle.netcdf_source.specs.declared.external_type.ExternalType.{ExternalType}
 use Rattle.netcdf_source.specs.declared.external_type.ExternalType.TheVariants.{Byte, Char, Short, Int, Float, Double, UByte, UShort, UInt, Int64, UInt64}
+use Rattle.netcdf_source.specs.declared.header.Contents.{Contents}
 use Rattle.netcdf_source.specs.declared.header.Dimension.{Dimension}
 use Rattle.netcdf_source.specs.declared.header.Variable.{Variable}
 
@@ -31,3 +32,6 @@ same_dimension d e = d.length == e.length && bytes_eq d.name e.name
 
 unfoldable pub same_variable : Variable → Variable → Bool
 same_variable v w = type_number v.external_type == type_number w.external_type && bytes_eq v.dimensions w.dimensions && bytes_eq v.name w.name
+
+unfoldable pub have_same_shape : Contents → Contents → Bool
+have_same_shape c d = all_same same_dimension c.dimensions d.dimensions && all_same same_variable c.variables d.variables

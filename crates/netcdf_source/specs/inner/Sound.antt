@@ -3,6 +3,7 @@
 use Rattle.std.specs.Prelude.{◌≡◌, ◌≢◌, ℕ, ◌+◌, ◌^◌, ◌<◌, ◌≤◌, true, false, List, [], ◌∷◌, ◌++◌, length, map, sum_by}
 use Rattle.std.specs.List.{list_any, AllByRecursion}
 use Rattle.std.specs.Str.{bytes_eq}
+use Rattle.dap_types.specs.Limits.{most_dimensions, most_members}
 use Rattle.netcdf_source.specs.Grammar.{is_record_dimension}
 use Rattle.netcdf_source.specs.Parts.{length_at, is_record, part, share, shares}
 use Rattle.netcdf_source.specs.declared.header.Contents.{Contents}
@@ -25,7 +26,7 @@ pub record IsId (dims : List Dimension) (before : List ℕ) (n : ℕ) : Type 0 w
 
 pub record IsVariable (dims : List Dimension) (before : List Variable) (v : Variable) : Type 0 where
   pub is_new : list_any (bytes_eq v.name) (map (λ b. b.name) before) ≡ false
-  pub rank : length v.dimensions ≤ 32
+  pub rank : length v.dimensions ≤ most_dimensions
   pub ids : InTurn (IsId dims) [] v.dimensions
   pub bytes : part dims v.dimensions v.external_type ≤ 2 ^ 62
   pub record_bytes : is_record dims v.dimensions ≡ true → shares dims before + share dims v.dimensions v.external_type ≤ 2 ^ 62
@@ -39,11 +40,11 @@ unfoldable pub HaveSizes : List Dimension → List Variable → Type 0
 HaveSizes dims vs = AllByRecursion (HasSize dims) vs
 
 -- A variable becomes at most a Grid, its array, and a map for each dimension.
-abbrev pub most_members : Variable → ℕ
-most_members v = length v.dimensions + 2
+abbrev pub grid_members : Variable → ℕ
+grid_members v = length v.dimensions + 2
 
 pub record IsSound (c : Contents) : Type 0 where
   pub dimensions : InTurn IsDimension [] c.dimensions
   pub count : length c.variables < 2 ^ 32
   pub variables : InTurn (IsVariable c.dimensions) [] c.variables
-  pub members : sum_by most_members c.variables ≤ 1000000
+  pub members : sum_by grid_members c.variables ≤ most_members

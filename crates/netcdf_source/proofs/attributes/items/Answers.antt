@@ -1,7 +1,7 @@
 use Rattle.std.proofs.Common.{◌≡◌, ◌∙◌, sym, ap, arith, Ok}
 use Rattle.std.proofs.lemmas.Result.{err_from_is_err_and}
 use Rattle.netcdf_source.specs.inner.Unread.{attributes_in}
-use Rattle.netcdf_source.proofs.Unread.{read-list, failed-list, left-le, front-list}
+use Rattle.netcdf_source.proofs.Unread.{read-list, failed-list, left-le, front-list, front-whole}
 use Rattle.netcdf_source.proofs.attributes.items.Goals as goal
 
 pub returns-in_err-rest : goal.returns-in_err-rest
@@ -11,6 +11,9 @@ returns-in_err-rest c =
 
 pub slice_bounds-front-count : goal.slice_bounds-front-count
 slice_bounds-front-count c = left-le c.args.version c.args.count c.args.bytes.now c.in_ok-rest.rest.now (λ i. omega (arith, c.type_inv.bytes i)) c.in_ok-rest.ensures
+
+pub invariant_of-list : goal.invariant_of-list
+invariant_of-list c = rw c.in_ok-new.ensures (front-whole c.args.version c.args.count c.args.bytes.now c.in_ok-rest.rest.now (λ i. omega (arith, c.type_inv.bytes i)) c.in_ok-rest.ensures)
 
 pub returns : goal.returns
 returns c =

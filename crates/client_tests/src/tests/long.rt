@@ -1,0 +1,87 @@
+use crate::tests::showing::{Answer, answers, show_body};
+use dap_client::{Outcome, show};
+use dap_outside::{MemSink, SureSource};
+use dap_types::{Bytes, List};
+use std::alloc::Global;
+use std::test::Fail;
+use xdr_decode::Bad;
+
+/// White space between two texts.
+fn spaced(alloc: Global, front: &[u8], blanks: usize, rest: &[u8]) -> Result<Vec<u8>, Fail> {
+    let mut body = Vec::from_slice(alloc, front)?;
+    body.resize(front.len().saturating_add(blanks), b' ')?;
+    body.extend_from_slice(rest)?;
+    Ok(body)
+}
+
+/// What has to be answered for a text behind white space, or before it.
+fn is_answered(
+    alloc: Global,
+    front: &[u8],
+    blanks: usize,
+    rest: &[u8],
+    answer: Answer,
+) -> Result<bool, Fail> {
+    let body = spaced(alloc, front, blanks, rest)?;
+    let found = show_body(alloc, body.as_slice(), 65536, None, None)?;
+    Ok(answers(&found.outcome, answer) && found.out.bytes().is_empty())
+}
+
+const OBJECT: &[u8] = b"Error { code = 7; message = \"x\"; }";
+
+/// Behind an object each byte is judged, however far it is. The object itself ends within its limit.
+#[test]
+fn an_object_is_long(rt: HostRuntime) -> Result<(), Fail> {
+    let object = Answer::Object(7, b"x");
+    let alloc = rt.alloc();
+    assert!(rt; is_answered(alloc, OBJECT, 70000, b"", object)?);
+    assert!(rt; is_answered(alloc, OBJECT, 70000, b";", object)?);
+    let bad = Answer::Wrong(Bad::BadError, 70035);
+    assert!(rt; is_answered(alloc, OBJECT, 70000, b";;", bad)?);
+    assert!(rt; is_answered(alloc, b"", 65502, OBJECT, object)?);
+    let far = Answer::Wrong(Bad::BadError, 65536);
+    assert!(rt; is_answered(alloc, b"", 65503, OBJECT, far)?);
+    Ok(())
+}
+
+/// White space before the first word counts to the limit of a DDS, and the first word decides all the same.
+#[test]
+fn white_space_is_long(rt: HostRuntime) -> Result<(), Fail> {
+    let alloc = rt.alloc();
+    let object = Answer::Wrong(Bad::BadError, 65536);
+    assert!(rt; is_answered(alloc, b"", 16777216, OBJECT, object)?);
+    let text = Answer::Wrong(Bad::BadDds, 16777216);
+    assert!(rt; is_answered(alloc, b"", 16777216, b"Dataset {", text)?);
+    assert!(rt; is_answered(alloc, b"", 16777216, b"Err", text)?);
+    assert!(rt; is_answered(alloc, b"", 16777216, b"", text)?);
+    let cut = Answer::Wrong(Bad::Cut, 16777215);
+    assert!(rt; is_answered(alloc, b"", 16777215, b"", cut)?);
+    Ok(())
+}
+
+/// A Sequence of so many rows.
+fn rows(alloc: Global, count: u32) -> Result<Vec<u8>, Fail> {
+    let mut body = Vec::from_slice(alloc, b"Dataset { Sequence { Byte n; } q; } d; Data:\n")?;
+    for row in 0..count {
+        body.extend_from_slice(b"Z\0\0\0")?;
+        body.extend_from_slice(&(row % 256).to_be_bytes())?;
+    }
+    body.extend_from_slice(b"\xa5\0\0\0")?;
+    Ok(body)
+}
+
+/// Whether a text ends with another.
+fn ends(text: &[u8], end: &[u8]) -> bool {
+    text.len() >= end.len() && &text[text.len() - end.len()..] == end
+}
+
+#[test]
+fn a_million_rows_are_shown(rt: HostRuntime) -> Result<(), Fail> {
+    let body = rows(rt.alloc(), 1000000)?;
+    let mut source = SureSource::new(Bytes::new(rt.alloc(), body.as_slice())?, 65536);
+    let mut out = MemSink::new(rt.alloc(), 40000000, 65536, List::new(rt.alloc()))?;
+    let outcome = show(rt.alloc(), &mut source, &mut out);
+    assert!(rt; matches!(outcome, Outcome::Complete { bytes: 8000049 }));
+    assert!(rt; ends(out.bytes(), b"q[999999].n = 63\ncomplete 8000049\n"));
+    Ok(())
+}

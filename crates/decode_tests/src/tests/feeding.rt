@@ -1,0 +1,73 @@
+ghost use Rattle.std.specs.Prelude.{◌≡◌, ◌≤◌, ◌+◌, ◌-◌, ◌^◌, length, IfOk};
+ghost use Rattle.xdr_decode.specs.After.{place_of};
+
+use dap_outside::MemSink;
+use dap_types::{List, check};
+use dds_text::{DdsReader, DdsStep};
+use std::alloc::Global;
+use std::test::Fail;
+use xdr_decode::{AllRefusal, BadField, Decoder, Pushed, decode_all};
+
+/// A decoder of the values behind a text, with places from a start on.
+pub fn decoder(alloc: Global, text: &[u8], start: u32) -> Result<Decoder, Fail>
+    ensures { IfOk result (λ decoder. place_of decoder ≡ start) }
+{
+    let mut reader = DdsReader::new(alloc, 0);
+    let DdsStep::Done { used: _ } = reader.push(text)? else {
+        return Err(Fail::new("no text"));
+    };
+    let Some(dataset) = reader.dataset() else {
+        return Err(Fail::new("no dataset"));
+    };
+    let Ok(()) = check(alloc, &dataset) else {
+        return Err(Fail::new("not well formed"));
+    };
+    Ok(Decoder::new(dataset, u64::from(start)))
+}
+
+/// Where to cut some bytes, so that they fall into pieces of a size.
+fn middle(length: usize, size: usize) -> usize
+    requires { 2 ≤ length }
+    ensures some { 1 ≤ result }
+    ensures part { result + 1 ≤ length }
+{
+    let pieces = length.div_ceil(size.max(1));
+    (pieces / 2).saturating_mul(size).clamp(1, length - 1)
+}
+
+/// Hands on the bytes in pieces of a size, up to the first answer that is not `More`.
+pub fn feed(decoder: &mut Decoder, values: &[u8], size: usize, out: &mut MemSink) -> Pushed
+    requires { place_of decoder.old + length values.now ≤ 2 ^ 63 - 1 }
+    ensures { place_of decoder.new ≤ place_of decoder.old + length values.now }
+{
+    if values.len() <= size.max(1) {
+        return decoder.push(values, out);
+    }
+    let (front, behind) = values.split_at(middle(values.len(), size));
+    match feed(decoder, front, size, out) {
+        Pushed::More => feed(decoder, behind, size, out),
+        answer => answer,
+    }
+}
+
+/// An empty sink, of which no call fails.
+pub fn sink(alloc: Global, room: u32) -> Result<MemSink, Fail> {
+    Ok(MemSink::new(alloc, room, 65536, List::new(alloc))?)
+}
+
+/// A text, the line behind it, and values.
+pub fn body(alloc: Global, text: &[u8], values: &[u8]) -> Result<Vec<u8>, Fail> {
+    let mut body = Vec::from_slice(alloc, text)?;
+    body.extend_from_slice(b"Data:\n")?;
+    body.extend_from_slice(values)?;
+    Ok(body)
+}
+
+/// What is wrong with a body, as `decode_all` says.
+pub fn wrong(alloc: Global, body: &[u8]) -> Result<Option<BadField>, Fail> {
+    match decode_all(alloc, body) {
+        Ok(_) => Ok(None),
+        Err(AllRefusal::Refused(bad)) => Ok(Some(bad)),
+        Err(AllRefusal::Memory) => Err(Fail::new("no memory")),
+    }
+}

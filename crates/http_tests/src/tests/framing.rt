@@ -1,0 +1,82 @@
+use dap_http::Framer;
+use dap_outside::{MemSink, Sink, put_all};
+use dap_types::{List, Memory};
+use std::alloc::Global;
+use std::test::Fail;
+
+fn sink(alloc: Global, piece: u32, fails: &[u64]) -> Result<MemSink, Memory> {
+    let mut numbers = List::new(alloc);
+    for number in fails {
+        numbers.push(*number)?;
+    }
+    MemSink::new(alloc, 1_000_000, piece.max(1), numbers)
+}
+
+#[test]
+fn short_bodies_are_one_chunk_or_none(rt: HostRuntime) -> Result<(), Fail> {
+    let rows: [(bool, &[u8], &[u8]); 5] = [
+        (true, b"", b"0\r\n\r\n"),
+        (true, b"a", b"1\r\na\r\n0\r\n\r\n"),
+        (
+            true,
+            b"0123456789abcdef0123456789",
+            b"1a\r\n0123456789abcdef0123456789\r\n0\r\n\r\n",
+        ),
+        (false, b"", b""),
+        (false, b"abc", b"abc"),
+    ];
+    for (chunked, body, wanted) in rows {
+        let mut out = sink(rt.alloc(), 3, &[])?;
+        let framer = Framer::new(rt.alloc(), chunked)?;
+        let mut framing = framer.over(&mut out);
+        assert!(rt; put_all(&mut framing, body).is_ok());
+        assert!(rt; framing.end().is_ok());
+        assert_eq!(rt; out.bytes(), wanted);
+    }
+    Ok(())
+}
+
+/// So many bytes.
+fn bytes(alloc: Global, count: usize) -> Result<Vec<u8>, Memory> {
+    let mut body = Vec::new(alloc);
+    body.resize(count, b'a')?;
+    Ok(body)
+}
+
+#[test]
+fn long_bodies_are_cut_at_65_536(rt: HostRuntime) -> Result<(), Fail> {
+    let rows: [(usize, &[u8], usize); 4] = [
+        (65_535, b"ffff\r\na", 65_548),
+        (65_536, b"10000\r\na", 65_550),
+        (65_537, b"10000\r\na", 65_556),
+        (131_072, b"10000\r\na", 131_095),
+    ];
+    for (count, front, wanted) in rows {
+        let body = bytes(rt.alloc(), count)?;
+        let mut out = sink(rt.alloc(), 1_000_000, &[])?;
+        let framer = Framer::new(rt.alloc(), true)?;
+        let mut framing = framer.over(&mut out);
+        assert!(rt; put_all(&mut framing, body.as_slice()).is_ok());
+        assert!(rt; framing.end().is_ok());
+        assert!(rt; out.bytes().starts_with(front));
+        assert!(rt; out.bytes().ends_with(b"a\r\n0\r\n\r\n"));
+        assert_eq!(rt; out.bytes().len(), wanted);
+    }
+    Ok(())
+}
+
+/// A call of the other sink fails in the middle of a chunk, and the next goes on from there.
+#[test]
+fn a_chunk_goes_on_behind_a_fault(rt: HostRuntime) -> Result<(), Fail> {
+    let body = bytes(rt.alloc(), 65_536)?;
+    let mut out = sink(rt.alloc(), 40_000, &[2])?;
+    let framer = Framer::new(rt.alloc(), true)?;
+    let mut framing = framer.over(&mut out);
+    assert!(rt; put_all(&mut framing, body.as_slice()).is_ok());
+    assert!(rt; framing.put(b"b").is_err());
+    assert!(rt; put_all(&mut framing, b"b").is_ok());
+    assert!(rt; framing.end().is_ok());
+    assert_eq!(rt; out.bytes().len(), 65_556);
+    assert!(rt; out.bytes().ends_with(b"a\r\n1\r\nb\r\n0\r\n\r\n"));
+    Ok(())
+}

@@ -1,0 +1,176 @@
+use dap_http::{HeadRead, HeadReader};
+use dap_outside::{MemSource, SureSource};
+use dap_types::{Bytes, List, Memory};
+use std::alloc::{AllocError, Global};
+use std::test::Fail;
+
+/// What a first read comes to.
+#[derive(Clone, Copy, Debug, PartialEq, Eq)]
+enum Read {
+    Head,
+    Gone,
+    Bad,
+    TooLong,
+}
+
+/// What the first read of an input gives that comes in pieces.
+fn first(alloc: Global, input: &[u8], piece: u32) -> Result<Option<Read>, Memory> {
+    let mut source = SureSource::new(Bytes::new(alloc, input)?, piece.max(1));
+    let mut reader = HeadReader::new(alloc)?;
+    Ok(match reader.read(&mut source) {
+        HeadRead::Head(_) => Some(Read::Head),
+        HeadRead::Gone => Some(Read::Gone),
+        HeadRead::BadRequest => Some(Read::Bad),
+        HeadRead::HeadTooLong => Some(Read::TooLong),
+        HeadRead::ReadFault | HeadRead::Memory { .. } => None,
+    })
+}
+
+#[test]
+fn a_head_is_read_refused_or_cut(rt: HostRuntime) -> Result<(), Fail> {
+    let rows: [(&[u8], Read); 16] = [
+        (b"GET / HTTP/1.1\r\n\r\n", Read::Head),
+        (b"\r\n\nGET / HTTP/1.0\nA:b\n\nmore", Read::Head),
+        (b"GET / HTTP/1.1\r\nHost: h\r\nHost:\r\n\r\n", Read::Head),
+        (b"PUT x HTTP/1.1\r\n\r\n", Read::Head),
+        (b"", Read::Gone),
+        (b"G", Read::Gone),
+        (b"\r", Read::Gone),
+        (b"GET / HTTP/1.1\r\n", Read::Gone),
+        (b"GET / HTTP/1.1\r\nA: b\r\n\r", Read::Gone),
+        (b"GET / HTTP/2.0\r\n\r\n", Read::Bad),
+        (b"GET / HTTP/1.1\r\nA : b\r\n\r\n", Read::Bad),
+        (b"GET / HTTP/1.1\r\nA: b\r\n c\r\n\r\n", Read::Bad),
+        (b"GET / HTTP/1.1\r\nA: \0\r\n\r\n", Read::Bad),
+        (b"GET /\0 HTTP/1.1\r\n\r\n", Read::Bad),
+        (b"G(T / HTTP/1.1\r\n\r\n", Read::Bad),
+        (b"\r\rGET / HTTP/1.1\r\n\r\n", Read::Bad),
+    ];
+    for (input, wanted) in rows {
+        for piece in [1, 3, 4_096] {
+            assert_eq!(rt; first(rt.alloc(), input, piece)?, Some(wanted));
+        }
+    }
+    Ok(())
+}
+
+/// A head of so many fields, whose target has so many bytes, without its end.
+fn long(alloc: Global, target: usize, fields: usize) -> Result<Vec<u8>, AllocError> {
+    let mut input = Vec::from_slice(alloc, b"GET ")?;
+    for _ in 0..target {
+        input.push(b'/')?;
+    }
+    input.extend_from_slice(b" HTTP/1.1\r\n")?;
+    for _ in 0..fields {
+        input.extend_from_slice(b"A:b\r\n")?;
+    }
+    Ok(input)
+}
+
+#[test]
+fn heads_have_limits(rt: HostRuntime) -> Result<(), Fail> {
+    let rows: [(usize, usize, &[u8], Read); 9] = [
+        (1, 64, b"\r\n", Read::Head),
+        (1, 64, b"", Read::Gone),
+        (1, 64, b"A:b", Read::Gone),
+        (1, 65, b"", Read::Bad),
+        (1, 65, b"\r\n", Read::Bad),
+        (16_367, 0, b"\r\n", Read::Head),
+        (16_368, 0, b"\r\n", Read::TooLong),
+        (16_368, 0, b"", Read::Gone),
+        (16_369, 0, b"", Read::TooLong),
+    ];
+    for (target, fields, end, wanted) in rows {
+        let mut input = long(rt.alloc(), target, fields)?;
+        input.extend_from_slice(end)?;
+        assert_eq!(rt; first(rt.alloc(), input.as_slice(), 4_000)?, Some(wanted));
+    }
+    Ok(())
+}
+
+#[test]
+fn requests_follow_each_other(rt: HostRuntime) -> Result<(), Fail> {
+    let input =
+        b"GET /a HTTP/1.1\r\nContent-Length: 0\r\n\r\nHEAD /b HTTP/1.1\r\nConnection: Keep-Alive , CLOSE\r\n\r\nPUT /c HTTP/1.1\r\n\r\nGET /d HTTP/1.0\r\n\r\nGET /e HTTP/1.1\r\ncontent-length:00\r\n\r\nGET /f HTTP/1.1\r\nTransfer-Encoding:\r\n\r\nGET /g HTTP/1.1\r\nConnection: closed\r\n\r\n".as_slice();
+    let rows: [(&str, &[u8], u8, bool); 7] = [
+        ("GET", b"/a", 1, false),
+        ("HEAD", b"/b", 1, true),
+        ("PUT", b"/c", 1, true),
+        ("GET", b"/d", 0, true),
+        ("GET", b"/e", 1, true),
+        ("GET", b"/f", 1, true),
+        ("GET", b"/g", 1, false),
+    ];
+    for piece in [1, 50, 4_096] {
+        let mut source = SureSource::new(Bytes::new(rt.alloc(), input)?, piece);
+        let mut reader = HeadReader::new(rt.alloc())?;
+        for (method, target, minor, ends) in rows {
+            let HeadRead::Head(head) = reader.read(&mut source) else {
+                return Err(Fail::new("no head"));
+            };
+            assert_eq!(rt; head.method.as_str(), method);
+            assert_eq!(rt; head.target.bytes(), target);
+            assert_eq!(rt; head.minor, minor);
+            assert_eq!(rt; head.ends, ends);
+        }
+        assert!(rt; matches!(reader.read(&mut source), HeadRead::Gone));
+    }
+    Ok(())
+}
+
+#[test]
+fn a_head_cut_behind_any_byte_is_gone(rt: HostRuntime) -> Result<(), Fail> {
+    let whole = b"\r\nGET /a HTTP/1.1\r\nA: b\nC:\r\n\r\n".as_slice();
+    for end in 0..whole.len() {
+        if let Some(part) = whole.get(..end) {
+            for piece in [1, 4_096] {
+                assert_eq!(rt; first(rt.alloc(), part, piece)?, Some(Read::Gone));
+            }
+        }
+    }
+    Ok(())
+}
+
+#[test]
+fn heads_tell_their_methods(rt: HostRuntime) -> Result<(), Fail> {
+    let rows = [
+        ("GET", false),
+        ("HEAD", false),
+        ("POST", true),
+        ("PUT", true),
+        ("DELETE", true),
+        ("CONNECT", true),
+        ("OPTIONS", true),
+        ("TRACE", true),
+        ("PATCH", true),
+        ("get", true),
+        ("a-!9", true),
+    ];
+    for (method, ends) in rows {
+        let mut input = Vec::from_slice(rt.alloc(), method.as_bytes())?;
+        input.extend_from_slice(b" * HTTP/1.1\r\n\r\n")?;
+        let bytes = Bytes::new(rt.alloc(), input.as_slice())?;
+        let mut source = SureSource::new(bytes, 7);
+        let mut reader = HeadReader::new(rt.alloc())?;
+        let HeadRead::Head(head) = reader.read(&mut source) else {
+            return Err(Fail::new("no head"));
+        };
+        assert_eq!(rt; head.method.as_str(), method);
+        assert_eq!(rt; head.target.bytes(), b"*".as_slice());
+        assert_eq!(rt; head.ends, ends);
+    }
+    Ok(())
+}
+
+/// A call fails, and the next read goes on with what was kept.
+#[test]
+fn a_head_goes_on_behind_a_fault(rt: HostRuntime) -> Result<(), Fail> {
+    let mut fails = List::new(rt.alloc());
+    fails.push(2)?;
+    let input = Bytes::new(rt.alloc(), b"GET /a HTTP/1.1\r\n\r\n")?;
+    let mut source = MemSource::new(input, 5, fails);
+    let mut reader = HeadReader::new(rt.alloc())?;
+    assert!(rt; matches!(reader.read(&mut source), HeadRead::ReadFault));
+    assert!(rt; matches!(reader.read(&mut source), HeadRead::Head(_)));
+    Ok(())
+}

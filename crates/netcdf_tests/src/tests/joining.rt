@@ -1,0 +1,150 @@
+use crate::tests::made::{Variable, file, sample};
+use crate::tests::seen::{describe, header};
+use netcdf_source::Header;
+use std::alloc::Global;
+use std::test::Fail;
+
+type Dimensions<'a> = &'a [(&'a [u8], u32)];
+
+/// The header of a file of version 1 without attributes of its own.
+fn made(
+    alloc: Global,
+    records: u32,
+    dimensions: Dimensions,
+    variables: &[Variable],
+) -> Result<Header, Fail> {
+    let bytes = file(alloc, 1, records, dimensions, variables, 700)?;
+    header(alloc, &bytes, bytes.len() as u64)
+}
+
+/// Whether a file with two variables over `t` and `n` has the shape of this one.
+fn is_same(alloc: Global, dimensions: Dimensions, variables: &[Variable]) -> Result<bool, Fail> {
+    let dims: [(&[u8], u32); 2] = [(b"t", 0), (b"n", 3)];
+    let both = [sample(b"a", &[0], 1, 600), sample(b"b", &[1], 4, 610)];
+    let one = made(alloc, 2, &dims, &both)?;
+    let other = made(alloc, 9, dimensions, variables)?;
+    Ok(one.same_shape(&other))
+}
+
+/// Whether the shape stays with these dimensions.
+fn has_dimensions(alloc: Global, first: (&[u8], u32), second: (&[u8], u32)) -> Result<bool, Fail> {
+    let both = [sample(b"a", &[0], 1, 600), sample(b"b", &[1], 4, 610)];
+    is_same(alloc, &[first, second], &both)
+}
+
+#[test]
+fn dimensions_are_compared(rt: HostRuntime) -> Result<(), Fail> {
+    let alloc = rt.alloc();
+    assert!(rt; has_dimensions(alloc, (b"t", 0), (b"n", 3))?);
+    assert!(rt; !has_dimensions(alloc, (b"t", 0), (b"m", 3))?);
+    assert!(rt; !has_dimensions(alloc, (b"t", 0), (b"n", 4))?);
+    assert!(rt; !has_dimensions(alloc, (b"t", 1), (b"n", 3))?);
+    Ok(())
+}
+
+/// Whether the shape stays with this first variable.
+fn has_variable(alloc: Global, first: Variable) -> Result<bool, Fail> {
+    let dims: [(&[u8], u32); 2] = [(b"t", 0), (b"n", 3)];
+    is_same(alloc, &dims, &[first, sample(b"b", &[1], 4, 640)])
+}
+
+#[test]
+fn variables_are_compared(rt: HostRuntime) -> Result<(), Fail> {
+    let alloc = rt.alloc();
+    assert!(rt; has_variable(alloc, sample(b"a", &[0], 1, 600))?);
+    assert!(rt; !has_variable(alloc, sample(b"a", &[0], 2, 600))?);
+    assert!(rt; !has_variable(alloc, sample(b"c", &[0], 1, 600))?);
+    assert!(rt; !has_variable(alloc, sample(b"a", &[1], 1, 600))?);
+    assert!(rt; !has_variable(alloc, sample(b"a", &[0, 1], 1, 600))?);
+    Ok(())
+}
+
+/// Neither the places of the variables nor their attributes are part of the shape, but their number
+/// and their order.
+#[test]
+fn places_and_attributes_are_not_compared(rt: HostRuntime) -> Result<(), Fail> {
+    let alloc = rt.alloc();
+    let dims: [(&[u8], u32); 2] = [(b"t", 0), (b"n", 3)];
+    let a = Variable {
+        attributes: &[12, 1, 1, 0x6100_0000, 1, 0],
+        ..sample(b"a", &[0], 1, 630)
+    };
+    let b = sample(b"b", &[1], 4, 610);
+    assert!(rt; is_same(alloc, &dims, &[a, b])?);
+    assert!(rt; !is_same(alloc, &dims, &[b, a])?);
+    assert!(rt; !is_same(alloc, &dims, &[a])?);
+    assert!(rt; !is_same(alloc, &[(b"t", 0)], &[a])?);
+    Ok(())
+}
+
+/// A record dimension `t`, and variables of which `t` and `g` are over it, `g` with its maps.
+fn recorded(alloc: Global, records: u32) -> Result<Header, Fail> {
+    let dims: [(&[u8], u32); 2] = [(b"t", 0), (b"n", 3)];
+    let variables = [
+        sample(b"t", &[0], 1, 600),
+        sample(b"n", &[1], 1, 610),
+        sample(b"g", &[0, 1], 3, 620),
+        sample(b"time", &[1], 4, 650),
+        sample(b"s", &[], 4, 662),
+    ];
+    made(alloc, records, &dims, &variables)
+}
+
+/// A file without a record dimension.
+fn fixed(alloc: Global) -> Result<Header, Fail> {
+    made(alloc, 2, &[(b"t", 1)], &[sample(b"a", &[0], 1, 600)])
+}
+
+#[test]
+fn records_are_told(rt: HostRuntime) -> Result<(), Fail> {
+    let alloc = rt.alloc();
+    assert_eq!(rt; recorded(alloc, 2)?.records(), Some(2));
+    assert_eq!(rt; recorded(alloc, 0)?.records(), Some(0));
+    let fixed = fixed(alloc)?;
+    assert_eq!(rt; fixed.records(), None);
+    assert!(rt; !fixed.is_record(1));
+    Ok(())
+}
+
+/// The leaves over the record dimension: `t`, the array of `g`, and its first map.
+#[test]
+fn leaves_of_records_are_told(rt: HostRuntime) -> Result<(), Fail> {
+    let header = recorded(rt.alloc(), 2)?;
+    let expected = [
+        false, true, false, false, true, true, false, false, false, false,
+    ];
+    for (leaf, is_record) in expected.iter().enumerate() {
+        let found = header.is_record((leaf % 1000) as u32);
+        assert_eq!(rt; found, *is_record, "leaf {leaf}");
+    }
+    Ok(())
+}
+
+/// Whether the header's dataset with so many records is this one.
+fn becomes_with(
+    alloc: Global,
+    header: &Header,
+    records: u64,
+    dataset: &[u8],
+) -> Result<bool, Fail> {
+    if records > 2147483647 {
+        return Ok(false);
+    }
+    let made = describe(alloc, &header.dataset_with(alloc, b"a/f.nc", records)?)?;
+    Ok(made.as_slice() == dataset)
+}
+
+#[test]
+fn datasets_have_that_number_of_records(rt: HostRuntime) -> Result<(), Fail> {
+    let alloc = rt.alloc();
+    let header = recorded(alloc, 2)?;
+    let seven =
+        b"f.nc:Byte t[t=7];Byte n[n=3];g(Int16 g[t=7][n=3];Byte t[t=7];Byte n[n=3];)time(Int32 time[n=3];Byte n[n=3];)Int32 s;";
+    assert!(rt; becomes_with(alloc, &header, 7, seven)?);
+    let most =
+        b"f.nc:Byte t[t=2147483647];Byte n[n=3];g(Int16 g[t=2147483647][n=3];Byte t[t=2147483647];Byte n[n=3];)time(Int32 time[n=3];Byte n[n=3];)Int32 s;";
+    assert!(rt; becomes_with(alloc, &header, 2147483647, most)?);
+    let fixed = fixed(alloc)?;
+    assert!(rt; becomes_with(alloc, &fixed, 7, b"f.nc:Byte a[t=1];")?);
+    Ok(())
+}

@@ -1,0 +1,538 @@
+//! Connections over files and links in memory; the replies are worked out by hand.
+
+ghost use Rattle.std.specs.Prelude.{◌<◌, ◌≤◌};
+
+use dap_outside::{MemFile, MemLink, MemShelf};
+use dap_server::{Ending, Served, serve_connection};
+use dap_types::{Bytes, List, Memory, Name};
+use std::alloc::Global;
+use std::process::Abort;
+use std::test::Fail;
+use std::thread::Threads;
+
+const BUOYS: &[u8] = b"station,depth:Int32\nA1,5\nB22,-7\n";
+
+const V: &[u32] = &[
+    0x43444601, 0, 0x0a, 2, 1, 0x79000000, 3, 1, 0x78000000, 4, 0, 0, 0x0b, 1, 1, 0x76000000, 2, 0,
+    1, 0, 0, 4, 0x30, 0x60, 0, 1, 2, 3, 4, 5, 6, 7, 8, 9, 10, 11,
+];
+
+const DATA_HEAD: &[u8] =
+    b"HTTP/1.1 200 OK\r\nXDODS-Server: dap2/1.0\r\nXDAP: 2.0\r\nContent-Description: dods_data\r\nContent-Type: application/octet-stream\r\nTransfer-Encoding: chunked\r\n\r\n";
+
+const DATA_HEAD_CLOSE: &[u8] =
+    b"HTTP/1.1 200 OK\r\nXDODS-Server: dap2/1.0\r\nXDAP: 2.0\r\nContent-Description: dods_data\r\nContent-Type: application/octet-stream\r\nConnection: close\r\n\r\n";
+
+const BUOYS_BODY: &[u8] =
+    b"Dataset {\n    Sequence {\n        String station;\n        Int32 depth;\n    } buoys;\n} buoys.csv;\nData:\n\x5a\0\0\0\0\0\0\x02A1\0\0\0\0\0\x05\x5a\0\0\0\0\0\0\x03B22\0\xff\xff\xff\xf9\xa5\0\0\0";
+
+const LAST_CHUNK: &[u8] = b"\r\n0\r\n\r\n";
+
+const VERSION: &[u8] =
+    b"HTTP/1.1 200 OK\r\nXDODS-Server: dap2/1.0\r\nXDAP: 2.0\r\nContent-Description: dods_version\r\nContent-Type: text/plain\r\nContent-Length: 47\r\n\r\nCore version: DAP/2.0\nServer version: dap2/1.0\n";
+
+const LAST_VERSION: &[u8] =
+    b"HTTP/1.1 200 OK\r\nXDODS-Server: dap2/1.0\r\nXDAP: 2.0\r\nContent-Description: dods_version\r\nContent-Type: text/plain\r\nContent-Length: 47\r\nConnection: close\r\n\r\nCore version: DAP/2.0\nServer version: dap2/1.0\n";
+
+const BAD_METHOD: &[u8] =
+    b"HTTP/1.1 405 Method Not Allowed\r\nXDODS-Server: dap2/1.0\r\nXDAP: 2.0\r\nAllow: GET, HEAD\r\nContent-Description: dods_error\r\nContent-Type: text/plain\r\nContent-Length: 54\r\nConnection: close\r\n\r\nError {\n    code = 16;\n    message = \"bad method\";\n};\n";
+
+const BAD_TARGET: &[u8] =
+    b"HTTP/1.1 400 Bad Request\r\nXDODS-Server: dap2/1.0\r\nXDAP: 2.0\r\nContent-Description: dods_error\r\nContent-Type: text/plain\r\nContent-Length: 54\r\n\r\nError {\n    code = 14;\n    message = \"bad target\";\n};\n";
+
+const BAD_REQUEST: &[u8] =
+    b"HTTP/1.1 400 Bad Request\r\nXDODS-Server: dap2/1.0\r\nXDAP: 2.0\r\nContent-Description: dods_error\r\nContent-Type: text/plain\r\nContent-Length: 55\r\nConnection: close\r\n\r\nError {\n    code = 17;\n    message = \"bad request\";\n};\n";
+
+const TOO_LONG: &[u8] =
+    b"HTTP/1.1 431 Request Header Fields Too Large\r\nXDODS-Server: dap2/1.0\r\nXDAP: 2.0\r\nContent-Description: dods_error\r\nContent-Type: text/plain\r\nContent-Length: 57\r\nConnection: close\r\n\r\nError {\n    code = 18;\n    message = \"head too long\";\n};\n";
+
+const REFUSED: &[u8] =
+    b"HTTP/1.1 400 Bad Request\r\nXDODS-Server: dap2/1.0\r\nXDAP: 2.0\r\nContent-Description: dods_error\r\nContent-Type: text/plain\r\nContent-Length: 65\r\n\r\nError {\n    code = 2;\n    message = \"unknown name in item 1\";\n};\n";
+
+const NO_FILE: &[u8] =
+    b"HTTP/1.1 404 Not Found\r\nXDODS-Server: dap2/1.0\r\nXDAP: 2.0\r\nContent-Description: dods_error\r\nContent-Type: text/plain\r\nContent-Length: 56\r\n\r\nError {\n    code = 15;\n    message = \"no such file\";\n};\n";
+
+const READ_FAILED: &[u8] =
+    b"HTTP/1.1 500 Internal Server Error\r\nXDODS-Server: dap2/1.0\r\nXDAP: 2.0\r\nContent-Description: dods_error\r\nContent-Type: text/plain\r\nContent-Length: 55\r\n\r\nError {\n    code = 20;\n    message = \"read failed\";\n};\n";
+
+/// The head of the same to HEAD, which ends the connection.
+const READ_FAILED_HEAD: &[u8] =
+    b"HTTP/1.1 500 Internal Server Error\r\nXDODS-Server: dap2/1.0\r\nXDAP: 2.0\r\nContent-Description: dods_error\r\nContent-Type: text/plain\r\nContent-Length: 55\r\nConnection: close\r\n\r\n";
+
+const DAS: &[u8] =
+    b"HTTP/1.1 200 OK\r\nXDODS-Server: dap2/1.0\r\nXDAP: 2.0\r\nContent-Description: dods_das\r\nContent-Type: text/plain\r\nContent-Length: 51\r\n\r\nAttributes {\n    v {\n    }\n    NC_GLOBAL {\n    }\n}\n";
+
+const DDS_HEAD: &[u8] =
+    b"HTTP/1.1 200 OK\r\nXDODS-Server: dap2/1.0\r\nXDAP: 2.0\r\nContent-Description: dods_dds\r\nContent-Type: text/plain\r\nContent-Length: 96\r\nConnection: close\r\n\r\n";
+
+/// The DDS of a file without variables.
+const LONG_DDS: &[u8] =
+    b"HTTP/1.1 200 OK\r\nXDODS-Server: dap2/1.0\r\nXDAP: 2.0\r\nContent-Description: dods_dds\r\nContent-Type: text/plain\r\nContent-Length: 21\r\n\r\nDataset {\n} long.nc;\n";
+
+const GET_BUOYS: &[u8] = b"GET /buoys.csv.dods HTTP/1.1\r\nHost: x\r\n\r\n";
+
+const TWO: &[u8] =
+    b"GET /none.html HTTP/1.1\r\n\r\nHEAD /buoys.csv.dds HTTP/1.1\r\nConnection: close\r\n\r\n";
+
+const GET_VERSION: &[u8] = b"GET /any.ver HTTP/1.1\r\n\r\n";
+
+/// What a connection wrote, and how it was served.
+#[derive(Drop)]
+struct Done {
+    written: Bytes,
+    served: Served,
+}
+
+/// The numbers of the calls that fail, how much moves at once, and how many workers there are.
+#[derive(Clone, Copy)]
+struct Faults<'a> {
+    shelf: &'a [u64],
+    takes: &'a [u64],
+    puts: &'a [u64],
+    piece: u32,
+    workers: u32,
+}
+
+const SURE: Faults<'static> = Faults {
+    shelf: &[],
+    takes: &[],
+    puts: &[],
+    piece: 100_000,
+    workers: 3,
+};
+
+fn numbers(alloc: Global, all: &[u64]) -> Result<List<u64>, Memory> {
+    let mut list = List::new(alloc);
+    for number in all {
+        list.push(*number)?;
+    }
+    Ok(list)
+}
+
+fn file(alloc: Global, name: &str, words: &[u32], behind: &[u8]) -> Result<MemFile, Memory> {
+    let mut bytes = Vec::new(alloc);
+    for word in words {
+        bytes.extend_from_slice(&word.to_be_bytes())?;
+    }
+    bytes.extend_from_slice(behind)?;
+    Ok(MemFile {
+        name: Name::new(alloc, name)?,
+        bytes: Bytes::from_vec(bytes),
+    })
+}
+
+fn files(alloc: Global) -> Result<List<MemFile>, Memory> {
+    let mut files = List::new(alloc);
+    files.push(file(alloc, "buoys.csv", &[], BUOYS)?)?;
+    files.push(file(alloc, "v.nc", V, b"")?)?;
+    Ok(files)
+}
+
+fn joined(alloc: Global, parts: &[&[u8]]) -> Result<Vec<u8>, Memory> {
+    let mut bytes = Vec::new(alloc);
+    for part in parts {
+        bytes.extend_from_slice(part)?;
+    }
+    Ok(bytes)
+}
+
+/// A file without variables whose header has 70,048 bytes: one attribute of 70,000 characters.
+fn long_header(alloc: Global) -> Result<List<MemFile>, Memory> {
+    let mut behind = Vec::new(alloc);
+    behind.resize(70_000, b'x')?;
+    behind.resize(70_008, 0)?;
+    let words = [0x43444601, 0, 0, 0, 12, 1, 1, 0x61000000, 2, 70_000];
+    let mut files = List::new(alloc);
+    files.push(file(alloc, "long.nc", &words, &behind)?)?;
+    Ok(files)
+}
+
+fn served_over<R: Threads + AllocGlobal + Sync>(
+    rt: &R,
+    input: &[u8],
+    faults: Faults<'_>,
+) -> Result<Done, Memory> {
+    served_from(rt, files(rt.alloc())?, input, faults)
+}
+
+fn served_from<R: Threads + AllocGlobal + Sync>(
+    rt: &R,
+    files: List<MemFile>,
+    input: &[u8],
+    faults: Faults<'_>,
+) -> Result<Done, Memory> {
+    let alloc = rt.alloc();
+    let mut shelf = MemShelf::new(files, numbers(alloc, faults.shelf)?);
+    let takes = numbers(alloc, faults.takes)?;
+    let puts = numbers(alloc, faults.puts)?;
+    let piece = faults.piece.max(1);
+    let input = Bytes::new(alloc, input)?;
+    let mut link = MemLink::new(alloc, input, 300_000, piece, takes, puts)?;
+    let workers = faults.workers.max(1).min(64);
+    let served = serve_connection(alloc, rt, &mut shelf, &mut link, workers);
+    Ok(Done {
+        written: Bytes::new(alloc, link.written())?,
+        served,
+    })
+}
+
+fn as_served(replies: u32, status: u16, ending: Ending) -> Served {
+    Served {
+        replies,
+        status,
+        ending,
+    }
+}
+
+/// An input, the parts of what is written, how many replies, the last status and the ending.
+type Row = (&'static [u8], &'static [&'static [u8]], u32, u16, Ending);
+
+const ROWS: &[Row] = &[
+    (
+        GET_BUOYS,
+        &[DATA_HEAD, b"8a\r\n", BUOYS_BODY, LAST_CHUNK],
+        1,
+        200,
+        Ending::Gone,
+    ),
+    (
+        b"GET /buoys.csv.dods HTTP/1.0\r\nHost: x\r\n\r\n",
+        &[DATA_HEAD_CLOSE, BUOYS_BODY],
+        1,
+        200,
+        Ending::Closed,
+    ),
+    (
+        b"HEAD /buoys.csv.dods HTTP/1.1\r\n\r\n",
+        &[DATA_HEAD],
+        1,
+        200,
+        Ending::Gone,
+    ),
+    (
+        b"POST /v.nc.dds HTTP/1.1\r\n\r\n",
+        &[BAD_METHOD],
+        1,
+        405,
+        Ending::Closed,
+    ),
+    (b"", &[], 0, 0, Ending::Gone),
+    (
+        b"GET /v.nc.das HTTP/1.1\r\n\r\n",
+        &[DAS],
+        1,
+        200,
+        Ending::Gone,
+    ),
+    (GET_VERSION, &[VERSION], 1, 200, Ending::Gone),
+    (TWO, &[BAD_TARGET, DDS_HEAD], 2, 200, Ending::Closed),
+    (
+        b"GET /v.nc.dods?nope HTTP/1.1\r\n\r\n",
+        &[REFUSED],
+        1,
+        400,
+        Ending::Gone,
+    ),
+    (
+        b"GET /none.nc.dods HTTP/1.1\r\n\r\nGET http://x:8080/any.ver HTTP/1.1\r\n\r\n",
+        &[NO_FILE, VERSION],
+        2,
+        200,
+        Ending::Gone,
+    ),
+    (
+        b"GET /any.ver HTTP/1.1\r\nContent-Length: 3\r\n\r\nabcGET /any.ver HTTP/1.1\r\n\r\n",
+        &[LAST_VERSION],
+        1,
+        200,
+        Ending::Closed,
+    ),
+    (
+        b"GET /any.ver HTTP/1.1\r\nContent-Length: 0\r\n\r\nGET /any.ver HTTP/1.1\r\nTransfer-Encoding: identity\r\n\r\n",
+        &[VERSION, LAST_VERSION],
+        2,
+        200,
+        Ending::Closed,
+    ),
+    (
+        b"GET /any.ver HTTP/1.1\r\nConnection: keep-alive, Close\r\n\r\nGET /any.ver HTTP/1.1\r\n\r\n",
+        &[LAST_VERSION],
+        1,
+        200,
+        Ending::Closed,
+    ),
+    (
+        b"GET /any.ver HTTP/1.0\r\nConnection: keep-alive\r\n\r\nGET /any.ver HTTP/1.1\r\n\r\n",
+        &[LAST_VERSION],
+        1,
+        200,
+        Ending::Closed,
+    ),
+    (
+        b"GET /any.ver HTTP/1.1\r\n\r\n\x01\r\n\r\n",
+        &[VERSION, BAD_REQUEST],
+        2,
+        400,
+        Ending::Closed,
+    ),
+    (
+        b"GET http://x HTTP/1.1\r\n\r\n",
+        &[BAD_TARGET],
+        1,
+        400,
+        Ending::Gone,
+    ),
+];
+
+#[test]
+fn each_request_has_its_reply(rt: HostRuntime) -> Result<(), Fail> {
+    let alloc = rt.alloc();
+    for (input, parts, replies, status, ending) in ROWS {
+        let expected = joined(alloc, parts)?;
+        for (piece, workers) in [(100_000, 1), (1, 64)] {
+            let faults = Faults {
+                piece,
+                workers,
+                ..SURE
+            };
+            let found = served_over(&rt, input, faults)?;
+            assert_eq!(rt; found.written.bytes(), expected.as_slice());
+            assert_eq!(rt; found.served, as_served(*replies, *status, *ending));
+        }
+    }
+    Ok(())
+}
+
+/// A request of one header which makes its head so long.
+fn long_head(alloc: Global, len: usize) -> Result<Vec<u8>, Memory> {
+    let mut bytes = joined(alloc, &[b"GET /any.ver HTTP/1.1\r\na: "])?;
+    for _ in 0..len.saturating_sub(30) {
+        bytes.push(b'x')?;
+    }
+    bytes.extend_from_slice(b"\r\n\r\n")?;
+    Ok(bytes)
+}
+
+/// A request of so many headers.
+fn headers(alloc: Global, count: u32) -> Result<Vec<u8>, Memory> {
+    let mut bytes = joined(alloc, &[b"GET /any.ver HTTP/1.1\r\n"])?;
+    for _ in 0..count {
+        bytes.extend_from_slice(b"a: b\r\n")?;
+    }
+    bytes.extend_from_slice(b"\r\n")?;
+    Ok(bytes)
+}
+
+#[test]
+fn heads_at_their_limits(rt: HostRuntime) -> Result<(), Fail> {
+    let alloc = rt.alloc();
+    let whole = (VERSION, as_served(1, 200, Ending::Gone));
+    let long = (TOO_LONG, as_served(1, 431, Ending::Closed));
+    let bad = (BAD_REQUEST, as_served(1, 400, Ending::Closed));
+    for (input, (written, served)) in [
+        (long_head(alloc, 16_384)?, whole),
+        (long_head(alloc, 16_385)?, long),
+        (headers(alloc, 64)?, whole),
+        (headers(alloc, 65)?, bad),
+    ] {
+        let found = served_over(&rt, &input, SURE)?;
+        assert_eq!(rt; found.written.bytes(), written);
+        assert_eq!(rt; found.served, served);
+    }
+    Ok(())
+}
+
+#[test]
+fn a_head_that_is_cut_is_no_request(rt: HostRuntime) -> Result<(), Fail> {
+    let alloc = rt.alloc();
+    for len in 0..GET_BUOYS.len() {
+        let input = joined(alloc, &[GET_VERSION, &GET_BUOYS[..len]])?;
+        let found = served_over(&rt, &input, Faults { piece: 7, ..SURE })?;
+        assert_eq!(rt; found.written.bytes(), VERSION);
+        assert_eq!(rt; found.served, as_served(1, 200, Ending::Gone));
+    }
+    Ok(())
+}
+
+#[test]
+fn the_thousandth_is_the_last(rt: HostRuntime) -> Result<(), Fail> {
+    let alloc = rt.alloc();
+    for count in [1_000, 1_001] {
+        let mut input = Vec::new(alloc);
+        let mut expected = Vec::new(alloc);
+        for number in 1..count + 1u32 {
+            input.extend_from_slice(GET_VERSION)?;
+            if number < 1_000 {
+                expected.extend_from_slice(VERSION)?;
+            }
+        }
+        expected.extend_from_slice(LAST_VERSION)?;
+        let found = served_over(&rt, &input, SURE)?;
+        assert_eq!(rt; found.served, as_served(1_000, 200, Ending::Closed));
+        assert_eq!(rt; found.written.bytes(), expected.as_slice());
+    }
+    Ok(())
+}
+
+#[test]
+fn a_failed_read_before_the_head_is_told(rt: HostRuntime) -> Result<(), Fail> {
+    let alloc = rt.alloc();
+    let after = joined(alloc, &[BAD_TARGET, READ_FAILED_HEAD])?;
+    for n in [1u64, 2] {
+        let fails: [u64; 1] = [n];
+        let faults = Faults {
+            shelf: &fails,
+            ..SURE
+        };
+        let found = served_over(&rt, GET_BUOYS, faults)?;
+        assert_eq!(rt; found.written.bytes(), READ_FAILED);
+        assert_eq!(rt; found.served, as_served(1, 500, Ending::Gone));
+        let found = served_over(&rt, TWO, faults)?;
+        assert_eq!(rt; found.written.bytes(), after.as_slice());
+        assert_eq!(rt; found.served, as_served(2, 500, Ending::Closed));
+    }
+    let faults = Faults {
+        shelf: &[3],
+        ..SURE
+    };
+    let found = served_over(&rt, GET_BUOYS, faults)?;
+    assert_eq!(rt; found.served, as_served(1, 200, Ending::Gone));
+    Ok(())
+}
+
+/// A header of more than 64 KiB takes one read more, and no third.
+#[test]
+fn a_long_header_is_read_on(rt: HostRuntime) -> Result<(), Fail> {
+    let alloc = rt.alloc();
+    for (call, written, status) in [(3u64, READ_FAILED, 500), (4, LONG_DDS, 200)] {
+        let fails: [u64; 1] = [call];
+        let faults = Faults {
+            shelf: &fails,
+            ..SURE
+        };
+        let input = b"GET /long.nc.dds HTTP/1.1\r\n\r\n";
+        let found = served_from(&rt, long_header(alloc)?, input, faults)?;
+        assert_eq!(rt; found.written.bytes(), written);
+        assert_eq!(rt; found.served, as_served(1, status, Ending::Gone));
+    }
+    Ok(())
+}
+
+/// A file that cannot be read further behind the head of its reply.
+#[test]
+fn a_failed_read_behind_the_head_breaks_off(rt: HostRuntime) -> Result<(), Fail> {
+    let alloc = rt.alloc();
+    let fails: [u64; 1] = [3];
+    let faults = Faults {
+        shelf: &fails,
+        ..SURE
+    };
+    let input = joined(
+        alloc,
+        &[GET_VERSION, b"GET /v.nc.dods HTTP/1.1\r\n\r\n", GET_VERSION],
+    )?;
+    let front = joined(alloc, &[VERSION, DATA_HEAD])?;
+    let found = served_over(&rt, &input, faults)?;
+    assert!(rt; found.written.bytes().starts_with(&front));
+    assert!(rt; !found.written.bytes().ends_with(LAST_CHUNK));
+    assert_eq!(rt; found.served, as_served(1, 200, Ending::Broken));
+    Ok(())
+}
+
+/// Each take fails in turn: a first request of so many bytes that came before has its reply.
+fn expect_read_faults<R: Threads + Abort + AllocGlobal + Sync>(
+    rt: &R,
+    input: &[u8],
+    first: (usize, &[u8], u16),
+    whole: &[u8],
+) -> Result<(), Fail> {
+    let (len, reply, status) = first;
+    for n in 1..100u64 {
+        let fails: [u64; 1] = [n];
+        let faults = Faults {
+            takes: &fails,
+            piece: 2,
+            ..SURE
+        };
+        let found = served_over(rt, input, faults)?;
+        if found.served.ending != Ending::ReadFault {
+            assert_eq!(rt; found.written.bytes(), whole);
+            return Ok(());
+        }
+        let (written, served) = if 2 * (n as usize - 1) >= len {
+            (reply, as_served(1, status, Ending::ReadFault))
+        } else {
+            (b"".as_slice(), as_served(0, 0, Ending::ReadFault))
+        };
+        assert_eq!(rt; found.written.bytes(), written);
+        assert_eq!(rt; found.served, served);
+    }
+    Err(Fail::from("every run failed"))
+}
+
+#[test]
+fn each_take_may_fail(rt: HostRuntime) -> Result<(), Fail> {
+    let alloc = rt.alloc();
+    let data = joined(alloc, &[DATA_HEAD, b"8a\r\n", BUOYS_BODY, LAST_CHUNK])?;
+    let two = joined(alloc, &[BAD_TARGET, DDS_HEAD])?;
+    expect_read_faults(&rt, GET_BUOYS, (41, &data, 200), &data)?;
+    expect_read_faults(&rt, TWO, (27, BAD_TARGET, 400), &two)
+}
+
+/// Each put fails in turn: a front of the replies is out.
+fn expect_fronts<R: Threads + Abort + AllocGlobal + Sync>(
+    rt: &R,
+    input: &[u8],
+    whole: &[u8],
+    piece: u32,
+) -> Result<(), Fail> {
+    let mut ended = false;
+    for n in 1..400u64 {
+        let fails: [u64; 1] = [n];
+        let faults = Faults {
+            puts: &fails,
+            piece,
+            ..SURE
+        };
+        let found = served_over(rt, input, faults)?;
+        if found.served.ending != Ending::WriteFault {
+            assert_eq!(rt; found.written.bytes(), whole);
+            ended = true;
+            break;
+        }
+        assert!(rt; whole.starts_with(found.written.bytes()));
+        assert!(rt; found.written.bytes().len() < whole.len());
+        let one = found.written.bytes().len() >= BAD_TARGET.len() && input == TWO;
+        let replies = if one { 1 } else { 0 };
+        assert_eq!(rt; found.served.replies, replies);
+    }
+    assert!(rt; ended);
+    Ok(())
+}
+
+#[test]
+fn each_put_may_fail(rt: HostRuntime) -> Result<(), Fail> {
+    let alloc = rt.alloc();
+    let data = joined(alloc, &[DATA_HEAD, b"8a\r\n", BUOYS_BODY, LAST_CHUNK])?;
+    let two = joined(alloc, &[BAD_TARGET, DDS_HEAD])?;
+    for piece in [13, 100_000] {
+        expect_fronts(&rt, GET_BUOYS, &data, piece)?;
+        expect_fronts(&rt, TWO, &two, piece)?;
+    }
+    Ok(())
+}
+
+/// A reply that fits in the room goes out in one put, its head with it.
+#[test]
+fn small_replies_are_one_put(rt: HostRuntime) -> Result<(), Fail> {
+    for (input, replies) in [(GET_VERSION, 1), (TWO, 2), (GET_BUOYS, 1)] {
+        let fails: [u64; 1] = [u64::from(replies) + 1];
+        let faults = Faults {
+            puts: &fails,
+            ..SURE
+        };
+        let found = served_over(&rt, input, faults)?;
+        assert_eq!(rt; found.served.replies, replies);
+    }
+    Ok(())
+}

@@ -1,0 +1,5 @@
+//! Cases of `dap_server`: connections over links in memory.
+#![tactic(auto)]
+
+#[cfg(test)]
+mod connection_tests;
