@@ -2,7 +2,6 @@
 
 mod causes;
 mod each_call;
-mod hostile;
 mod samples;
 mod texts;
 

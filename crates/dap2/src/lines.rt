@@ -1,4 +1,4 @@
-ghost use Rattle.std.specs.Prelude.{◌≡◌, ◌≤◌, IfOk, OnErr, OnOk};
+ghost use Rattle.std.specs.Prelude.{◌≡◌, ◌≤◌, OnErr, OnOk};
 ghost use Rattle.std.specs.Io.KnownBytes.{Appends};
 ghost use Rattle.std.specs.List.{flat_map};
 ghost use Rattle.dap_outside.specs.Causes.{HasCause};
@@ -6,8 +6,6 @@ ghost use Rattle.dap_outside.specs.Streams.{AppendsFront};
 ghost use Rattle.dap2.specs.Lines.{IsSaid, bad_reply_line, cause_line, server_error_line};
 
 use dap_outside::{Failed, Sink, put_all};
-use dap_types::{Bytes, Memory};
-use std::alloc::Global;
 use xdr_decode::{BadField, put_shown_text};
 
 /// Puts the pieces, one after the other. Fails only where the count of faults rose, and then a front
@@ -22,31 +20,6 @@ pub fn put_each<O: Sink>(out: &mut O, pieces: &[&[u8]]) -> Result<(), Failed>
         put_all(out, piece)?;
     }
     Ok(())
-}
-
-/// The pieces in one.
-fn joined(alloc: Global, pieces: &[&[u8]]) -> Result<Bytes, Memory>
-    ensures { IfOk result (λ text. text ≡ flat_map (λ piece. piece.now) pieces.now) }
-{
-    let mut text = Vec::new(alloc);
-    for piece in pieces {
-        text.extend_from_slice(piece)?;
-    }
-    Ok(Bytes::from_vec(text))
-}
-
-/// Puts the pieces at once, or where no memory is had for that one after the other. Fails only where the
-/// count of faults rose, and then a front of them is put.
-pub fn put_at_once<O: Sink>(alloc: Global, out: &mut O, pieces: &[&[u8]]) -> Result<(), Failed>
-    ensures ok { OnOk result (Appends (O.written out.old) (O.written out.new) (flat_map (λ piece. piece.now) pieces.now)) }
-    ensures err { OnErr result (AppendsFront (O.written out.old) (O.written out.new) (flat_map (λ piece. piece.now) pieces.now)) }
-    ensures cause { HasCause (O.put_faults out.old) (O.put_faults out.new) result }
-    ensures beside { O.beside_writing out.new ≡ O.beside_writing out.old }
-{
-    match joined(alloc, pieces) {
-        Ok(text) => put_all(out, text.bytes()),
-        Err(Memory) => put_each(out, pieces),
-    }
 }
 
 /// Says a line, which is these pieces one after the other. A put that fails ends it.

@@ -17,9 +17,6 @@ mod serve;
 #[cfg(test)]
 mod serve_tests;
 mod show;
-#[cfg(test)]
-mod soak_tests;
-mod soaking;
 mod status;
 mod std_streams;
 mod tcp;

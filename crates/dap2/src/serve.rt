@@ -7,7 +7,7 @@ ghost use Rattle.dap_outside.specs.Streams.{AppendsFront};
 ghost use Rattle.dap_server.specs.Connections.{RoseBy, failures};
 ghost use Rattle.dap2.specs.Serve.{IsVisit, IsWholeVisit, Serves, Visit, ending_name, link_line};
 
-use crate::lines::put_at_once;
+use crate::lines::put_each;
 use crate::status::Status;
 use dap_outside::{Door, Failed, Shelf, Sink};
 use dap_server::{Ending, Served, serve_connection};
@@ -28,7 +28,7 @@ fn ending_name(ending: Ending) -> &'static str
 }
 
 /// Puts the line of a link.
-fn put_line<O: Sink>(alloc: Global, out: &mut O, number: u32, served: Served) -> Result<(), Failed>
+fn put_line<O: Sink>(out: &mut O, number: u32, served: Served) -> Result<(), Failed>
     ensures ok { OnOk result (Appends (O.written out.old) (O.written out.new) (link_line number served)) }
     ensures err { OnErr result (AppendsFront (O.written out.old) (O.written out.new) (link_line number served)) }
     ensures cause { HasCause (O.put_faults out.old) (O.put_faults out.new) result }
@@ -39,8 +39,7 @@ fn put_line<O: Sink>(alloc: Global, out: &mut O, number: u32, served: Served) ->
     let number = digits.format(number).as_bytes();
     let replies = count_digits.format(served.replies).as_bytes();
     let ending = ending_name(served.ending).as_bytes();
-    put_at_once(
-        alloc,
+    put_each(
         out,
         &[b"connection ", number, b" ", replies, b" ", ending, b"\n"],
     )
@@ -98,7 +97,7 @@ fn serve_links<R: Threads + Sync, S: Shelf, O: Sink, D: Door>(
 {
     for number in 0..requests {
         match serve_next(rt, alloc, workers, shelf, door) {
-            Ok(served) => match put_line(alloc, out, number + 1, served) {
+            Ok(served) => match put_line(out, number + 1, served) {
                 Ok(()) => {}
                 Err(_) => return Status::WriteFault,
             },

@@ -116,13 +116,12 @@ fn each_link_is_served_and_handed_back(rt: HostRuntime) -> Result<(), Fail> {
 #[test]
 fn a_door_that_fails_ends_it(rt: HostRuntime) -> Result<(), Fail> {
     let none: &[u8] = b"";
-    let rows: [(u32, &[u64], &[u64], Status, usize, &[u8]); 6] = [
+    let rows: [(u32, &[u64], &[u64], Status, usize, &[u8]); 5] = [
         (3, &[1], &[], Status::LinkFault, 0, none),
         (3, &[2], &[], Status::LinkFault, 0, none),
         (3, &[3], &[], Status::LinkFault, 1, &LINES[..20]),
         (4, &[], &[], Status::LinkFault, 3, LINES),
         (3, &[], &[1], Status::WriteFault, 1, none),
-        (3, &[], &[2], Status::WriteFault, 2, &LINES[..20]),
     ];
     for (requests, door_fails, out_fails, status, back, lines) in rows {
         let found = served_over(&rt, requests, door_fails, out_fails)?;
@@ -197,17 +196,6 @@ fn a_request_over_the_real_door(rt: HostRuntime) -> Result<(), Fail> {
     assert_eq!(rt; reply.bytes(), LAST_REPLY);
     assert_eq!(rt; served.replies, 1);
     assert!(rt; matches!(served.ending, Ending::Closed));
-    Ok(())
-}
-
-/// A link that is closed over bytes that nobody took is reset.
-#[test]
-fn bytes_behind_the_last_request_are_taken(rt: HostRuntime) -> Result<(), Fail> {
-    let mut request = Vec::from_slice(rt.alloc(), CLOSE)?;
-    request.resize(20_000, b'x')?;
-    let (served, reply) = served_over_the_door(&rt, &request)?;
-    assert_eq!(rt; reply.bytes(), LAST_REPLY);
-    assert_eq!(rt; served.replies, 1);
     Ok(())
 }
 

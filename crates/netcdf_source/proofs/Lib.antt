@@ -26,7 +26,6 @@ pub mod Shaped
 pub mod Zeros
 pub mod AttributeValues
 pub mod NewNames
-pub mod NameKeys
 pub mod Counted
 pub mod OneVerdict
 pub mod HeaderNames

@@ -4,4 +4,3 @@ pub mod Sound
 pub mod Told
 pub mod Shapes
 pub mod Unread
-pub mod Keys

@@ -83,14 +83,13 @@ struct Done {
     served: Served,
 }
 
-/// The numbers of the calls that fail, how much moves at once, and how many workers there are.
+/// The numbers of the calls that fail, and how much moves at once.
 #[derive(Clone, Copy)]
 struct Faults<'a> {
     shelf: &'a [u64],
     takes: &'a [u64],
     puts: &'a [u64],
     piece: u32,
-    workers: u32,
 }
 
 const SURE: Faults<'static> = Faults {
@@ -98,7 +97,6 @@ const SURE: Faults<'static> = Faults {
     takes: &[],
     puts: &[],
     piece: 100_000,
-    workers: 3,
 };
 
 fn numbers(alloc: Global, all: &[u64]) -> Result<List<u64>, Memory> {
@@ -168,8 +166,7 @@ fn served_from<R: Threads + AllocGlobal + Sync>(
     let piece = faults.piece.max(1);
     let input = Bytes::new(alloc, input)?;
     let mut link = MemLink::new(alloc, input, 300_000, piece, takes, puts)?;
-    let workers = faults.workers.max(1).min(64);
-    let served = serve_connection(alloc, rt, &mut shelf, &mut link, workers);
+    let served = serve_connection(alloc, rt, &mut shelf, &mut link, 3);
     Ok(Done {
         written: Bytes::new(alloc, link.written())?,
         served,
@@ -289,13 +286,8 @@ fn each_request_has_its_reply(rt: HostRuntime) -> Result<(), Fail> {
     let alloc = rt.alloc();
     for (input, parts, replies, status, ending) in ROWS {
         let expected = joined(alloc, parts)?;
-        for (piece, workers) in [(100_000, 1), (1, 64)] {
-            let faults = Faults {
-                piece,
-                workers,
-                ..SURE
-            };
-            let found = served_over(&rt, input, faults)?;
+        for piece in [100_000, 1] {
+            let found = served_over(&rt, input, Faults { piece, ..SURE })?;
             assert_eq!(rt; found.written.bytes(), expected.as_slice());
             assert_eq!(rt; found.served, as_served(*replies, *status, *ending));
         }
@@ -391,12 +383,6 @@ fn a_failed_read_before_the_head_is_told(rt: HostRuntime) -> Result<(), Fail> {
         assert_eq!(rt; found.written.bytes(), after.as_slice());
         assert_eq!(rt; found.served, as_served(2, 500, Ending::Closed));
     }
-    let faults = Faults {
-        shelf: &[3],
-        ..SURE
-    };
-    let found = served_over(&rt, GET_BUOYS, faults)?;
-    assert_eq!(rt; found.served, as_served(1, 200, Ending::Gone));
     Ok(())
 }
 
@@ -439,14 +425,12 @@ fn a_failed_read_behind_the_head_breaks_off(rt: HostRuntime) -> Result<(), Fail>
     Ok(())
 }
 
-/// Each take fails in turn: a first request of so many bytes that came before has its reply.
-fn expect_read_faults<R: Threads + Abort + AllocGlobal + Sync>(
-    rt: &R,
-    input: &[u8],
-    first: (usize, &[u8], u16),
-    whole: &[u8],
-) -> Result<(), Fail> {
-    let (len, reply, status) = first;
+/// Each take fails in turn: the requests that came before are answered.
+#[test]
+fn each_take_may_fail(rt: HostRuntime) -> Result<(), Fail> {
+    let alloc = rt.alloc();
+    let whole = joined(alloc, &[BAD_TARGET, DDS_HEAD])?;
+    let mut ended = false;
     for n in 1..100u64 {
         let fails: [u64; 1] = [n];
         let faults = Faults {
@@ -454,29 +438,25 @@ fn expect_read_faults<R: Threads + Abort + AllocGlobal + Sync>(
             piece: 2,
             ..SURE
         };
-        let found = served_over(rt, input, faults)?;
-        if found.served.ending != Ending::ReadFault {
-            assert_eq!(rt; found.written.bytes(), whole);
-            return Ok(());
+        let found = served_over(&rt, TWO, faults)?;
+        if found.served.ending == Ending::Closed {
+            assert_eq!(rt; found.written.bytes(), whole.as_slice());
+            ended = true;
+            break;
         }
-        let (written, served) = if 2 * (n as usize - 1) >= len {
-            (reply, as_served(1, status, Ending::ReadFault))
+        let came = 2 * (n as usize - 1);
+        let one = came >= 27;
+        let written = if one { BAD_TARGET } else { b"".as_slice() };
+        let served = if one {
+            as_served(1, 400, Ending::ReadFault)
         } else {
-            (b"".as_slice(), as_served(0, 0, Ending::ReadFault))
+            as_served(0, 0, Ending::ReadFault)
         };
         assert_eq!(rt; found.written.bytes(), written);
         assert_eq!(rt; found.served, served);
     }
-    Err(Fail::from("every run failed"))
-}
-
-#[test]
-fn each_take_may_fail(rt: HostRuntime) -> Result<(), Fail> {
-    let alloc = rt.alloc();
-    let data = joined(alloc, &[DATA_HEAD, b"8a\r\n", BUOYS_BODY, LAST_CHUNK])?;
-    let two = joined(alloc, &[BAD_TARGET, DDS_HEAD])?;
-    expect_read_faults(&rt, GET_BUOYS, (41, &data, 200), &data)?;
-    expect_read_faults(&rt, TWO, (27, BAD_TARGET, 400), &two)
+    assert!(rt; ended);
+    Ok(())
 }
 
 /// Each put fails in turn: a front of the replies is out.
