@@ -1,7 +1,11 @@
 mod cases;
 mod cut;
 mod faults;
+mod fetching;
+mod following;
 mod framings;
+mod grid;
+mod heads;
 mod long;
 mod replies;
 mod showing;

@@ -113,7 +113,7 @@ fn the_framing_of_a_reply_is_read(rt: HostRuntime) -> Result<(), Fail> {
 /// A whole reply to a request of a kind, what it is, and the bytes that are put.
 type Text<'t> = (Kind, &'t [u8], Answer, &'t [u8]);
 
-fn text_rows() -> [Text<'static>; 10] {
+fn text_rows() -> [Text<'static>; 11] {
     [
         (
             Kind::Dds,
@@ -152,6 +152,12 @@ fn text_rows() -> [Text<'static>; 10] {
             b"",
         ),
         // An Error object, whatever the status and the kind.
+        (
+            Kind::Dods,
+            b"HTTP/1.1 200 OK\r\nContent-Length: 35\r\n\r\nError { code = 7; message = \"x\"; };",
+            Answer::Object(7, b"x"),
+            b"",
+        ),
         (
             Kind::Dods,
             b"HTTP/1.1 404 Not Found\r\nContent-Length: 42\r\n\r\nError { code = 5; message = \"no file\"; };\n",

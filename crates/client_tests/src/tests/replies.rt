@@ -39,11 +39,11 @@ pub fn read(
 }
 
 /// How a server begins its reply with a data response.
-const DATA_HEAD: &[u8] =
+pub const DATA_HEAD: &[u8] =
     b"HTTP/1.1 200 OK\r\nXDODS-Server: dap2/1.0\r\nXDAP: 2.0\r\nContent-Description: dods_data\r\nContent-Type: application/octet-stream\r\nTransfer-Encoding: chunked\r\nConnection: close\r\n\r\n";
 
 /// The reply that brings a body of 138 bytes in one chunk.
-fn reply_of(alloc: Global, body: &[u8]) -> Result<Vec<u8>, Fail> {
+pub fn reply_of(alloc: Global, body: &[u8]) -> Result<Vec<u8>, Fail> {
     let mut reply = Vec::from_slice(alloc, DATA_HEAD)?;
     reply.extend_from_slice(b"8a\r\n")?;
     reply.extend_from_slice(body)?;
