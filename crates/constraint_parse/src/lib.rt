@@ -12,8 +12,6 @@ mod parser;
 mod quoted;
 mod refusal;
 mod scan;
-#[cfg(test)]
-mod tests;
 
 pub use constraint::{Clause, Constant, Constraint, Item, Number, Op, RawSlab, Step};
 pub use laws::{one_constraint, one_fault};

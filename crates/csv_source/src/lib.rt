@@ -13,8 +13,6 @@ mod read;
 mod records;
 mod refusal;
 mod table;
-#[cfg(test)]
-mod tests;
 
 pub use cell::Cell;
 pub use read::read_table;

@@ -14,8 +14,6 @@ mod print;
 mod read;
 mod spot;
 mod stray;
-#[cfg(test)]
-mod tests;
 
 pub use cause::{Cause, code, message, status};
 pub use file_cause::FileCause;

@@ -21,8 +21,6 @@ mod shelf;
 mod streams;
 mod sure_shelf;
 mod sure_source;
-#[cfg(test)]
-mod tests;
 
 pub use buffer::Buffer;
 pub use dial::Dial;

@@ -12,8 +12,6 @@ mod memory;
 mod names;
 mod size;
 mod slabs;
-#[cfg(test)]
-mod tests;
 mod unfit;
 mod values;
 mod well_formed;

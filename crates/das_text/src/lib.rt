@@ -13,8 +13,6 @@ mod refusal;
 mod scan;
 mod state;
 mod steps;
-#[cfg(test)]
-mod tests;
 mod words;
 
 pub use dds_tokens::dds_tokens_agree;

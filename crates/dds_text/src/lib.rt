@@ -21,8 +21,6 @@ mod roles;
 mod scan;
 mod sign_steps;
 mod state;
-#[cfg(test)]
-mod tests;
 mod word_steps;
 mod words;
 

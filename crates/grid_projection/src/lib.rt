@@ -19,8 +19,6 @@ mod resolver;
 mod rows;
 mod sequences;
 mod slabs;
-#[cfg(test)]
-mod tests;
 
 pub use marks::Marks;
 pub use members::{Found, Members};

@@ -10,8 +10,6 @@ mod plan;
 mod shape;
 mod slabs;
 mod spacing;
-#[cfg(test)]
-mod tests;
 
 pub use batch::{Batch, Run};
 pub use laws::{batches_hold, picked_are_within, plans_cut, turns_are_whole};

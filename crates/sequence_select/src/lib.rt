@@ -7,8 +7,6 @@ mod clauses;
 mod constants;
 pub mod laws;
 mod rows;
-#[cfg(test)]
-mod tests;
 mod workers;
 
 pub use clauses::Tests;

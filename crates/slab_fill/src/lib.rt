@@ -8,8 +8,6 @@ mod gate;
 mod rows;
 mod shorts;
 mod spots;
-#[cfg(test)]
-mod tests;
 mod workers;
 
 pub use gate::{Gate, NoGate};

@@ -3,8 +3,6 @@
 #![tactic(auto)]
 
 mod lines;
-#[cfg(test)]
-mod tests;
 mod words;
 
 pub use lines::{put, put_hex, put_line, put_number, put_spaces};

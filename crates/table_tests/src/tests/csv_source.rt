@@ -1,4 +1,4 @@
-use crate::{Cell, Table, TableRefusal, read_table};
+use csv_source::{Cell, Table, TableRefusal, read_table};
 use dap_types::{BaseType, Decl};
 use das_text::Entry;
 use std::alloc::Global;

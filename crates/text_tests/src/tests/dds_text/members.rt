@@ -1,4 +1,4 @@
-use crate::{DdsReader, DdsStep};
+use dds_text::{DdsReader, DdsStep};
 use dap_types::Memory;
 use std::alloc::Global;
 use std::test::Fail;

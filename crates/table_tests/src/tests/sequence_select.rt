@@ -1,4 +1,4 @@
-use crate::{Tests, keep, mask};
+use sequence_select::{Tests, keep, mask};
 use constraint_parse::parse;
 use csv_source::{Table, read_table};
 use dap_types::Index;

@@ -1,6 +1,6 @@
 use super::datasets::dataset;
 use super::shapes::put_level;
-use crate::{Resolve, resolve};
+use grid_projection::{Resolve, resolve};
 use constraint_parse::parse;
 use dap_types::{Index, Slab, check};
 use std::alloc::Global;

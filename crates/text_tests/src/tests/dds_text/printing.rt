@@ -1,4 +1,4 @@
-use crate::print;
+use dds_text::print;
 use dap_types::{ArrayDecl, BaseType, Column, Dataset, Decl, Dim, Id, List, Memory};
 use std::alloc::Global;
 use std::test::Fail;

@@ -1,4 +1,4 @@
-use crate::{DdsReader, DdsStep, print};
+use dds_text::{DdsReader, DdsStep, print};
 use dap_types::{Bytes, Dataset, Memory};
 use std::alloc::Global;
 use std::test::Fail;

@@ -1,5 +1,5 @@
 use super::datasets::dataset;
-use crate::{Members, Part};
+use grid_projection::{Members, Part};
 use dap_types::{Id, Index, List, check};
 use std::test::Fail;
 

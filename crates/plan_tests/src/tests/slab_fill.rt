@@ -3,7 +3,7 @@ ghost use Rattle.hyperslab_plan.specs.Numbers.{is_number, HasSize};
 ghost use Rattle.hyperslab_plan.specs.Picked.{count_of, highest};
 ghost use Rattle.hyperslab_plan.specs.Plans.{base_in};
 
-use crate::{Gate, NoGate, fill};
+use slab_fill::{Gate, NoGate, fill};
 use dap_types::{BaseType, Layout, List, Memory, Slab};
 use hyperslab_plan::Plan;
 use std::alloc::Global;

@@ -1,4 +1,4 @@
-use crate::{dataset_id, last_segment};
+use file_names::{dataset_id, last_segment};
 use std::test::Fail;
 
 // The name of a file, its last segment, and the name of its dataset.

@@ -1,5 +1,5 @@
 use super::marked::left_by;
-use crate::Resolve;
+use grid_projection::Resolve;
 use dap_errors::{Cause, Spot};
 use std::alloc::Global;
 use std::test::Fail;

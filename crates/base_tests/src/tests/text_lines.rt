@@ -1,4 +1,4 @@
-use crate::{hex_digit, put, put_hex, put_line, put_number, put_spaces, type_word};
+use text_lines::{hex_digit, put, put_hex, put_line, put_number, put_spaces, type_word};
 use dap_types::BaseType;
 use std::test::Fail;
 

@@ -1,4 +1,4 @@
-use crate::{Cause, ErrorRefusal, FileCause, Spot, code, message, print_error, read_error, status};
+use dap_errors::{Cause, ErrorRefusal, FileCause, Spot, code, message, print_error, read_error, status};
 use std::alloc::{AllocError, Global};
 use std::test::Fail;
 

@@ -1,4 +1,4 @@
-use crate::{Attribute, Attributes, Entry, Word, print};
+use das_text::{Attribute, Attributes, Entry, Word, print};
 use dap_types::{BaseType, Bytes, Id, List, Memory};
 use std::alloc::Global;
 use std::test::Fail;

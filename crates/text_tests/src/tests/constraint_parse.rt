@@ -1,4 +1,4 @@
-use crate::{Clause, Constant, Constraint, Item, Number, Op, ParseRefusal, RawSlab, Step, parse};
+use constraint_parse::{Clause, Constant, Constraint, Item, Number, Op, ParseRefusal, RawSlab, Step, parse};
 use std::alloc::{AllocError, Global};
 use std::test::Fail;
 

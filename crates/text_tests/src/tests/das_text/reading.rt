@@ -1,4 +1,4 @@
-use crate::{DasRefusal, print, read};
+use das_text::{DasRefusal, print, read};
 use dap_types::{Bytes, Memory};
 use std::alloc::Global;
 use std::test::Fail;

@@ -1,4 +1,4 @@
-use crate::{
+use dap_types::{
     ArrayDecl, BaseType, Bytes, Column, Dataset, Decl, Dim, Id, Index, List, Memory, Name, Unfit,
     check,
 };

@@ -1,7 +1,7 @@
 ghost use Rattle.std.specs.Prelude.{◌≡◌, ◌<◌, All, IfOk, IsSome};
 ghost use Rattle.dap_outside.specs.MemLinks.{IsNew};
 
-use crate::{
+use dap_outside::{
     Dial, Door, Failed, MemDial, MemDoor, MemFile, MemLink, MemShelf, MemSink, MemSource, Shelf,
     Sink, Source, SureShelf, SureSource, put_all, take_some,
 };

@@ -1,6 +1,6 @@
 ghost use Rattle.std.specs.Prelude.{◌≤◌, length};
 
-use crate::{DdsReader, DdsStep};
+use dds_text::{DdsReader, DdsStep};
 use dap_types::Memory;
 use std::alloc::Global;
 use std::test::Fail;

@@ -4,7 +4,7 @@ ghost use Rattle.hyperslab_plan.specs.Numbers.{HasSize};
 ghost use Rattle.hyperslab_plan.specs.Picked.{count_of, highest};
 ghost use Rattle.hyperslab_plan.specs.Plans.{total_of};
 
-use crate::{Batch, Plan};
+use hyperslab_plan::{Batch, Plan};
 use dap_types::{BaseType, Layout, List, Memory, Slab};
 use std::alloc::Global;
 use std::fmt::Write;

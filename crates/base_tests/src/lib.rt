@@ -1,0 +1,5 @@
+//! Cases of `dap_types`, `dap_outside`, `file_names`, `text_lines`: values, the outside in memory, names of files and words of lines.
+#![tactic(auto)]
+
+#[cfg(test)]
+mod tests;

@@ -1,0 +1,3 @@
+mod grid_projection;
+mod hyperslab_plan;
+mod slab_fill;

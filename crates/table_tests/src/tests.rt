@@ -1,0 +1,2 @@
+mod csv_source;
+mod sequence_select;
