@@ -3,7 +3,7 @@ use Rattle.std.proofs.lemmas.Bool.{ltb-true}
 use Rattle.std.proofs.lemmas.List.Sums.{AllPass-from_list_all}
 use Rattle.hyperslab_plan.specs.Picked.{picked}
 use Rattle.hyperslab_plan.proofs.PickedLemmas.{picked-below}
-use Rattle.hyperslab_plan.proofs.tests.plan.Goals as goal
+use Rattle.plan_tests.proofs.tests.hyperslab_plan.plan.Goals as goal
 
 pub new-requires-clause-strided : goal.new-requires-clause-strided
 new-requires-clause-strided c = λ k d lt. ltb-true 0 _ (AllPass-from_list_all _ c.args.slabs.now c.requires.strided k d lt)

@@ -1,7 +1,7 @@
 use Rattle.std.proofs.Common.{◌≡◌, ℕ, ◌<◌, ◌^◌, List, [], ◌∷◌, ◌++◌, sym, ap, ◌∙◌, subst, All, arith, rules}
 use Rattle.hyperslab_plan.specs.Picked.{picked}
 use Rattle.hyperslab_plan.proofs.PickedLemmas.{picked-below}
-use Rattle.slab_fill.proofs.tests.plan.Goals as goal
+use Rattle.plan_tests.proofs.tests.slab_fill.plan.Goals as goal
 
 pub new-requires-clause-below : goal.new-requires-clause-below
 new-requires-clause-below c =
