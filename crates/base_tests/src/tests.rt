@@ -1,4 +1,4 @@
-mod dap_outside;
-mod dap_types;
-mod file_names;
-mod text_lines;
+mod files;
+mod lines;
+mod outside;
+mod values;

@@ -1,3 +1,3 @@
-mod grid_projection;
-mod hyperslab_plan;
-mod slab_fill;
+mod filling;
+mod plans;
+mod projections;

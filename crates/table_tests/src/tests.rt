@@ -1,2 +1,2 @@
-mod csv_source;
-mod sequence_select;
+mod selections;
+mod tables;

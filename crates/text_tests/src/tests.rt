@@ -1,4 +1,4 @@
-mod constraint_parse;
-mod dap_errors;
-mod das_text;
-mod dds_text;
+mod constraints;
+mod das;
+mod dds;
+mod errors;

@@ -1,0 +1,57 @@
+use dap_types::BaseType;
+use std::test::Fail;
+use text_lines::{hex_digit, put, put_hex, put_line, put_number, put_spaces, type_word};
+
+#[test]
+fn pieces_stand_one_behind_the_other(rt: HostRuntime) -> Result<(), Fail> {
+    let mut out = Vec::from_slice(rt.alloc(), b">")?;
+    put(&mut out, b"Int16 ")?;
+    put_number(&mut out, 0)?;
+    put_spaces(&mut out, 2)?;
+    put_number(&mut out, 4_294_967_295)?;
+    put_line(&mut out, 4, b"} g;")?;
+    put_hex(&mut out, 8, 0xc2f6_1caf)?;
+    put_hex(&mut out, 2, 0x1a5)?;
+    put_spaces(&mut out, 0)?;
+    assert_eq!(rt;
+        out.as_slice(),
+        b">Int16 0  4294967295    } g;\nc2f61cafa5".as_slice()
+    );
+    Ok(())
+}
+
+/// As many digits as are asked for, also more than a word has.
+#[test]
+fn digits_are_as_many_as_asked(rt: HostRuntime) -> Result<(), Fail> {
+    let mut out = Vec::new(rt.alloc());
+    put_hex(&mut out, 0, 0xff)?;
+    put(&mut out, b">")?;
+    put_hex(&mut out, 16, 0xfedc_ba98_7654_3210)?;
+    put(&mut out, b">")?;
+    put_hex(&mut out, 19, 0x8000_0000_0000_000f)?;
+    assert_eq!(rt;
+        out.as_slice(),
+        b">fedcba9876543210>000800000000000000f".as_slice()
+    );
+    Ok(())
+}
+
+#[test]
+fn types_have_their_words(rt: HostRuntime) {
+    let rows: [(BaseType, &[u8]); 9] = [
+        (BaseType::Byte, b"Byte"),
+        (BaseType::Int16, b"Int16"),
+        (BaseType::UInt16, b"UInt16"),
+        (BaseType::Int32, b"Int32"),
+        (BaseType::UInt32, b"UInt32"),
+        (BaseType::Float32, b"Float32"),
+        (BaseType::Float64, b"Float64"),
+        (BaseType::Text, b"String"),
+        (BaseType::Url, b"Url"),
+    ];
+    for (base, word) in rows {
+        assert_eq!(rt; type_word(base), word);
+    }
+    assert_eq!(rt; hex_digit(9), b'9');
+    assert_eq!(rt; hex_digit(10), b'a');
+}

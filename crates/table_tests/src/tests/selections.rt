@@ -1,0 +1,315 @@
+use constraint_parse::parse;
+use csv_source::{Table, read_table};
+use dap_types::Index;
+use grid_projection::resolve;
+use sequence_select::{Tests, keep, mask};
+use slab_fill::{Gate, NoGate};
+use std::alloc::Global;
+use std::process::Abort;
+use std::sync::atomic::{AtomicBool, Ordering};
+use std::test::Fail;
+use std::thread::Threads;
+
+const BUOYS: &[u8] =
+    b"station,depth:Int32,salt:Float32\nA1,5,0x3f800000\nB22,-7,0x00000000\nA1,30,0x40000000\nb,5,0x00000001\n\"\",0,0x00000000\n";
+
+fn crosses<T: Send + Sync>(_: &T) {}
+
+/// A table, and the clauses of a constraint on it.
+#[derive(Drop)]
+struct Case {
+    table: Table,
+    tests: Tests,
+}
+
+fn read_case(alloc: Global, file_name: &[u8], bytes: &[u8], text: &[u8]) -> Result<Case, Fail> {
+    let table = read_table(alloc, bytes, file_name)?;
+    let dataset = table.dataset(alloc)?;
+    let index = Index::new(alloc, &dataset)?;
+    let constraint = parse(alloc, text)?;
+    let _marks = resolve(alloc, &dataset, &index, &constraint)?;
+    let tests = Tests::new(alloc, &table, &dataset, &index, &constraint)?;
+    Ok(Case { table, tests })
+}
+
+/// However many workers there are, they keep these rows.
+fn expect_kept<R: Threads + Abort + Sync>(
+    rt: &R,
+    alloc: Global,
+    text: &[u8],
+    expected: &[bool; 5],
+) -> Result<(), Fail> {
+    let Case { table, tests } = read_case(alloc, b"sea/buoys.csv", BUOYS, text)?;
+    assert!(rt; table.rows() == 5);
+    crosses(&tests);
+    for row in 0..5u32 {
+        assert_eq!(rt;
+            keep(&table, &tests, row),
+            expected[row as usize],
+            "row {row}"
+        );
+    }
+    for workers in [1, 2, 3, 7, 64] {
+        let mut out = [true, false, true, false, true];
+        mask(rt, &table, &tests, &mut out, workers, &NoGate);
+        assert_eq!(rt; out, *expected, "{workers} workers");
+    }
+    Ok(())
+}
+
+#[test]
+fn all_rows_without_a_clause(rt: HostRuntime) -> Result<(), Fail> {
+    expect_kept(&rt, rt.alloc(), b"", &[true, true, true, true, true])?;
+    expect_kept(
+        &rt,
+        rt.alloc(),
+        b"buoys.salt",
+        &[true, true, true, true, true],
+    )
+}
+
+#[test]
+fn numbers_as_numbers(rt: HostRuntime) -> Result<(), Fail> {
+    let alloc = rt.alloc();
+    expect_kept(
+        &rt,
+        alloc,
+        b"&buoys.depth=5",
+        &[true, false, false, true, false],
+    )?;
+    expect_kept(
+        &rt,
+        alloc,
+        b"&buoys.depth!=5",
+        &[false, true, true, false, true],
+    )?;
+    expect_kept(
+        &rt,
+        alloc,
+        b"&buoys.depth<5",
+        &[false, true, false, false, true],
+    )?;
+    expect_kept(
+        &rt,
+        alloc,
+        b"&buoys.depth<=+05",
+        &[true, true, false, true, true],
+    )?;
+    expect_kept(
+        &rt,
+        alloc,
+        b"&buoys.depth>-7",
+        &[true, false, true, true, true],
+    )?;
+    expect_kept(
+        &rt,
+        alloc,
+        b"&buoys.depth>=30",
+        &[false, false, true, false, false],
+    )?;
+    expect_kept(
+        &rt,
+        alloc,
+        b"&buoys.depth<170141183460469231731687303715884105727",
+        &[true, true, true, true, true],
+    )
+}
+
+#[test]
+fn texts_by_their_bytes(rt: HostRuntime) -> Result<(), Fail> {
+    let alloc = rt.alloc();
+    expect_kept(
+        &rt,
+        alloc,
+        b"&buoys.station=\"A1\"",
+        &[true, false, true, false, false],
+    )?;
+    expect_kept(
+        &rt,
+        alloc,
+        b"&buoys.station>\"A1\"",
+        &[false, true, false, true, false],
+    )?;
+    expect_kept(
+        &rt,
+        alloc,
+        b"&buoys.station<\"a\"",
+        &[true, true, true, false, true],
+    )?;
+    expect_kept(
+        &rt,
+        alloc,
+        b"&buoys.station>=\"\"",
+        &[true, true, true, true, true],
+    )
+}
+
+#[test]
+fn one_of_the_values_and_all_of_the_clauses(rt: HostRuntime) -> Result<(), Fail> {
+    let alloc = rt.alloc();
+    expect_kept(
+        &rt,
+        alloc,
+        b"&buoys.depth={-7,30}",
+        &[false, true, true, false, false],
+    )?;
+    expect_kept(
+        &rt,
+        alloc,
+        b"&buoys.depth!={5,30}",
+        &[true, true, true, true, true],
+    )?;
+    expect_kept(
+        &rt,
+        alloc,
+        b"buoys.salt&buoys.station=\"A1\"&buoys.depth>5",
+        &[false, false, true, false, false],
+    )?;
+    expect_kept(
+        &rt,
+        alloc,
+        b"&buoys.depth>5&buoys.station=\"A1\"",
+        &[false, false, true, false, false],
+    )
+}
+
+/// The first two rows of a table, kept or not.
+fn first_two<R: Abort>(
+    rt: &R,
+    alloc: Global,
+    text: &[u8],
+    expected: (bool, bool),
+) -> Result<(), Fail> {
+    let bytes = b"station,depth:Int32\nA1,5\nB22,-7\n";
+    let Case { table, tests } = read_case(alloc, b"buoys.csv", bytes, text)?;
+    assert!(rt; table.rows() == 2);
+    assert_eq!(rt;
+        (keep(&table, &tests, 0), keep(&table, &tests, 1)),
+        expected
+    );
+    Ok(())
+}
+
+#[test]
+fn small_tables(rt: HostRuntime) -> Result<(), Fail> {
+    let alloc = rt.alloc();
+    first_two(&rt, alloc, b"buoys.depth&buoys.depth<0", (false, true))?;
+    first_two(
+        &rt,
+        alloc,
+        b"buoys.station&buoys.depth={5,9}",
+        (true, false),
+    )?;
+    let text = b"k.n&k.u>=\"x\"&k.n!=7";
+    let Case { table, tests } = read_case(alloc, b"k.csv", b"n:UInt16,u:Url\n 7 ,x\n", text)?;
+    assert!(rt; table.rows() == 1);
+    assert!(rt; !keep(&table, &tests, 0));
+    Ok(())
+}
+
+#[test]
+fn no_rows(rt: HostRuntime) -> Result<(), Fail> {
+    let Case { table, tests } = read_case(
+        rt.alloc(),
+        b"buoys.csv",
+        b"depth:Int32\n",
+        b"&buoys.depth>5",
+    )?;
+    assert!(rt; table.rows() == 0);
+    let mut out = [];
+    mask(&rt, &table, &tests, &mut out, 3, &NoGate);
+    Ok(())
+}
+
+/// Two workers who each look for the other.
+#[derive(Drop)]
+struct Meeting {
+    arrived: [AtomicBool; 2],
+    met: [AtomicBool; 2],
+}
+
+/// How often a worker looks.
+const TURNS: u32 = 100_000_000;
+
+impl Meeting {
+    fn new() -> Meeting {
+        Meeting {
+            arrived: [AtomicBool::new(false), AtomicBool::new(false)],
+            met: [AtomicBool::new(false), AtomicBool::new(false)],
+        }
+    }
+
+    fn both_met(&self) -> bool {
+        self.met[0].load(Ordering::SeqCst) && self.met[1].load(Ordering::SeqCst)
+    }
+}
+
+impl Gate for Meeting {
+    fn enter(&self, worker: u32) {
+        let mine = if worker == 0 { 0 } else { 1 };
+        self.arrived[mine].store(true, Ordering::SeqCst);
+        for _ in 0..TURNS {
+            if self.arrived[1 - mine].load(Ordering::SeqCst) {
+                self.met[mine].store(true, Ordering::SeqCst);
+                return;
+            }
+        }
+    }
+}
+
+/// The machine has to give the process a second thread.
+#[test]
+fn two_workers_meet(rt: HostRuntime) -> Result<(), Fail> {
+    let Case { table, tests } = read_case(rt.alloc(), b"buoys.csv", BUOYS, b"&buoys.depth=5")?;
+    assert!(rt; table.rows() == 5);
+    let mut met = false;
+    for _ in 0..8 {
+        if !met {
+            let gate = Meeting::new();
+            let mut out = [false; 5];
+            mask(&rt, &table, &tests, &mut out, 2, &gate);
+            met = gate.both_met();
+        }
+    }
+    assert!(rt; met, "two workers met");
+    Ok(())
+}
+
+/// Which workers came.
+#[derive(Drop)]
+struct Seen {
+    came: [AtomicBool; 4],
+}
+
+impl Gate for Seen {
+    fn enter(&self, worker: u32) {
+        if worker < 4 {
+            self.came[worker as usize].store(true, Ordering::SeqCst);
+        }
+    }
+}
+
+/// Four workers for five rows: two get two each and one gets one, and they are numbered from 0.
+#[test]
+fn numbers_of_workers(rt: HostRuntime) -> Result<(), Fail> {
+    let Case { table, tests } = read_case(rt.alloc(), b"buoys.csv", BUOYS, b"&buoys.depth=5")?;
+    assert!(rt; table.rows() == 5);
+    let seen = Seen {
+        came: [
+            AtomicBool::new(false),
+            AtomicBool::new(false),
+            AtomicBool::new(false),
+            AtomicBool::new(false),
+        ],
+    };
+    let mut out = [false; 5];
+    mask(&rt, &table, &tests, &mut out, 4, &seen);
+    let came = [
+        seen.came[0].load(Ordering::SeqCst),
+        seen.came[1].load(Ordering::SeqCst),
+        seen.came[2].load(Ordering::SeqCst),
+        seen.came[3].load(Ordering::SeqCst),
+    ];
+    assert_eq!(rt; came, [true, true, true, false]);
+    Ok(())
+}

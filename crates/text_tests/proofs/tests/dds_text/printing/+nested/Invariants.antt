@@ -1,4 +1,0 @@
-use Rattle.text_tests.proofs.tests.dds_text.printing.+nested.Given as goal
-
-abbrev pub decreases-nested : goal.decreases-nested
-decreases-nested l = l.depth

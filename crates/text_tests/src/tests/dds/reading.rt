@@ -1,0 +1,105 @@
+use dap_types::{Bytes, Dataset, Memory};
+use dds_text::{DdsReader, DdsStep, print};
+use std::alloc::Global;
+use std::test::Fail;
+
+/// Texts as libdap prints them, but for the line feed behind the last semicolon.
+const PRINTED: [&str; 4] = [
+    "Dataset {\n    Byte b;\n    Int16 i;\n    UInt16 u;\n    Int32 j;\n    UInt32 k;\n    Float32 f;\n    Float64 d;\n    String s;\n    Url l;\n} all.nc;",
+    "Dataset {\n    Float32 plain[2][3];\n    Int32 named[time = 0][lat = 17];\n} arrays;",
+    "Dataset {\n    Grid {\n      Array:\n        Int16 g[lat = 1][lon = 2];\n      Maps:\n        Int32 lat[lat = 1];\n        Int32 lon[lon = 2];\n    } g;\n} g.nc;",
+    "Dataset {\n    Structure {\n        Sequence {\n            String station;\n            Int32 depth;\n        } casts;\n        Structure {\n        } none;\n    } cruise;\n    Structure {\n    } depth;\n} q;",
+];
+
+/// Texts in other layouts, and as they are printed.
+const OTHERS: [(&[u8], &[u8]); 8] = [
+    (b"dataset{}d;", b"Dataset {\n} d;\n"),
+    (
+        b"\t\r\n DATASET\t{\rbyte\n\tb ; uRL u;}\t\r\n d\n;",
+        b"Dataset {\n    Byte b;\n    Url u;\n} d;\n",
+    ),
+    (
+        b"Dataset{Int32 Int32;Int32 grid;Int32 a\xff\x80[b\xe9=3];}Dataset;",
+        b"Dataset {\n    Int32 Int32;\n    Int32 grid;\n    Int32 a\xff\x80[b\xe9 = 3];\n} Dataset;\n",
+    ),
+    (
+        b"Dataset{Int32 a[01];}d;",
+        b"Dataset {\n    Int32 a[1];\n} d;\n",
+    ),
+    (
+        b"Dataset{Int32 a[ x = 3 ][0000000007][2147483647];}d;",
+        b"Dataset {\n    Int32 a[x = 3][7][2147483647];\n} d;\n",
+    ),
+    (
+        b"Dataset{Int32 a[1=2][x=2][x=2];}d;",
+        b"Dataset {\n    Int32 a[1 = 2][x = 2][x = 2];\n} d;\n",
+    ),
+    (
+        b"Dataset{GRID{ARRAY:Byte a[x=1];MAPS:Byte x[y=1];}a;SEQUENCE{Byte a;}b;STRUCTURE{Byte a;}c;}d;",
+        b"Dataset {\n    Grid {\n      Array:\n        Byte a[x = 1];\n      Maps:\n        Byte x[y = 1];\n    } a;\n    Sequence {\n        Byte a;\n    } b;\n    Structure {\n        Byte a;\n    } c;\n} d;\n",
+    ),
+    (
+        b"Dataset{Sequence{}s;}d;",
+        b"Dataset {\n    Sequence {\n    } s;\n} d;\n",
+    ),
+];
+
+/// Pushes the text in two pieces. The dataset has to end with it, and at no byte before.
+fn read(alloc: Global, text: &[u8], cut: usize) -> Result<Option<Dataset>, Memory> {
+    let mut reader = DdsReader::new(alloc, 7);
+    let mut left = text;
+    if cut < text.len() {
+        if reader.push(&text[..cut])? != DdsStep::More {
+            return Ok(None);
+        }
+        left = &text[cut..];
+    }
+    if reader.push(left)? != (DdsStep::Done { used: left.len() }) {
+        return Ok(None);
+    }
+    if reader.push(text)? != (DdsStep::Done { used: 0 }) {
+        return Ok(None);
+    }
+    Ok(reader.dataset())
+}
+
+fn read_back(alloc: Global, text: &[u8], cut: usize) -> Result<Bytes, Fail> {
+    let Some(dataset) = read(alloc, text, cut)? else {
+        return Err(Fail::new("not read"));
+    };
+    Ok(print(alloc, &dataset)?)
+}
+
+#[test]
+fn texts_are_read_in_two_pieces(rt: HostRuntime) -> Result<(), Fail> {
+    let alloc = rt.alloc();
+    for text in PRINTED {
+        for cut in 0..text.len() {
+            let printed = read_back(alloc, text.as_bytes(), cut)?;
+            let mut line = Vec::from_slice(alloc, text.as_bytes())?;
+            line.push(b'\n')?;
+            assert_eq!(rt; printed.bytes(), line.as_slice());
+        }
+    }
+    for (text, printed) in OTHERS {
+        for cut in 0..text.len() {
+            assert_eq!(rt; read_back(alloc, text, cut)?.bytes(), printed);
+        }
+    }
+    Ok(())
+}
+
+/// Behind the end of a dataset no byte is used, and none is looked at.
+#[test]
+fn bytes_behind_the_end_are_left(rt: HostRuntime) -> Result<(), Fail> {
+    let mut reader = DdsReader::new(rt.alloc(), 0);
+    let text = b"Dataset { Int32 a; } f;\nData:\n\0\0\0\x05";
+    assert_eq!(rt; reader.push(text)?, DdsStep::Done { used: 23 });
+    assert_eq!(rt; reader.push(b"}")?, DdsStep::Done { used: 0 });
+    let Some(dataset) = reader.dataset() else {
+        return Err(Fail::new("no dataset"));
+    };
+    assert_eq!(rt; dataset.name.bytes(), b"f".as_slice());
+    assert_eq!(rt; dataset.members.items().len(), 1);
+    Ok(())
+}

@@ -1,0 +1,148 @@
+use dap_errors::{
+    Cause, ErrorRefusal, FileCause, Spot, code, message, print_error, read_error, status,
+};
+use std::alloc::{AllocError, Global};
+use std::test::Fail;
+
+/// What a text is read as: code and message, the place at which it is bad, or that it is cut.
+fn shown(alloc: Global, text: &[u8]) -> Result<Vec<u8>, AllocError> {
+    let mut out = Vec::new(alloc);
+    match read_error(alloc, text) {
+        Ok(error) => {
+            let code = error.code;
+            out.extend_from_slice(format!(in alloc; "{code} ")?.as_bytes())?;
+            out.extend_from_slice(error.message.bytes())?;
+        }
+        Err(ErrorRefusal::Bad { place }) => {
+            out.extend_from_slice(format!(in alloc; "bad {place}")?.as_bytes())?;
+        }
+        Err(ErrorRefusal::Cut) => out.extend_from_slice(b"cut")?,
+        Err(ErrorRefusal::Memory) => out.extend_from_slice(b"memory")?,
+    }
+    Ok(out)
+}
+
+#[test]
+fn causes_have_their_codes(rt: HostRuntime) -> Result<(), Fail> {
+    let cell = FileCause::BadCell { row: 1, column: 1 };
+    let table: [(Cause, u32, u16, &[u8]); 14] = [
+        (Cause::Syntax { place: 5 }, 1, 400, b"syntax at 5"),
+        (
+            Cause::UnknownName(Spot::Item(1)),
+            2,
+            400,
+            b"unknown name in item 1",
+        ),
+        (
+            Cause::BadSlab(Spot::Item(1024)),
+            5,
+            400,
+            b"bad slab in item 1024",
+        ),
+        (
+            Cause::TwoSlabs(Spot::Item(2)),
+            6,
+            400,
+            b"two slabs in item 2",
+        ),
+        (
+            Cause::TypeMismatch(Spot::Clause(1)),
+            9,
+            400,
+            b"type mismatch in clause 1",
+        ),
+        (Cause::TooLarge { leaf: 0 }, 13, 400, b"too large: leaf 0"),
+        (Cause::BadTarget, 14, 400, b"bad target"),
+        (Cause::NoFile, 15, 404, b"no such file"),
+        (Cause::BadMethod, 16, 405, b"bad method"),
+        (Cause::HeadTooLong, 18, 431, b"head too long"),
+        (
+            Cause::Damaged(FileCause::NotCdf),
+            19,
+            500,
+            b"damaged file: not netCDF classic",
+        ),
+        (
+            Cause::Damaged(cell),
+            19,
+            500,
+            b"damaged file: bad cell in row 1 column 1",
+        ),
+        (Cause::ReadFailed, 20, 500, b"read failed"),
+        (Cause::OutOfMemory, 21, 503, b"out of memory"),
+    ];
+    for (cause, number, http, text) in table {
+        assert_eq!(rt; code(&cause), number);
+        assert_eq!(rt; status(&cause), http);
+        assert_eq!(rt; message(rt.alloc(), &cause)?.bytes(), text);
+    }
+    let printed = print_error(rt.alloc(), 1, b"syntax at 5")?;
+    assert_eq!(rt;
+        printed.bytes(),
+        b"Error {\n    code = 1;\n    message = \"syntax at 5\";\n};\n".as_slice()
+    );
+    assert_eq!(rt; printed.bytes().len(), 54);
+    let printed = print_error(rt.alloc(), 4294967295, b"a\"\\\n")?;
+    assert_eq!(rt;
+        printed.bytes(),
+        b"Error {\n    code = 4294967295;\n    message = \"a\\\"\\\\\n\";\n};\n".as_slice()
+    );
+    Ok(())
+}
+
+#[test]
+fn objects_are_read(rt: HostRuntime) -> Result<(), Fail> {
+    let table: [(&[u8], &[u8]); 34] = [
+        (
+            b"Error { code = 1; message = \"syntax at 5\"; };",
+            b"1 syntax at 5",
+        ),
+        (b"Error { code = -3; message = \"a\\\"b\"; }", b"-3 a\"b"),
+        (
+            b"\r\n\teRROR{x=y;CODE=000000007;y=\"z\";mEssage=\"a\\\\\\n\";}\n;\r\n",
+            b"7 a\\\\n",
+        ),
+        (b"Error{code=-999999999;message=\"\";}", b"-999999999 "),
+        (b"Error { code = 1; };", b"bad 18"),
+        (b"Error { message = \"x\"; }", b"bad 23"),
+        (b"Error { code = 1; code = 2; message = \"x\"; }", b"bad 18"),
+        (b"Error{message=\"\";Message=\"\";", b"bad 17"),
+        (b"Error { code = 1234567890; ", b"bad 15"),
+        (b"Error { code = \"1\"; ", b"bad 15"),
+        (b"Error { code = -; ", b"bad 15"),
+        (b"Error { code = +1;", b"bad 15"),
+        (b"Error { code = 1x;", b"bad 15"),
+        (b"Error { message = x; ", b"bad 18"),
+        (b"Error { code 1;", b"bad 13"),
+        (b"Error { code = 1 message ", b"bad 17"),
+        (b"Error { ; }", b"bad 8"),
+        (b"Error { \"code\"", b"bad 8"),
+        (b"Error { a = };", b"bad 12"),
+        (b"Error ;", b"bad 6"),
+        (b"Errors {", b"bad 0"),
+        (b" \"Error\"", b"bad 1"),
+        (b"{", b"bad 0"),
+        (b"Error{code=1;message=\"\";};;", b"bad 26"),
+        (b"Error{code=1;message=\"\";}x", b"bad 25"),
+        (b"Error{code=1;message=\"\";} ; x", b"bad 28"),
+        (b"", b"cut"),
+        (b" Erro", b"cut"),
+        (b"Error", b"cut"),
+        (b"Error { code = 1x", b"cut"),
+        (b"Error { code = 1 message", b"cut"),
+        (b"Error { code = 1; message = \"x", b"cut"),
+        (b"Error { code = 1; message = \"x\\", b"cut"),
+        (b"Error { code = 1; message = \"x\"; ", b"cut"),
+    ];
+    for (text, expected) in table {
+        assert_eq!(rt; shown(rt.alloc(), text)?.as_slice(), expected);
+    }
+    let mut spaces = vec![in rt.alloc(); b' '; 65535]?;
+    assert_eq!(rt; shown(rt.alloc(), &spaces)?.as_slice(), b"cut".as_slice());
+    spaces.push(b' ')?;
+    assert_eq!(rt;
+        shown(rt.alloc(), &spaces)?.as_slice(),
+        b"bad 65536".as_slice()
+    );
+    Ok(())
+}
