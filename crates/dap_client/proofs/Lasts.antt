@@ -4,11 +4,12 @@ use Rattle.std.proofs.lemmas.List.Elements.{All-append, All-cons, All-nil}
 use Rattle.std.proofs.KnownBytes.{Appends-trans, Consumes-trans}
 use Rattle.std.specs.Io.KnownBytes.{Appends, Consumes, IsAtEnd}
 use Rattle.dap_client.proofs.Saying.{says, stands}
-use Rattle.dap_client.proofs.Sequels.{Leads, NextTold, SoFar, good-behind, good-of, leads-more, put-more, read-more, says-good, taken-more, verdicts-of, waits-more}
+use Rattle.dap_client.proofs.Sequels.{Leads, NextTold, SoFar, few-more, good-behind, good-of, leads-more, put-more, read-more, says-good, taken-more, verdicts-of, waits-more}
 use Rattle.dap_client.specs.Answered.{Tells}
 use Rattle.dap_client.specs.Fetched.{AreGood, IsFirst, IsReadFrom, Reply, SaysVerdict, all_put, all_taken, count_of, is_complete, is_fault}
 use Rattle.dap_client.specs.Following.{IsStoppedBy}
 use Rattle.dap_client.specs.Outcomes.{outcome_of}
+use Rattle.dap_client.specs.Replies.{BringsFew}
 use Rattle.dap_client.specs.Verdict.{Form, Verdict}
 use Rattle.dap_client.specs.declared.fetching.Fetched.{Fetched}
 use Rattle.dap_client.specs.declared.replies.Stop.{Stop}
@@ -75,6 +76,7 @@ one-more form n came back next before now later waiting rest ended outcome s t w
       taken = subst (λ (l : List ℕ). Consumes came next l) (sym (taken-more s.replies r)) (Consumes-trans came back next (all_taken s.replies) t.taken s.taken t.consumes);
       put = subst (λ (l : List ℕ). Appends before later l) (sym (put-more s.replies r)) (Appends-trans before now later (all_put s.replies) t.text s.put t.appends);
       read = read-more form [] s.replies r s.read (subst (λ (w : List ℕ). Tells form (w ++ t.taken) ended rest t.text outcome) (sym s.waits_are) t.tells);
+      few = few-more [] s.replies r s.few (subst (λ (w : List ℕ). BringsFew (w ++ t.taken)) (sym s.waits_are) t.few);
       complete = All-append IsWhole s.replies (r ∷ []) s.complete (All-cons IsWhole r [] whole (All-nil IsWhole));
       count = omega (arith, length-append s.replies (r ∷ []), s.count);
       waits_are = waits-more [] s.replies r;
@@ -121,6 +123,7 @@ last-one form n count came back next before now later waiting rest ended outcome
       taken = subst (λ (l : List ℕ). Consumes came next l) (sym (taken-more s.replies r)) (Consumes-trans came back next (all_taken s.replies) t.taken s.taken t.consumes);
       put = subst (λ (l : List ℕ). Appends before later l) (sym (put-more s.replies r)) (Appends-trans before now later (all_put s.replies) t.text s.put t.appends);
       read = read-more form [] s.replies r s.read (subst (λ (w : List ℕ). Tells form (w ++ t.taken) ended rest t.text outcome) (sym s.waits_are) t.tells);
+      few = few-more [] s.replies r s.few (subst (λ (w : List ℕ). BringsFew (w ++ t.taken)) (sym s.waits_are) t.few);
       counted = record {
         before = s.replies;
         final = r;

@@ -7,6 +7,7 @@ pub mod DdsBodies
 pub mod EachBody
 pub mod Ending
 pub mod EveryObject
+pub mod Few
 pub mod Filling
 pub mod FirstWords
 pub mod GoodParts

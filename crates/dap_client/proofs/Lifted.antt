@@ -93,7 +93,7 @@ pub fault-told : (form : Form) (reply kept rest : List ℕ) (ended : Bool) (outc
 fault-told form reply kept rest ended outcome e (none, same) shows =
     subst (λ (o : Outcome). Tells form reply ended rest [] o) (sym e) ([], inr (λ coding behind has. let (head, final, within, is) = has in none head behind final, refl), shows)
 
-final-long : (bytes rest : List ℕ) (head : ResponseHead) → HasFinal bytes head rest → length rest ≤ length bytes
+pub final-long : (bytes rest : List ℕ) (head : ResponseHead) → HasFinal bytes head rest → length rest ≤ length bytes
 final-long bytes rest head final =
     let (h, b, reads, less) = first-of bytes rest head final in omega (arith, less, reads-long bytes b h reads)
 

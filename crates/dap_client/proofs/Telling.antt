@@ -145,7 +145,7 @@ broken-told form p bytes body put ended wrong Memory broken (nothing, none) =
 
 -- ---- before any byte of the body was read
 
-begins : (c : Coding) → Goes c [] [] ⊎ Ends c [] []
+pub begins : (c : Coding) → Goes c [] [] ⊎ Ends c [] []
 begins Chunked = inl (known-goes [] refl)
 begins (Length zero) = inr (refl, refl)
 begins (Length (suc n)) = inl (refl, omega arith)

@@ -14,7 +14,7 @@ use Rattle.dap_http.specs.declared.kind.Kind.{Kind}
 use Rattle.dap_http.specs.declared.url.Url.{Url}
 use Rattle.dap_client.specs.Answered.{Tells}
 use Rattle.dap_client.specs.Outcomes.{outcome_of}
-use Rattle.dap_client.specs.Replies.{IsReplyVerdict, form_of}
+use Rattle.dap_client.specs.Replies.{BringsFew, IsReplyVerdict, form_of}
 use Rattle.dap_client.specs.Verdict.{Form, Verdict, IsVerdict}
 use Rattle.dap_client.specs.declared.fetching.Fetched.{Fetched}
 use Rattle.dap_client.specs.declared.outcome.Outcome.{Outcome}
@@ -49,6 +49,11 @@ pub record Reply : Type 0 where
 abbrev pub AreRead : Form → List ℕ → List Reply → Type 0
 AreRead form waiting [] = ⊤
 AreRead form waiting (r ∷ replies) = Tells form (waiting ++ r.taken) r.ended r.rest r.text r.outcome × AreRead form r.rest replies
+
+-- for none of them more is taken once as many bytes of a body came as no body has
+abbrev pub AreFew : List ℕ → List Reply → Type 0
+AreFew waiting [] = ⊤
+AreFew waiting (r ∷ replies) = BringsFew (waiting ++ r.taken) × AreFew r.rest replies
 
 abbrev pub all_taken : List Reply → List ℕ
 all_taken replies = flat_map (λ r. r.taken) replies
@@ -151,6 +156,7 @@ pub record IsReadFrom (form : Form) (n : ℕ) (came back : Option (List ℕ)) (e
   pub taken : Consumes came back (all_taken replies)
   pub put : Appends before now (all_put replies)
   pub read : AreRead form [] replies
+  pub few : AreFew [] replies
   pub counted : AreCounted n replies ended fetched
   pub verdicts : (input : List ℕ) → came ≡ Some input → AreVerdicts form input (map (λ r. r.outcome) replies)
   pub good : (input : List ℕ) → came ≡ Some input → fetched.whole ≡ n → AreGood form n input

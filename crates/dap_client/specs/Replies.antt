@@ -1,6 +1,7 @@
 -- The verdict on a reply (RFC 9112): its heads and its framing, and then the body that they bring, read
 -- by what it was asked for, whatever the status is.
-use Rattle.std.specs.Prelude.{◌≡◌, ℕ, ◌⊎◌, Bool, true, List, ◌++◌, length, if◌then◌else◌}
+use Rattle.std.specs.Prelude.{◌≡◌, ℕ, ◌+◌, ◌<◌, ◌⊎◌, Bool, true, List, ◌++◌, length, if◌then◌else◌}
+use Rattle.dap_types.specs.Limits.{body_limit, most_piece}
 use Rattle.xdr_decode.specs.declared.bad.Bad.{Bad}
 use Rattle.xdr_decode.specs.declared.bad.BadField.{BadField}
 use Rattle.dap_http.specs.Delivered.{BreaksOff, Delivers, HasCoding, HasCome}
@@ -37,6 +38,10 @@ Brings reply body =
 abbrev pub BringsFirst : List ℕ → List ℕ → Type 0
 BringsFirst reply body =
     (coding : Coding) × (front : List ℕ) × (more : List ℕ) × HasCoding reply coding (front ++ more) × HasCome coding front body
+
+-- Fewer bytes of a body came with these than no body has and a piece more: no piece is taken once so many came
+abbrev pub BringsFew : List ℕ → Type 0
+BringsFew reply = (body : List ℕ) → Brings reply body → length body < body_limit + most_piece
 
 -- a reply has one verdict, where its final head tells how the body is coded
 abbrev pub OneReplyVerdict : Type 0

@@ -9,7 +9,7 @@ ghost use Rattle.dap_http.specs.declared.kind.Kind.TheVariants.{Ver};
 ghost use Rattle.dap_client.specs.Answered.{Tells};
 ghost use Rattle.dap_client.specs.Following.{IsStoppedBy, outcome_at, pending};
 ghost use Rattle.dap_client.specs.Outcomes.{Answers};
-ghost use Rattle.dap_client.specs.Replies.{IsReplyVerdict, form_of};
+ghost use Rattle.dap_client.specs.Replies.{BringsFew, IsReplyVerdict, form_of};
 ghost use Rattle.dap_client.specs.Verdict.{Verdict};
 
 use crate::Outcome;
@@ -83,7 +83,8 @@ impl Replies {
     pub fn next<I: Source, O: Sink>(&mut self, source: &mut I, kind: Kind, out: &mut O) -> Outcome
         requires { kind ≢ Ver }
         ensures tells { self.old.stopped ≡ None → (taken : List ℕ) × (text : List ℕ) × Consumes (I.left source.old) (I.left source.new) taken
-            × Appends (O.written out.old) (O.written out.new) text × Tells (form_of kind) (pending self.old ++ taken) (I.ended source.new) (pending self.new) text result }
+            × Appends (O.written out.old) (O.written out.new) text × Tells (form_of kind) (pending self.old ++ taken) (I.ended source.new) (pending self.new) text result
+            × BringsFew (pending self.old ++ taken) }
         // Whatever the verdict on the reply is, it is told, but for a fault or want of memory.
         ensures only { self.old.stopped ≡ None → (left behind : List ℕ) (coding : CodingValue) (n : ℕ) (v : Verdict) → I.left source.old ≡ Some left →
             HasCoding (pending self.old ++ left) coding behind → IsReplyVerdict (form_of kind) (pending self.old ++ left) n v → Answers n v result }

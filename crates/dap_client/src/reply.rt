@@ -11,9 +11,10 @@ ghost use Rattle.dap_http.specs.declared.kind.Kind.TheVariants.{Ver};
 ghost use Rattle.dap_client.specs.After.{StandsAfter, form_in};
 ghost use Rattle.dap_client.specs.Answered.{Tells};
 ghost use Rattle.dap_client.specs.Outcomes.{Answers};
-ghost use Rattle.dap_client.specs.Replies.{IsReplyVerdict, form_of};
+ghost use Rattle.dap_client.specs.Replies.{BringsFew, IsReplyVerdict, form_of};
+ghost use Rattle.dap_client.specs.Shows.{Takes};
 ghost use Rattle.dap_client.specs.Verdict.{Verdict};
-ghost use Rattle.dap_client.specs.inner.Behind.{IsToldBehind, TellsBehind};
+ghost use Rattle.dap_client.specs.inner.Behind.{ComesFew, IsToldBehind, TellsBehind};
 
 use crate::Outcome;
 use crate::body::Body;
@@ -33,7 +34,7 @@ fn read_parts<I: Source, O: Sink>(
     requires follows { (bytes : List ℕ) × Follows parts.old bytes [] }
     ensures tells { (taken : List ℕ) × (text : List ℕ) × Consumes (I.left source.old) (I.left source.new) taken × Appends (O.written out.old) (O.written out.new) text
         × ((bytes : List ℕ) → Follows parts.old bytes [] →
-        TellsBehind (form_in reader) (body_coding parts.old) (bytes ++ taken) (I.ended source.new) parts.new text result) }
+        TellsBehind (form_in reader) (body_coding parts.old) (bytes ++ taken) (I.ended source.new) parts.new text result × ComesFew (body_coding parts.old) (bytes ++ taken)) }
     ensures read_fault { result ≡ Outcome.ReadFault → Rose (I.take_faults source.old) (I.take_faults source.new) }
     ensures write_fault { result ≡ Outcome.WriteFault → Rose (O.put_faults out.old) (O.put_faults out.new) }
     ensures later_reading { I.take_faults source.old ≤ I.take_faults source.new }
@@ -70,7 +71,7 @@ pub fn read_one<I: Source, O: Sink>(
 ) -> Outcome
     requires { kind ≢ Ver }
     ensures tells { (taken : List ℕ) × (text : List ℕ) × Consumes (I.left source.old) (I.left source.new) taken × Appends (O.written out.old) (O.written out.new) text
-        × Tells (form_of kind) (rest_of heads.old ++ taken) (I.ended source.new) (rest_of heads.new) text result }
+        × Tells (form_of kind) (rest_of heads.old ++ taken) (I.ended source.new) (rest_of heads.new) text result × BringsFew (rest_of heads.old ++ taken) }
     ensures read_fault { result ≡ Outcome.ReadFault → Rose (I.take_faults source.old) (I.take_faults source.new) }
     ensures write_fault { result ≡ Outcome.WriteFault → Rose (O.put_faults out.old) (O.put_faults out.new) }
     ensures later_reading { I.take_faults source.old ≤ I.take_faults source.new }
@@ -99,7 +100,7 @@ fn read_body<I: Source, O: Sink>(
 ) -> Outcome
     requires { kind ≢ Ver }
     ensures tells { (taken : List ℕ) × (text : List ℕ) × Consumes (I.left source.old) (I.left source.new) taken × Appends (O.written out.old) (O.written out.new) text
-        × IsToldBehind (form_of kind) coding (rest_of heads.old ++ taken) (I.ended source.new) (rest_of heads.new) text result }
+        × IsToldBehind (form_of kind) coding (rest_of heads.old ++ taken) (I.ended source.new) (rest_of heads.new) text result × ComesFew coding (rest_of heads.old ++ taken) }
     ensures read_fault { result ≡ Outcome.ReadFault → Rose (I.take_faults source.old) (I.take_faults source.new) }
     ensures write_fault { result ≡ Outcome.WriteFault → Rose (O.put_faults out.old) (O.put_faults out.new) }
     ensures later_reading { I.take_faults source.old ≤ I.take_faults source.new }
@@ -145,6 +146,8 @@ pub fn read_reply<I: Source, O: Sink>(
     // Whatever the verdict on the reply is, it is told, but for a fault or want of memory.
     ensures only { (reply behind : List ℕ) (coding : CodingValue) (n : ℕ) (v : Verdict) → I.left source.old ≡ Some reply → HasCoding reply coding behind →
         IsReplyVerdict (form_of kind) reply n v → Answers n v result }
+    // However it ends, no more is taken once as many bytes of the body came as no body has.
+    ensures most { Takes (I.left source.old) (I.left source.new) BringsFew }
 
     ensures read_fault { result ≡ Outcome.ReadFault → Rose (I.take_faults source.old) (I.take_faults source.new) }
     ensures write_fault { result ≡ Outcome.WriteFault → Rose (O.put_faults out.old) (O.put_faults out.new) }

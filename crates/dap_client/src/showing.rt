@@ -3,6 +3,7 @@ ghost use Rattle.std.specs.Io.KnownBytes.{Appends, Consumes, IsAtEnd};
 ghost use Rattle.dap_model.specs.Partly.{ShowsLines};
 ghost use Rattle.dap_model.specs.Shown.{shown};
 ghost use Rattle.dap_outside.specs.Causes.{HasCause, Rose};
+ghost use Rattle.dap_types.specs.Limits.{body_limit};
 ghost use Rattle.dap_types.specs.Model.{Dataset, Tree};
 ghost use Rattle.dap_errors.specs.declared.object.ErrorObject.{ErrorObject};
 ghost use Rattle.dap_client.specs.Outcomes.{Answers, OnBadReply, OnComplete, OnLinkFault, OnMemory, OnReadFault, OnServerError, OnWriteFault, WhereNothingPut, WhereWhole};
@@ -125,6 +126,9 @@ pub fn show<I: Source, O: Sink>(alloc: Global, source: &mut I, out: &mut O) -> O
 
     // Whatever the verdict on the bytes is, it is told, but for a fault or want of memory.
     ensures only { (body : List ℕ) (v : Verdict) → I.left source.old ≡ Some body → IsVerdict dods_form body v → Answers (length body) v result }
+
+    // However it ends, no more bytes are taken than the first that no body has.
+    ensures most { Takes (I.left source.old) (I.left source.new) (λ taken. length taken ≤ body_limit) }
 
     // A fault of one of the two is told as its own. What was put by then is a front of what may be.
     ensures read_fault { OnReadFault (Rose (I.take_faults source.old) (I.take_faults source.new)) result }

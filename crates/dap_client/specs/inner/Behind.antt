@@ -1,6 +1,6 @@
 -- What the outcome of a reply says of the bytes behind its heads.
-use Rattle.std.specs.Prelude.{◌≡◌, ℕ, ◌⊎◌, Bool, List, [], ◌++◌, length, take}
-use Rattle.dap_types.specs.Limits.{most_piece}
+use Rattle.std.specs.Prelude.{◌≡◌, ℕ, ◌+◌, ◌<◌, ◌⊎◌, Bool, List, [], ◌++◌, length, take}
+use Rattle.dap_types.specs.Limits.{body_limit, most_piece}
 use Rattle.xdr_decode.specs.Verdict.{budget}
 use Rattle.xdr_decode.specs.declared.bad.BadField.{BadField}
 use Rattle.dap_http.specs.Delivered.{HasCome, IsBrokenBody, IsWholeBody}
@@ -53,6 +53,10 @@ IsToldBehind form coding bytes ended rest text WriteFault =
 IsToldBehind form coding bytes ended rest text LinkFault = ⊥
 IsToldBehind form coding bytes ended rest text Memory =
     (text ≡ []) × (form ≡ dods_form → (body : List ℕ) → HasCome coding bytes body → HasFewValues most_piece body)
+
+-- fewer bytes of a body came with these than no body has and a piece more
+abbrev pub ComesFew : Coding → List ℕ → Type 0
+ComesFew coding bytes = (body : List ℕ) → HasCome coding bytes body → length body < body_limit + most_piece
 
 -- where the bytes wait that stand behind the framing
 abbrev pub TellsBehind : Form → Coding → List ℕ → Bool → BodyParts → List ℕ → Outcome → Type 0

@@ -5,6 +5,7 @@ use Rattle.dap_http.specs.Reading.{rest_of}
 use Rattle.dap_client.specs.After.{form_in}
 use Rattle.dap_client.specs.Replies.{form_of}
 use Rattle.dap_client.proofs.Behind.{part-room}
+use Rattle.dap_client.proofs.Few.{few-as, few-begun}
 use Rattle.dap_client.proofs.Lifted.{told-as}
 use Rattle.dap_client.proofs.Telling.{few-first}
 use Rattle.dap_client.proofs.reply.read_body.Goals as goal
@@ -14,14 +15,15 @@ new-requires g c = omega (arith, ap length c.rest.ensures, c.args.heads.now.few)
 
 pub returns-in_default-clause-tells : goal.returns-in_default-clause-tells
 returns-in_default-clause-tells g c =
-    ([], [], Consumes-nil _, Appends-nil _, (refl, λ is other come. few-first (form_of c.args.kind) c.args.coding (rest_of c.args.heads.now) other (omega (arith, c.args.heads.now.few)) come is))
+    ([], [], Consumes-nil _, Appends-nil _, (refl, λ is other come. few-first (form_of c.args.kind) c.args.coding (rest_of c.args.heads.now) other (omega (arith, c.args.heads.now.few)) come is), few-begun c.args.coding (rest_of c.args.heads.now) (omega (arith, c.args.heads.now.few)))
 
 pub replace-requires : goal.replace-requires
 replace-requires g c = omega (arith, ap length c.rest-2.ensures, part-room c.read_parts-outcome.new.parts)
 
 pub returns-clause-tells : goal.returns-clause-tells
 returns-clause-tells g c =
-    let (t, x, before, put, told) = c.read_parts-outcome.ensures.tells in (
+    let (t, x, before, put, told) = c.read_parts-outcome.ensures.tells in
+    let (tells, few) = told c.rest.result.now c.in-Ok.ensures.follows in (
       t,
       x,
       before,
@@ -29,5 +31,6 @@ returns-clause-tells g c =
       told-as (form_in c.new-2.result) (form_of c.args.kind) (body_coding c.in-Ok.parts) c.args.coding (c.rest.result.now ++ t) (rest_of c.args.heads.now ++ t)
           (waiting c.read_parts-outcome.new.parts) (rest_of c.replace.new.heads) x (g.I.Source.ended c.read_parts-outcome.new.source) c.read_parts-outcome.result
           (ap form_of c.new-2.ensures.kind) c.in-Ok.ensures.coding (ap (λ l. l ++ t) c.rest.ensures) (sym (c.replace.ensures ∙ c.rest-2.ensures))
-          (told c.rest.result.now c.in-Ok.ensures.follows),
+          tells,
+      few-as _ _ _ _ c.in-Ok.ensures.coding (ap (λ l. l ++ t) c.rest.ensures) few,
     )

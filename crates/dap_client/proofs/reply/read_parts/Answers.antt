@@ -11,6 +11,7 @@ use Rattle.dap_client.specs.inner.Behind.{TellsBehind}
 use Rattle.dap_client.specs.declared.outcome.Outcome.{Outcome}
 use Rattle.dap_client.specs.declared.outcome.Outcome.TheVariants.{ReadFault, WriteFault}
 use Rattle.dap_client.proofs.Behind.{counted, part-room}
+use Rattle.dap_client.proofs.Few.{few-as, few-broken, few-follows, few-part, few-whole}
 use Rattle.dap_client.proofs.Telling.{broken-told, end-told, no-read-fault, part-told, rose-later, whole-piece}
 use Rattle.dap_client.proofs.reply.read_parts.Goals as goal
 
@@ -73,10 +74,12 @@ returns-in-Some-clause-tells g c =
       Appends-trans _ _ _ x y put gained,
       λ bytes first.
           let follows : Follows c.next.new.self (bytes ++ (t ++ u)) (body ++ part_of c.next.new.self) =
-          subst (λ (l : List ℕ). Follows c.next.new.self l (body ++ part_of c.next.new.self)) (append_assoc bytes t u) (gives (bytes ++ t) body (on bytes first)).1 in
-          as-begun form (form_in c.args.reader) (body_coding c.next.new.self) (body_coding c.args.parts.now) c.next.new.self (bytes ++ (t ++ u)) (x ++ y) (g.I.Source.ended c.next.new.source) c.in-Some.outcome
-          (ap form_of c.loop-reader.invariant.kind) (c.next.ensures.coding ∙ c.loop-reader.invariant.coding)
-          (part-told form c.next.new.self c.push.new.self (bytes ++ (t ++ u)) body (x ++ y) (g.I.Source.ended c.next.new.source) c.in-Some.outcome follows small here),
+          subst (λ (l : List ℕ). Follows c.next.new.self l (body ++ part_of c.next.new.self)) (append_assoc bytes t u) (gives (bytes ++ t) body (on bytes first)).1 in (
+            as-begun form (form_in c.args.reader) (body_coding c.next.new.self) (body_coding c.args.parts.now) c.next.new.self (bytes ++ (t ++ u)) (x ++ y) (g.I.Source.ended c.next.new.source) c.in-Some.outcome
+                (ap form_of c.loop-reader.invariant.kind) (c.next.ensures.coding ∙ c.loop-reader.invariant.coding)
+                (part-told form c.next.new.self c.push.new.self (bytes ++ (t ++ u)) body (x ++ y) (g.I.Source.ended c.next.new.source) c.in-Some.outcome follows small here),
+            few-as _ _ _ _ (c.next.ensures.coding ∙ c.loop-reader.invariant.coding) refl (few-part c.next.new.self (bytes ++ (t ++ u)) body follows small),
+          ),
     )
 
 pub returns-in-Some-clause-read_fault : goal.returns-in-Some-clause-read_fault
@@ -101,16 +104,19 @@ returns-in-End-clause-tells g c =
       Appends-trans _ _ _ x y put gained,
       λ bytes first.
           let whole : IsWholeBody (body_coding c.next.new.self) (bytes ++ (t ++ u)) (g.I.Source.ended c.next.new.source) body (waiting c.next.new.self) =
-          subst (λ (l : List ℕ). IsWholeBody (body_coding c.next.new.self) l (g.I.Source.ended c.next.new.source) body (waiting c.next.new.self)) (append_assoc bytes t u) (gives (bytes ++ t) body (on bytes first)) in
-          as-begun form (form_in c.args.reader) (body_coding c.next.new.self) (body_coding c.args.parts.now) c.next.new.self (bytes ++ (t ++ u)) (x ++ y) (g.I.Source.ended c.next.new.source) c.finish.result
-          (ap form_of c.loop-reader.invariant.kind) (c.next.ensures.coding ∙ c.loop-reader.invariant.coding)
-          (end-told form c.next.new.self (bytes ++ (t ++ u)) body (x ++ y) (g.I.Source.ended c.next.new.source) c.finish.result whole small finished),
+          subst (λ (l : List ℕ). IsWholeBody (body_coding c.next.new.self) l (g.I.Source.ended c.next.new.source) body (waiting c.next.new.self)) (append_assoc bytes t u) (gives (bytes ++ t) body (on bytes first)) in (
+            as-begun form (form_in c.args.reader) (body_coding c.next.new.self) (body_coding c.args.parts.now) c.next.new.self (bytes ++ (t ++ u)) (x ++ y) (g.I.Source.ended c.next.new.source) c.finish.result
+                (ap form_of c.loop-reader.invariant.kind) (c.next.ensures.coding ∙ c.loop-reader.invariant.coding)
+                (end-told form c.next.new.self (bytes ++ (t ++ u)) body (x ++ y) (g.I.Source.ended c.next.new.source) c.finish.result whole small finished),
+            few-as _ _ _ _ (c.next.ensures.coding ∙ c.loop-reader.invariant.coding) refl (few-whole (body_coding c.next.new.self) c.next.new.self (bytes ++ (t ++ u)) body (g.I.Source.ended c.next.new.source) whole small),
+          ),
     )
 
 pub returns-in-Refused-clause-tells : goal.returns-in-Refused-clause-tells
 returns-in-Refused-clause-tells g c =
     let (t, x, body, before, put, on, stands) = c.loop-reader.invariant.moved in
     let (u, after, gives) = c.in-Refused.ensures.arrives in
+    let (count, small) = counted c.loop-reader.reader body x stands in
     let form = form_in c.loop-reader.reader in (
       t ++ u,
       x,
@@ -118,16 +124,19 @@ returns-in-Refused-clause-tells g c =
       put,
       λ bytes first.
           let broken : IsBrokenBody (body_coding c.next.new.self) (bytes ++ (t ++ u)) (g.I.Source.ended c.next.new.source) body c.in-Refused.wrong =
-          subst (λ (l : List ℕ). IsBrokenBody (body_coding c.next.new.self) l (g.I.Source.ended c.next.new.source) body c.in-Refused.wrong) (append_assoc bytes t u) (gives (bytes ++ t) body (on bytes first)) in
-          as-begun form (form_in c.args.reader) (body_coding c.next.new.self) (body_coding c.args.parts.now) c.next.new.self (bytes ++ (t ++ u)) x (g.I.Source.ended c.next.new.source) c.break_off.result
-          (ap form_of c.loop-reader.invariant.kind) (c.next.ensures.coding ∙ c.loop-reader.invariant.coding)
-          (broken-told form c.next.new.self (bytes ++ (t ++ u)) body x (g.I.Source.ended c.next.new.source) c.in-Refused.wrong c.break_off.result broken (c.break_off.ensures body x stands)),
+          subst (λ (l : List ℕ). IsBrokenBody (body_coding c.next.new.self) l (g.I.Source.ended c.next.new.source) body c.in-Refused.wrong) (append_assoc bytes t u) (gives (bytes ++ t) body (on bytes first)) in (
+            as-begun form (form_in c.args.reader) (body_coding c.next.new.self) (body_coding c.args.parts.now) c.next.new.self (bytes ++ (t ++ u)) x (g.I.Source.ended c.next.new.source) c.break_off.result
+                (ap form_of c.loop-reader.invariant.kind) (c.next.ensures.coding ∙ c.loop-reader.invariant.coding)
+                (broken-told form c.next.new.self (bytes ++ (t ++ u)) body x (g.I.Source.ended c.next.new.source) c.in-Refused.wrong c.break_off.result broken (c.break_off.ensures body x stands)),
+            few-as _ _ _ _ (c.next.ensures.coding ∙ c.loop-reader.invariant.coding) refl (few-broken (body_coding c.next.new.self) (bytes ++ (t ++ u)) body (g.I.Source.ended c.next.new.source) c.in-Refused.wrong broken small),
+          ),
     )
 
 pub returns-in-ReadFault-clause-tells : goal.returns-in-ReadFault-clause-tells
 returns-in-ReadFault-clause-tells g c =
     let (t, x, body, before, put, on, stands) = c.loop-reader.invariant.moved in
     let (u, after, gives) = c.in-ReadFault.ensures.arrives in
+    let (count, small) = counted c.loop-reader.reader body x stands in
     let form = form_in c.loop-reader.reader in (
       t ++ u,
       x,
@@ -135,10 +144,13 @@ returns-in-ReadFault-clause-tells g c =
       put,
       λ bytes first.
           let came : HasCome (body_coding c.next.new.self) (bytes ++ (t ++ u)) body = subst (λ (l : List ℕ). HasCome (body_coding c.next.new.self) l body) (append_assoc bytes t u) (gives (bytes ++ t) body (on bytes first)).1 in
-          subst (λ (o : Outcome). TellsBehind (form_in c.args.reader) (body_coding c.args.parts.now) (bytes ++ (t ++ u)) (g.I.Source.ended c.next.new.source) c.next.new.self x o) (sym c.leave.ensures.fault)
-          (as-begun form (form_in c.args.reader) (body_coding c.next.new.self) (body_coding c.args.parts.now) c.next.new.self (bytes ++ (t ++ u)) x (g.I.Source.ended c.next.new.source) ReadFault
-          (ap form_of c.loop-reader.invariant.kind) (c.next.ensures.coding ∙ c.loop-reader.invariant.coding)
-          (body, came, c.leave.ensures.shows body x stands)),
+          let follows : Follows c.next.new.self (bytes ++ (t ++ u)) body = subst (λ (l : List ℕ). Follows c.next.new.self l body) (append_assoc bytes t u) (gives (bytes ++ t) body (on bytes first)).0 in (
+            subst (λ (o : Outcome). TellsBehind (form_in c.args.reader) (body_coding c.args.parts.now) (bytes ++ (t ++ u)) (g.I.Source.ended c.next.new.source) c.next.new.self x o) (sym c.leave.ensures.fault)
+                (as-begun form (form_in c.args.reader) (body_coding c.next.new.self) (body_coding c.args.parts.now) c.next.new.self (bytes ++ (t ++ u)) x (g.I.Source.ended c.next.new.source) ReadFault
+                (ap form_of c.loop-reader.invariant.kind) (c.next.ensures.coding ∙ c.loop-reader.invariant.coding)
+                (body, came, c.leave.ensures.shows body x stands)),
+            few-as _ _ _ _ (c.next.ensures.coding ∙ c.loop-reader.invariant.coding) refl (few-follows c.next.new.self (bytes ++ (t ++ u)) body follows small),
+          ),
     )
 
 pub loop-reader-smaller : goal.loop-reader-smaller

@@ -2,10 +2,10 @@ use Rattle.std.proofs.Common.{◌≡◌, ◌≤◌, ◌++◌, ℕ, List, [], len
 use Rattle.std.proofs.KnownBytes.{Appends-nil, Consumes-nil}
 use Rattle.dap_http.specs.Reading.{rest_of}
 use Rattle.dap_client.specs.Answered.{Tells}
-use Rattle.dap_client.specs.Replies.{form_of}
+use Rattle.dap_client.specs.Replies.{BringsFew, IsReplyVerdict, form_of}
+use Rattle.dap_client.proofs.Few.{few-first}
 use Rattle.dap_client.proofs.Lifted.{memory-told}
 use Rattle.dap_client.proofs.Only.{left_over, nothing_over, only_told}
-use Rattle.dap_client.specs.Replies.{IsReplyVerdict}
 use Rattle.dap_http.specs.Delivered.{HasCoding}
 use Rattle.dap_client.proofs.reply.read_reply.Goals as goal
 
@@ -15,7 +15,7 @@ returns-in_default-clause-tells g c =
 
 pub returns-clause-tells : goal.returns-clause-tells
 returns-clause-tells g c =
-    let (t, x, before, put, told) = c.read_one.ensures.tells in (
+    let (t, x, before, put, told, few) = c.read_one.ensures.tells in (
       t,
       x,
       rest_of c.read_one.new.heads,
@@ -26,10 +26,18 @@ returns-clause-tells g c =
 
 pub returns-clause-only : goal.returns-clause-only
 returns-clause-only g c reply behind coding n v left has given =
-    let (t, x, before, put, told) = c.read_one.ensures.tells in
+    let (t, x, before, put, told, few) = c.read_one.ensures.tells in
     let form = form_of c.args.kind in
     let (more, now, whole) = left_over _ _ reply t left before in
     only_told form t more coding behind (rest_of c.read_one.new.heads) x (g.I.Source.ended c.read_one.new.source) n v c.read_one.result
     (λ e. nothing_over _ more now (g.met.I.Source.ended_empty c.read_one.new.source e))
     (subst (λ (l : List ℕ). HasCoding l coding behind) whole has) (subst (λ (l : List ℕ). IsReplyVerdict form l n v) whole given)
     (subst (λ (l : List ℕ). Tells form (l ++ t) (g.I.Source.ended c.read_one.new.source) (rest_of c.read_one.new.heads) x c.read_one.result) c.in-Ok.ensures told)
+
+pub returns-in_default-clause-most : goal.returns-in_default-clause-most
+returns-in_default-clause-most g c = ([], Consumes-nil _, few-first [] [] refl (omega arith))
+
+pub returns-clause-most : goal.returns-clause-most
+returns-clause-most g c =
+    let (t, x, before, put, told, few) = c.read_one.ensures.tells in
+    (t, before, subst (λ (l : List ℕ). BringsFew (l ++ t)) c.in-Ok.ensures few)

@@ -1,3 +1,4 @@
+use Rattle.dap_client.proofs.Few.{no_more, none_more}
 use Rattle.dap_client.proofs.Told.{none_taken, on_bad_reply, on_complete, on_write_fault, only_answers, stopped, told, where_whole}
 use Rattle.dap_client.proofs.showing.show.Goals as goal
 
@@ -27,3 +28,12 @@ returns-in-Ok-read_body-clause-only g c = λ body v has is.
 
 pub returns-clause-read_so_far : goal.returns-clause-read_so_far
 returns-clause-read_so_far g c = stopped _ _ _ _ c.read_body.new.reader c.read_body.ensures.reads
+
+pub returns-in_default-clause-most : goal.returns-in_default-clause-most
+returns-in_default-clause-most g c = none_more _
+
+pub returns-in-Ok-read_body-clause-most : goal.returns-in-Ok-read_body-clause-most
+returns-in-Ok-read_body-clause-most g c = no_more _ _ _ _ c.read_body.new.reader c.read_body.ensures.reads
+
+pub returns-clause-most : goal.returns-clause-most
+returns-clause-most g c = no_more _ _ _ _ c.read_body.new.reader c.read_body.ensures.reads
