@@ -18,7 +18,8 @@ serve-only p w r (inr (inr (inl (port, workers, requests, (port_word, workers_wo
   (requests, subst (λ word. IsNumber 1000000000 word requests) (sym (ap (λ words. get_or words 3 []) is)) c),
 )
 serve-only p w r (inr (inr (inr (inl is)))) = cc is
-serve-only p w r (inr (inr (inr (inr (u, kind, ces, (url, (word, is, is_kind, some, few), known)))))) = absurd (no-fetch (ap (λ words. get_or words 0 []) is))
+serve-only p w r (inr (inr (inr (inr (inl (u, kind, ces, (url, (word, is, is_kind, some, few), known))))))) = absurd (no-fetch (ap (λ words. get_or words 0 []) is))
+serve-only p w r (inr (inr (inr (inr (inr (start, records, (start_word, size_word, is, a, b))))))) = cc is
 
 -- words have one port, and one number of links
 pub same-serve : (words : List (List ℕ)) (p w r p2 w2 r2 : ℕ) → AreServe words p w r → AreServe words p2 w2 r2 → (p ≡ p2) × (r ≡ r2)

@@ -8,7 +8,7 @@ use Rattle.dap_client.specs.declared.outcome.Outcome.{Outcome}
 use Rattle.dap_client.specs.declared.outcome.Outcome.TheVariants as outcomes
 use Rattle.dap2.specs.Fetch.{FetchSays, SaysWhy, status_of}
 use Rattle.dap2.specs.Lines.{line_of}
-use Rattle.dap2.specs.Words.{AreAnswer, AreFetch, AreServe, HaveFetchForm, IsCommand, IsFetch, IsKindWord, IsServe, IsShow, IsVer}
+use Rattle.dap2.specs.Words.{AreAnswer, AreFetch, AreServe, AreSoak, HaveFetchForm, IsCommand, IsFetch, IsKindWord, IsServe, IsShow, IsVer}
 use Rattle.dap2.specs.declared.status.Status.{Status}
 use Rattle.dap2.specs.declared.status.Status.TheVariants.{Memory}
 
@@ -47,6 +47,17 @@ no-serve words port workers requests url kind ces s f =
 pub no-ver : (words : List (List ℕ)) (url : List ℕ) (kind : Kind) (ces : List (List ℕ)) → IsVer words → HaveFetchForm words url kind ces → ⊥
 no-ver words url kind ces v f =
     let same : 118 ≡ 102 = no-words words (codes "ver") (codes "fetch") 118 102 (ap (λ (l : List (List ℕ)). get_or l 0 []) v) (fetch-named words url kind ces f) refl refl in omega (arith, same)
+
+soak-named : (words : List (List ℕ)) (start records : ℕ) → AreSoak words start records → get_or words 0 [] ≡ codes "soak"
+soak-named words start records (s, r, is, a, b) = ap (λ (l : List (List ℕ)). get_or l 0 []) is
+
+pub no-soak : (words : List (List ℕ)) (start records : ℕ) (url : List ℕ) (kind : Kind) (ces : List (List ℕ)) → AreSoak words start records → HaveFetchForm words url kind ces → ⊥
+no-soak words start records url kind ces s f =
+    let same : 115 ≡ 102 = no-words words (codes "soak") (codes "fetch") 115 102 (soak-named words start records s) (fetch-named words url kind ces f) refl refl in omega (arith, same)
+
+pub soak-no-answer : (words : List (List ℕ)) (target : List ℕ) (workers start records : ℕ) → AreAnswer words target workers → AreSoak words start records → ⊥
+soak-no-answer words target workers start records a s =
+    let same : 97 ≡ 115 = no-words words (codes "answer") (codes "soak") 97 115 (answer-named words target workers a) (soak-named words start records s) refl refl in omega (arith, same)
 
 -- the form of a `fetch` in the words of one
 pub form-of : (words : List (List ℕ)) (u : UrlParts) (kind : Kind) (ces : List (List ℕ)) → AreFetch words u kind ces → (url : List ℕ) × HaveFetchForm words url kind ces
@@ -114,17 +125,18 @@ no-url words url kind ces form no_fetch = go (some-or-none (url_of url)) where
   go (inr (u, is)) = absurd (no_fetch (u, kind, ces, (url, form, is)))
 
 pub no-command-url : (words : List (List ℕ)) (url : List ℕ) (kind : Kind) (ces : List (List ℕ)) → HaveFetchForm words url kind ces → ¬ (IsCommand words) → url_of url ≡ None
-no-command-url words url kind ces form no_one = no-url words url kind ces form (λ is. no_one (inr (inr (inr (inr is)))))
+no-command-url words url kind ces form no_one = no-url words url kind ces form (λ is. no_one (inr (inr (inr (inr (inl is))))))
 
 pub no-command : (words : List (List ℕ)) (url : List ℕ) (kind : Kind) (ces : List (List ℕ)) → HaveFetchForm words url kind ces → url_of url ≡ None → IsCommand words → ⊥
 no-command words url kind ces form none (inl (target, workers, are)) = no-answer words target workers url kind ces are form
 no-command words url kind ces form none (inr (inl is)) = no-show words url kind ces is form
 no-command words url kind ces form none (inr (inr (inl (port, workers, requests, are)))) = no-serve words port workers requests url kind ces are form
 no-command words url kind ces form none (inr (inr (inr (inl is)))) = no-ver words url kind ces is form
-no-command words url kind ces form none (inr (inr (inr (inr (u, mode, rest, (other, same, is)))))) =
+no-command words url kind ces form none (inr (inr (inr (inr (inl (u, mode, rest, (other, same, is))))))) =
     let one = one-form words url other kind mode ces rest form same in
     let clash : None ≡ Some u = sym none ∙ ap url_of one.url_is ∙ is in
     cc clash
+no-command words url kind ces form none (inr (inr (inr (inr (inr (start, records, are)))))) = no-soak words start records url kind ces are form
 
 -- what is said on another line, where the status has a line of its own
 why-other : (o : Outcome) (status : Status) (l : List ℕ) (Line Other : List ℕ → Type 0) → status ≡ status_of o → Some l ≡ line_of status → SaysWhy o Line → SaysWhy o Other

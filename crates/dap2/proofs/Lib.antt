@@ -7,6 +7,7 @@ pub mod Headlines
 pub mod Obeying
 pub mod Pieces
 pub mod ReadBack
+pub mod Seeds
 pub mod Shown
 pub mod ShownWhole
 pub mod Visiting

@@ -8,5 +8,6 @@ pub mod Lines
 pub mod Serve
 pub mod ServerHalf
 pub mod Show
+pub mod Soak
 pub mod Words
 pub mod inner

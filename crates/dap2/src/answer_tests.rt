@@ -2,6 +2,7 @@
 
 mod causes;
 mod each_call;
+mod hostile;
 mod samples;
 mod texts;
 

@@ -2,7 +2,7 @@ ghost use Rattle.std.specs.Prelude.{[], ◌∷◌, ◌≤◌, codes, length, Mat
 ghost use Rattle.dap_http.specs.declared.kind.Kind.{Kind};
 ghost use Rattle.dap2.specs.Words.{IsKindWord, Reads};
 
-use crate::numbers::number_to;
+use crate::numbers::{number_to, seed_of};
 use dap_http::Kind;
 use dap_types::Name;
 
@@ -21,6 +21,11 @@ pub enum Command<'a> {
     },
     /// `ver`: the version text.
     Ver,
+    /// `soak START SIZE`: what is said of a generated file of so many records.
+    Soak {
+        start: u64,
+        records: u32,
+    },
     /// `fetch URL KIND CE [CE ..]`, where the URL may be none: what it gives for each constraint.
     Fetch {
         url: &'a str,
@@ -53,14 +58,31 @@ fn command_of_two<'a>(name: &str, target: &'a str) -> Command<'a>
     }
 }
 
-fn command_of_three<'a>(name: &str, target: &'a str, workers: &str) -> Command<'a>
-    ensures { Reads (name.now ∷ target.now ∷ workers.now ∷ []) result }
+fn soak_of<'a>(start: &str, size: &str) -> Command<'a>
+    ensures { Reads (codes "soak" ∷ start.now ∷ size.now ∷ []) result }
+{
+    match seed_of(start) {
+        Some(start) => match number_to(size, 4_096) {
+            Some(records) => Command::Soak {
+                start,
+                records: records as u32,
+            },
+            None => Command::Other,
+        },
+        None => Command::Other,
+    }
+}
+
+fn command_of_three<'a>(name: &str, first: &'a str, second: &str) -> Command<'a>
+    ensures { Reads (name.now ∷ first.now ∷ second.now ∷ []) result }
 {
     if name == "answer" {
-        match number_to(workers, 64) {
-            Some(workers) => Command::Answer(target, workers as u32),
+        match number_to(second, 64) {
+            Some(workers) => Command::Answer(first, workers as u32),
             None => Command::Other,
         }
+    } else if name == "soak" {
+        soak_of(first, second)
     } else {
         Command::Other
     }
@@ -130,9 +152,7 @@ pub fn command_of(words: &[Name]) -> Command<'_>
     match words {
         [name] => command_of_one(name.as_str()),
         [name, target] => command_of_two(name.as_str(), target.as_str()),
-        [name, target, workers] => {
-            command_of_three(name.as_str(), target.as_str(), workers.as_str())
-        }
+        [name, first, second] => command_of_three(name.as_str(), first.as_str(), second.as_str()),
         [name, first, second, third, ..] => command_of_more(
             name.as_str(),
             first.as_str(),

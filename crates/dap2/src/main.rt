@@ -8,6 +8,8 @@ mod answer;
 mod answer_tests;
 mod command;
 mod fetch;
+#[cfg(test)]
+mod fetch_tests;
 mod folder_shelf;
 mod laws;
 mod lines;
@@ -17,6 +19,9 @@ mod serve;
 #[cfg(test)]
 mod serve_tests;
 mod show;
+#[cfg(test)]
+mod soak_tests;
+mod soaking;
 mod status;
 mod std_streams;
 mod tcp;

@@ -5,7 +5,7 @@ ghost use Rattle.std.specs.Char.{is_ascii_digit};
 ghost use Rattle.std.specs.List.{list_all};
 ghost use Rattle.std.specs.Str.Parse.{digits_value};
 ghost use Rattle.viable.specs.Numerals.{is_numeral};
-ghost use Rattle.dap2.specs.Words.{IsNumber};
+ghost use Rattle.dap2.specs.Words.{IsNumber, IsSeed};
 
 fn all_digits(word: &[u8]) -> bool
     ensures { result ≡ list_all is_ascii_digit word.now }
@@ -44,6 +44,22 @@ pub fn number_to(word: &str, most: u64) -> Option<u64>
     }
     let value = value_of(digits);
     if value < 1 || value > u128::from(most) {
+        return None;
+    }
+    Some(value as u64)
+}
+
+/// The number below 2^64 that a word is in 1 to 20 digits.
+#[tactic(auto, using(viable::proofs::Digits::numerals))]
+pub fn seed_of(word: &str) -> Option<u64>
+    ensures { MatchOption result ((n : ℕ) → ¬ (IsSeed word.now n)) (λ n. IsSeed word.now n) }
+{
+    let digits = word.as_bytes();
+    if !is_numeral(digits) {
+        return None;
+    }
+    let value = value_of(digits);
+    if value > u128::from(u64::MAX) {
         return None;
     }
     Some(value as u64)

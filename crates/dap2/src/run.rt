@@ -12,8 +12,9 @@ ghost use Rattle.dap2.specs.Answer.{AnswerSays, MayAskFor, MayHaveAsked, MustRes
 ghost use Rattle.dap2.specs.Fetch.{FetchSays};
 ghost use Rattle.dap2.specs.Lines.{IsSaid, line_of};
 ghost use Rattle.dap2.specs.Show.{IsFor, ShowSays, status_for};
+ghost use Rattle.dap2.specs.Soak.{SoakSays};
 ghost use Rattle.dap2.specs.Serve.{Serves, VerSays, Visit};
-ghost use Rattle.dap2.specs.Words.{AreAnswer, AreFetch, AreServe, IsCommand, IsFetch, IsServe, IsShow, IsVer};
+ghost use Rattle.dap2.specs.Words.{AreAnswer, AreFetch, AreServe, AreSoak, IsCommand, IsFetch, IsServe, IsShow, IsSoak, IsVer};
 
 use crate::answer::answer;
 use crate::command::{Command, command_of};
@@ -21,6 +22,7 @@ use crate::fetch::fetch;
 use crate::lines::say;
 use crate::serve::serve;
 use crate::show::show_input;
+use crate::soaking::soak_lines;
 use crate::status::Status;
 use crate::ver::ver;
 use dap_outside::{Dial, Door, Shelf, Sink, Source};
@@ -60,6 +62,8 @@ fn obey<R: Threads + Sync, S: Shelf, I: Source, O: Sink, E: Sink, D: Door, C: Di
     ensures link_fault { ¬ (IsFetch words.now) → result ≡ Status.LinkFault → Rose (D.faults door.old) (D.faults door.new) }
     ensures ver { IsVer words.now → VerSays (Appends (O.written out.old) (O.written out.new)) (AppendsFront (O.written out.old) (O.written out.new)) result }
     ensures ver_shelf { IsVer words.now → shelf.new ≡ shelf.old }
+    ensures soak { (start records : ℕ) → AreSoak words.now start records → SoakSays start records (Appends (O.written out.old) (O.written out.new)) (AppendsFront (O.written out.old) (O.written out.new)) result }
+    ensures soak_shelf { IsSoak words.now → shelf.new ≡ shelf.old }
     ensures door { ¬ (IsServe words.now) → door.new ≡ door.old }
     ensures show { IsShow words.now → ShowSays (I.left input.old) (I.left input.new) (IsTrue (I.ended input.new)) (IsAtEnd (I.left input.new)) (O.written out.old) (O.written out.new)
         (λ line. IsSaid line (E.put_faults err.old) (E.put_faults err.new) (E.written err.old) (E.written err.new)) result }
@@ -93,6 +97,7 @@ fn obey<R: Threads + Sync, S: Shelf, I: Source, O: Sink, E: Sink, D: Door, C: Di
             requests,
         } => serve(rt, alloc, port, workers, requests, shelf, out, door),
         Command::Ver => ver(out),
+        Command::Soak { start, records } => soak_lines(rt, alloc, start, records, out),
         Command::Fetch { url, kind, ces } => fetch(alloc, url, kind, ces, out, err, dial),
         Command::Other => Status::Words,
     }
@@ -103,7 +108,9 @@ fn obey<R: Threads + Sync, S: Shelf, I: Source, O: Sink, E: Sink, D: Door, C: Di
 /// no such text; `show` reads a data response from `input` and shows it on `out`; `serve PORT WORKERS
 /// REQUESTS` serves so many links that come in at the door, and puts a line for each to `out`; `fetch URL
 /// KIND CE [CE ..]` asks for what a URL gives for each constraint over a link of the dial, and shows the
-/// replies on `out`; `ver` puts the version text. For each status but `Complete` a line goes to `err`.
+/// replies on `out`; `soak START SIZE` generates a file of so many records, serves a part of it and reads the
+/// reply, both in memory, and puts the lines of what came; `ver` puts the version text. For each status but
+/// `Complete` a line goes to `err`.
 pub fn run<R: Threads + Sync, S: Shelf, I: Source, O: Sink, E: Sink, D: Door, C: Dial>(
     rt: &R,
     alloc: Global,
@@ -144,6 +151,8 @@ pub fn run<R: Threads + Sync, S: Shelf, I: Source, O: Sink, E: Sink, D: Door, C:
     ensures link_fault { ¬ (IsFetch words.now) → result ≡ Status.LinkFault → Rose (D.faults door.old) (D.faults door.new) }
     ensures ver { IsVer words.now → VerSays (Appends (O.written out.old) (O.written out.new)) (AppendsFront (O.written out.old) (O.written out.new)) result }
     ensures ver_shelf { IsVer words.now → shelf.new ≡ shelf.old }
+    ensures soak { (start records : ℕ) → AreSoak words.now start records → SoakSays start records (Appends (O.written out.old) (O.written out.new)) (AppendsFront (O.written out.old) (O.written out.new)) result }
+    ensures soak_shelf { IsSoak words.now → shelf.new ≡ shelf.old }
     ensures door { ¬ (IsServe words.now) → door.new ≡ door.old }
 
     // What each status of `show` says of the bytes that came in, of the output and of the line on `err`; and the

@@ -162,14 +162,14 @@ fn each_status_comes_from_its_cause(rt: HostRuntime) -> Result<(), Fail> {
             SURE,
             Status::Words,
             none,
-            b"usage: dap2 answer TARGET [WORKERS] | show | serve PORT WORKERS REQUESTS | fetch URL KIND CE [CE ..] | ver\n",
+            b"usage: dap2 answer TARGET [WORKERS] | show | serve PORT WORKERS REQUESTS | fetch URL KIND CE [CE ..] | soak START SIZE | ver\n",
         ),
         (
             &["show", "head.csv.dods"],
             SURE,
             Status::Words,
             none,
-            b"usage: dap2 answer TARGET [WORKERS] | show | serve PORT WORKERS REQUESTS | fetch URL KIND CE [CE ..] | ver\n",
+            b"usage: dap2 answer TARGET [WORKERS] | show | serve PORT WORKERS REQUESTS | fetch URL KIND CE [CE ..] | soak START SIZE | ver\n",
         ),
         (
             &["answer", "none.csv.dods"],

@@ -3,8 +3,9 @@ use Rattle.std.specs.Io.KnownBytes.{Appends}
 use Rattle.dap_outside.specs.Streams.{AppendsFront}
 use Rattle.dap2.proofs.Answering.{same_target}
 use Rattle.dap2.proofs.Commanding.{same-serve}
-use Rattle.dap2.proofs.Fetching.{for-words, form-kind, form-of, no-answer, no-command, no-command-url, no-serve, no-show, no-url, no-ver}
+use Rattle.dap2.proofs.Fetching.{for-words, form-kind, form-of, no-answer, no-command, no-command-url, no-serve, no-show, no-soak, no-url, no-ver, soak-no-answer}
 use Rattle.dap2.proofs.Obeying.{answer-no-words, serve-for, serve-no-words}
+use Rattle.dap2.proofs.Seeds.{soak-for}
 use Rattle.dap2.specs.Answer.{AnswerSays, MustResult}
 use Rattle.dap2.specs.Lines.{IsSaid}
 use Rattle.dap2.specs.Serve.{lines_from}
@@ -83,10 +84,10 @@ pub returns-in-Ver-clause-fetch_link : goal.returns-in-Ver-clause-fetch_link
 returns-in-Ver-clause-fetch_link g c = λ is. let (u, kind, ces, are) = is in let (url, form) = form-of _ u kind ces are in absurd (no-ver _ url kind ces c.in-Ver.ensures form)
 
 pub returns-in-Other-clause-fetch : goal.returns-in-Other-clause-fetch
-returns-in-Other-clause-fetch g c = λ u kind ces are. absurd (c.in-Other.ensures (inr (inr (inr (inr (u, kind, ces, are))))))
+returns-in-Other-clause-fetch g c = λ u kind ces are. absurd (c.in-Other.ensures (inr (inr (inr (inr (inl (u, kind, ces, are)))))))
 
 pub returns-in-Other-clause-fetch_link : goal.returns-in-Other-clause-fetch_link
-returns-in-Other-clause-fetch_link g c = λ is. absurd (c.in-Other.ensures (inr (inr (inr (inr is)))))
+returns-in-Other-clause-fetch_link g c = λ is. absurd (c.in-Other.ensures (inr (inr (inr (inr (inl is))))))
 
 pub fetch-requires-clause-kind : goal.fetch-requires-clause-kind
 fetch-requires-clause-kind g c = form-kind _ _ _ _ c.in-Fetch.ensures
@@ -141,3 +142,56 @@ returns-in-Fetch-clause-verdict g c = λ are. absurd (no-show _ _ _ _ are c.in-F
 
 pub returns-in-Fetch-clause-read_fault : goal.returns-in-Fetch-clause-read_fault
 returns-in-Fetch-clause-read_fault g c = λ are. absurd (no-show _ _ _ _ are c.in-Fetch.ensures)
+
+pub returns-in-Soak-clause-answer : goal.returns-in-Soak-clause-answer
+returns-in-Soak-clause-answer g c = λ target workers are. absurd (soak-no-answer _ target workers _ _ are c.in-Soak.ensures)
+
+pub returns-in-Soak-clause-answered : goal.returns-in-Soak-clause-answered
+returns-in-Soak-clause-answered g c = λ target workers are. absurd (soak-no-answer _ target workers _ _ are c.in-Soak.ensures)
+
+pub returns-in-Soak-clause-answer_asks : goal.returns-in-Soak-clause-answer_asks
+returns-in-Soak-clause-answer_asks g c = λ target workers are. absurd (soak-no-answer _ target workers _ _ are c.in-Soak.ensures)
+
+pub returns-in-Soak-clause-answer_asked : goal.returns-in-Soak-clause-answer_asked
+returns-in-Soak-clause-answer_asked g c = λ target workers are. absurd (soak-no-answer _ target workers _ _ are c.in-Soak.ensures)
+
+pub returns-in-Soak-clause-answer_untouched : goal.returns-in-Soak-clause-answer_untouched
+returns-in-Soak-clause-answer_untouched g c = λ target workers are. absurd (soak-no-answer _ target workers _ _ are c.in-Soak.ensures)
+
+pub returns-in-Soak-clause-answer_read_fault : goal.returns-in-Soak-clause-answer_read_fault
+returns-in-Soak-clause-answer_read_fault g c = λ target workers are. absurd (soak-no-answer _ target workers _ _ are c.in-Soak.ensures)
+
+pub returns-in-Soak-clause-fetch : goal.returns-in-Soak-clause-fetch
+returns-in-Soak-clause-fetch g c = λ u kind ces are. let (url, form) = form-of _ u kind ces are in absurd (no-soak _ _ _ url kind ces c.in-Soak.ensures form)
+
+pub returns-in-Soak-clause-fetch_link : goal.returns-in-Soak-clause-fetch_link
+returns-in-Soak-clause-fetch_link g c = λ is. let (u, kind, ces, are) = is in let (url, form) = form-of _ u kind ces are in absurd (no-soak _ _ _ url kind ces c.in-Soak.ensures form)
+
+pub returns-in-Soak-clause-fetch_shelf : goal.returns-in-Soak-clause-fetch_shelf
+returns-in-Soak-clause-fetch_shelf g c = λ is. let (u, kind, ces, are) = is in let (url, form) = form-of _ u kind ces are in absurd (no-soak _ _ _ url kind ces c.in-Soak.ensures form)
+
+pub returns-in-Soak-clause-soak : goal.returns-in-Soak-clause-soak
+returns-in-Soak-clause-soak g c = λ start records are.
+    soak-for _ c.in-Soak.start c.in-Soak.records start records (Appends (g.O.Sink.written c.args.out.now) (g.O.Sink.written c.soak_lines.new.out)) (AppendsFront (g.O.Sink.written c.args.out.now) (g.O.Sink.written c.soak_lines.new.out)) c.soak_lines.result
+    c.in-Soak.ensures c.soak_lines.ensures.says are
+
+pub returns-in-Soak-clause-words : goal.returns-in-Soak-clause-words
+returns-in-Soak-clause-words g c = (λ is command. c.soak_lines.ensures.words is, λ no_one. absurd (no_one (inr (inr (inr (inr (inr (_, _, c.in-Soak.ensures))))))))
+
+pub returns-in-Soak-clause-no_command : goal.returns-in-Soak-clause-no_command
+returns-in-Soak-clause-no_command g c = λ no_one. absurd (no_one (inr (inr (inr (inr (inr (_, _, c.in-Soak.ensures)))))))
+
+pub returns-in-Answer-clause-soak : goal.returns-in-Answer-clause-soak
+returns-in-Answer-clause-soak g c = λ start records are. absurd (soak-no-answer _ _ _ start records c.in-Answer.ensures.0 are)
+
+pub returns-in-Answer-clause-soak_shelf : goal.returns-in-Answer-clause-soak_shelf
+returns-in-Answer-clause-soak_shelf g c = λ is. let (start, records, are) = is in absurd (soak-no-answer _ _ _ start records c.in-Answer.ensures.0 are)
+
+pub returns-in-Fetch-clause-soak : goal.returns-in-Fetch-clause-soak
+returns-in-Fetch-clause-soak g c = λ start records are. absurd (no-soak _ start records _ _ _ are c.in-Fetch.ensures)
+
+pub returns-in-Fetch-clause-soak_shelf : goal.returns-in-Fetch-clause-soak_shelf
+returns-in-Fetch-clause-soak_shelf g c = λ is. let (start, records, are) = is in absurd (no-soak _ start records _ _ _ are c.in-Fetch.ensures)
+
+pub returns-in-Other-clause-soak : goal.returns-in-Other-clause-soak
+returns-in-Other-clause-soak g c = λ start records are. absurd (c.in-Other.ensures (inr (inr (inr (inr (inr (start, records, are)))))))
