@@ -425,12 +425,14 @@ fn a_failed_read_behind_the_head_breaks_off(rt: HostRuntime) -> Result<(), Fail>
     Ok(())
 }
 
-/// Each take fails in turn: the requests that came before are answered.
-#[test]
-fn each_take_may_fail(rt: HostRuntime) -> Result<(), Fail> {
-    let alloc = rt.alloc();
-    let whole = joined(alloc, &[BAD_TARGET, DDS_HEAD])?;
-    let mut ended = false;
+/// Each take fails in turn, until none does: the first request is answered where it came before.
+fn expect_answered<R: Threads + Abort + AllocGlobal + Sync>(
+    rt: &R,
+    input: &[u8],
+    first: (usize, &[u8], u16),
+    whole: &[u8],
+) -> Result<(), Fail> {
+    let (length, reply, status) = first;
     for n in 1..100u64 {
         let fails: [u64; 1] = [n];
         let faults = Faults {
@@ -438,25 +440,29 @@ fn each_take_may_fail(rt: HostRuntime) -> Result<(), Fail> {
             piece: 2,
             ..SURE
         };
-        let found = served_over(&rt, TWO, faults)?;
-        if found.served.ending == Ending::Closed {
-            assert_eq!(rt; found.written.bytes(), whole.as_slice());
-            ended = true;
-            break;
+        let found = served_over(rt, input, faults)?;
+        if found.served.ending != Ending::ReadFault {
+            assert_eq!(rt; found.written.bytes(), whole);
+            return Ok(());
         }
-        let came = 2 * (n as usize - 1);
-        let one = came >= 27;
-        let written = if one { BAD_TARGET } else { b"".as_slice() };
-        let served = if one {
-            as_served(1, 400, Ending::ReadFault)
+        if 2 * (n - 1) >= length as u64 {
+            assert_eq!(rt; found.written.bytes(), reply);
+            assert_eq!(rt; found.served, as_served(1, status, Ending::ReadFault));
         } else {
-            as_served(0, 0, Ending::ReadFault)
-        };
-        assert_eq!(rt; found.written.bytes(), written);
-        assert_eq!(rt; found.served, served);
+            assert_eq!(rt; found.written.bytes(), b"".as_slice());
+            assert_eq!(rt; found.served, as_served(0, 0, Ending::ReadFault));
+        }
     }
-    assert!(rt; ended);
-    Ok(())
+    Err(Fail::from("every run failed"))
+}
+
+#[test]
+fn each_take_may_fail(rt: HostRuntime) -> Result<(), Fail> {
+    let alloc = rt.alloc();
+    let two = joined(alloc, &[BAD_TARGET, DDS_HEAD])?;
+    expect_answered(&rt, TWO, (27, BAD_TARGET, 400), &two)?;
+    let data = joined(alloc, &[DATA_HEAD, b"8a\r\n", BUOYS_BODY, LAST_CHUNK])?;
+    expect_answered(&rt, GET_BUOYS, (41, &data, 200), &data)
 }
 
 /// Each put fails in turn: a front of the replies is out.

@@ -26,7 +26,7 @@ const TABLE_ROW: &[u8] =
     b"Dataset {\n    Sequence {\n        String station;\n        Int32 depth;\n    } buoys;\n} buoys.csv;\nbuoys[0].station = \"A1\"\nbuoys[0].depth = 5\n";
 
 /// Bodies of tables and arrays, whole and wrong.
-const DATA: [Case; 18] = [
+const DATA: [Case; 19] = [
     Case {
         body: TABLE,
         answer: Answer::Shown(138),
@@ -110,6 +110,12 @@ const DATA: [Case; 18] = [
         answer: Answer::Wrong(Bad::Cut, 41),
         least: b"Dataset {\n    String q;\n} f;\n",
         most: b"Dataset {\n    String q;\n} f;\nq = \"ab",
+    },
+    Case {
+        body: b"Dataset {\n    String q;\n} f;\nData:\n\x7f\xff\xff\xff",
+        answer: Answer::Wrong(Bad::Cut, 39),
+        least: b"Dataset {\n    String q;\n} f;\n",
+        most: b"Dataset {\n    String q;\n} f;\nq = \"",
     },
     Case {
         body: b"Dataset {\n    String q;\n} f;\nData:\n\x80\0\0\0",

@@ -10,7 +10,7 @@ use xdr_decode::Bad;
 /// bytes that are put.
 type Row<'t> = (&'t [u8], &'t [u8], &'t [u8], Answer, &'t [u8]);
 
-fn table_rows() -> [Row<'static>; 10] {
+fn table_rows() -> [Row<'static>; 11] {
     [
         // A stated length: right, too short, too long; twice, the same and another.
         (
@@ -78,6 +78,14 @@ fn table_rows() -> [Row<'static>; 10] {
             b"\rx0\r\n\r\n",
             Answer::Wrong(Bad::BadChunk, 142),
             TABLE_ROWS,
+        ),
+        // A chunk that would be longer than any is.
+        (
+            b"HTTP/1.1 200 OK\r\nTransfer-Encoding: chunked\r\n\r\n",
+            b"fffffffff\r\n",
+            b"\r\n0\r\n\r\n",
+            Answer::Wrong(Bad::BadChunk, 0),
+            b"",
         ),
         // A coded body.
         (
