@@ -7,6 +7,7 @@ use Rattle.std.specs.Io.KnownBytes.{Appends, Consumes}
 use Rattle.dap_types.specs.Model.{Dataset, Tree}
 use Rattle.dap_model.specs.Shown.{shown}
 use Rattle.dap_outside.specs.Causes.{Rose}
+use Rattle.dap_outside.specs.Links.{LinkState}
 use Rattle.dap_http.proofs.Deliveries.{one-delivery}
 use Rattle.dap_http.proofs.Finals.{gives-more}
 use Rattle.dap_http.specs.Delivered.{Delivers, HasCoding, IsWholeBody}
@@ -15,7 +16,7 @@ use Rattle.xdr_decode.specs.declared.bad.BadField.{BadField}
 use Rattle.dap_client.proofs.Bodies.{body_good, good_is_body}
 use Rattle.dap_client.specs.Answered as answered
 use Rattle.dap_client.specs.Answered.{Tells}
-use Rattle.dap_client.specs.Fetched.{AreGood, AreRead, AreVerdicts, IsAsked, IsFetchedOver, IsFirst, IsReadFrom, LinkState, Reply, SaysVerdict, all_put, all_taken, count_of, is_complete, is_fault, requests_text}
+use Rattle.dap_client.specs.Fetched.{AreGood, AreRead, AreVerdicts, IsAsked, IsFetchedOver, IsFirst, IsReadFrom, Reply, SaysVerdict, all_put, all_taken, count_of, is_complete, is_fault, requests_text}
 use Rattle.dap_client.specs.Outcomes.{outcome_of}
 use Rattle.dap_client.specs.Replies.{IsReplyVerdict, first_of}
 use Rattle.dap_client.specs.Verdict.{IsVerdict, Verdict, bad, dods_form, good, good_das, good_dds, is_final, server_error}

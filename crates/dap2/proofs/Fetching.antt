@@ -1,9 +1,10 @@
 -- What the words of `fetch` are, and what is said of them.
 use Rattle.std.proofs.Common.{◌≡◌, ℕ, ◌≤◌, ◌⊎◌, inl, inr, List, [], ◌∷◌, length, get_or, Option, Some, None, codes, refl, sym, ap, ◌∙◌, subst, arith}
+use Rattle.dap_outside.specs.Links.{LinkState}
 use Rattle.dap_http.specs.Urls.{UrlParts, url_of}
 use Rattle.dap_http.specs.declared.kind.Kind.{Kind}
 use Rattle.dap_http.specs.declared.kind.Kind.TheVariants as kinds
-use Rattle.dap_client.specs.Fetched.{DialState, LinkState, SinkState}
+use Rattle.dap_client.specs.Fetched.{DialState, SinkState}
 use Rattle.dap_client.specs.declared.outcome.Outcome.{Outcome}
 use Rattle.dap_client.specs.declared.outcome.Outcome.TheVariants as outcomes
 use Rattle.dap2.specs.Fetch.{FetchSays, SaysWhy, status_of}

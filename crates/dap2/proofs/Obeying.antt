@@ -1,8 +1,9 @@
 -- The commands say that the words are one, and with which numbers.
 use Rattle.std.proofs.Common.{◌≡◌, ◌≢◌, ℕ, List, [], Option, Some, ap, ◌∙◌, subst}
 use Rattle.dap_outside.specs.Files.{Told}
+use Rattle.dap_outside.specs.Links.{LinkState}
 use Rattle.dap2.specs.Answer.{AnswerSays}
-use Rattle.dap2.specs.Serve.{LinkState, ServeSays, Serves, Standing, Visit}
+use Rattle.dap2.specs.Serve.{ServeSays, Serves, Standing, Visit}
 use Rattle.dap2.specs.declared.status.Status.{Status}
 use Rattle.dap2.specs.declared.status.Status.TheVariants.{Words}
 

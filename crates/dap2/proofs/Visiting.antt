@@ -8,10 +8,11 @@ use Rattle.std.specs.Io.KnownBytes.{Appends}
 use Rattle.dap_outside.proofs.Fronts.{front_more, front_of}
 use Rattle.dap_outside.specs.Causes.{Rose}
 use Rattle.dap_outside.specs.Files.{Told}
+use Rattle.dap_outside.specs.Links.{LinkState}
 use Rattle.dap_outside.specs.Streams.{AppendsFront}
 use Rattle.dap_server.specs.Connections.{RoseBy, failures}
 use Rattle.dap_server.specs.declared.served.Served.{Served}
-use Rattle.dap2.specs.Serve.{IsVisit, IsWholeVisit, LinkState, ServeSays, ServesFrom, Standing, Visit, ending_name, failures_in, lines_from, link_line}
+use Rattle.dap2.specs.Serve.{IsVisit, IsWholeVisit, ServeSays, ServesFrom, Standing, Visit, ending_name, failures_in, lines_from, link_line}
 use Rattle.dap2.specs.declared.status.Status.{Status}
 use Rattle.dap2.specs.declared.status.Status.TheVariants.{Complete, Words, Refused, Damaged, BadReply, ReadFault, WriteFault, LinkFault, Memory, ServerError}
 

@@ -7,10 +7,11 @@ use Rattle.dap_types.specs.Model.{Dataset, Tree}
 use Rattle.dap_model.specs.Body.{IsBody}
 use Rattle.dap_model.specs.Shown.{shown}
 use Rattle.dap_outside.specs.Causes.{Rose}
+use Rattle.dap_outside.specs.Links.{LinkState}
 use Rattle.dap_http.specs.Delivered.{Delivers}
 use Rattle.dap_http.specs.Urls.{UrlParts}
 use Rattle.dap_http.specs.declared.kind.Kind.TheVariants.{Dods}
-use Rattle.dap_client.specs.Fetched.{DialState, LinkState}
+use Rattle.dap_client.specs.Fetched.{DialState}
 use Rattle.dap_client.specs.Verdict.{Verdict, IsVerdict, dods_form}
 use Rattle.dap2.specs.Fetch.{FetchSays}
 use Rattle.dap2.specs.ServerHalf.{Puts, SaysLine}

@@ -1,9 +1,10 @@
 -- What the command `fetch` says of the replies that were asked for.
 use Rattle.std.specs.Prelude.{◌≡◌, ℕ, ⊤, List, Option}
 use Rattle.std.specs.Fmt.{signed_decimal}
+use Rattle.dap_outside.specs.Links.{LinkState}
 use Rattle.dap_http.specs.Urls.{UrlParts}
 use Rattle.dap_http.specs.declared.kind.Kind.{Kind}
-use Rattle.dap_client.specs.Fetched.{DialState, Fetches, LinkState, SinkState}
+use Rattle.dap_client.specs.Fetched.{DialState, Fetches, SinkState}
 use Rattle.dap_client.specs.declared.fetching.Fetched.{Fetched}
 use Rattle.dap_client.specs.declared.outcome.Outcome.{Outcome}
 use Rattle.dap_client.specs.declared.outcome.Outcome.TheVariants as outcomes

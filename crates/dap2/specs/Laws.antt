@@ -2,12 +2,13 @@
 use Rattle.std.specs.Prelude.{◌≡◌, ℕ, ◌<◌, List, length, Some}
 use Rattle.std.specs.Io.KnownBytes.{Appends}
 use Rattle.dap_types.specs.Limits.{body_limit}
+use Rattle.dap_outside.specs.Links.{LinkState}
 use Rattle.dap_http.specs.Targets.{target_of}
 use Rattle.dap_http.specs.declared.kind.Kind.TheVariants.{Dods}
 use Rattle.dap_server.specs.Connections.{put_from}
 use Rattle.dap_server.specs.Files.{Files}
 use Rattle.both_ends.specs.Ends.{HoldBytes, IsGoodResult, StandGood}
-use Rattle.dap2.specs.Serve.{IsVisit, LinkState, Visit}
+use Rattle.dap2.specs.Serve.{IsVisit, Visit}
 use Rattle.dap2.specs.ServerHalf.{Answering, Says}
 use Rattle.dap2.specs.declared.status.Status.TheVariants.{Complete}
 

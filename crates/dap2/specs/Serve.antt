@@ -1,11 +1,12 @@
 -- What the command `serve` says of the links that came in, and `ver` of the version (the lines are this
 -- project's).
-use Rattle.std.specs.Prelude.{◌≡◌, ◌≢◌, ℕ, ◌+◌, ◌<◌, ◌≤◌, Bool, false, List, [], ◌∷◌, ◌++◌, All, length, map, sum_by, codes, Option, Some, IsSome, option_map}
+use Rattle.std.specs.Prelude.{◌≡◌, ◌≢◌, ℕ, ◌+◌, ◌<◌, ◌≤◌, List, [], ◌∷◌, ◌++◌, All, length, map, sum_by, codes, Option, Some, IsSome, option_map}
 use Rattle.std.specs.Fmt.{decimal}
 use Rattle.std.specs.Io.KnownBytes.{Appends, Consumes}
 use Rattle.dap_http.specs.Texts.{version}
 use Rattle.dap_outside.specs.Causes.{Rose}
 use Rattle.dap_outside.specs.Files.{Told}
+use Rattle.dap_outside.specs.Links.{IsNew, LinkState}
 use Rattle.dap_outside.specs.Streams.{AppendsFront}
 use Rattle.dap_server.specs.Connections.{Connection, IsServed, RoseBy, RoseFor, failures, put_from}
 use Rattle.dap_server.specs.Files.{Files}
@@ -30,23 +31,6 @@ abbrev pub link_line : ℕ → Served → List ℕ
 link_line k served = codes "connection " ++ (decimal k ++ (codes " " ++ (decimal served.replies ++ (codes " " ++ (ending_name served.ending ++ codes "\n")))))
 
 -- ---- A link that was served.
-
--- what a link tells, and how often it failed
-pub record LinkState : Type 0 where
-  pub whole : Option (List ℕ)
-  pub left : Option (List ℕ)
-  pub ended : Bool
-  pub written : Option (List ℕ)
-  pub take_faults : ℕ
-  pub put_faults : ℕ
-
--- as it comes in: nothing was taken or written, and nothing failed
-pub record IsNew (l : LinkState) : Type 0 where
-  pub all_left : l.left ≡ l.whole
-  pub going : l.ended ≡ false
-  pub none_written : l.written ≡ option_map (λ _. []) l.written
-  pub takes : l.take_faults ≡ 0
-  pub puts : l.put_faults ≡ 0
 
 -- a link as it came in and as it came back, what was answered on it, and how it ended
 pub record Visit (W : Type 0) : Type 0 where

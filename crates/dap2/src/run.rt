@@ -1,10 +1,12 @@
-ghost use Rattle.std.specs.Prelude.{◌≡◌, ◌≢◌, ◌+◌, ◌≤◌, ◌⊎◌, ◌↔◌, ℕ, List, [], IfSome, IsSome, IsTrue, Some, false, Result};
+ghost use Rattle.std.specs.Prelude.{◌≡◌, ◌≢◌, ◌+◌, ◌≤◌, ◌⊎◌, ◌↔◌, ℕ, List, [], IfSome, IsSome, IsTrue, Some, false, length, Result};
 ghost use Rattle.std.specs.Io.KnownBytes.{Appends, IsAtEnd};
+ghost use Rattle.dap_client.specs.Shows.{Takes};
 ghost use Rattle.dap_client.specs.Verdict.{Verdict, IsVerdict, dods_form};
 ghost use Rattle.dap_errors.specs.declared.cause.Cause.{Cause};
 ghost use Rattle.dap_outside.specs.Causes.{Rose};
 ghost use Rattle.dap_outside.specs.Streams.{AppendsFront};
 ghost use Rattle.dap_server.specs.Results.{Text};
+ghost use Rattle.dap_types.specs.Limits.{body_limit};
 ghost use Rattle.dap_http.specs.Urls.{UrlParts};
 ghost use Rattle.dap_http.specs.declared.kind.Kind.{Kind};
 ghost use Rattle.dap2.specs.Answer as answers;
@@ -67,6 +69,7 @@ fn obey<R: Threads + Sync, S: Shelf, I: Source, O: Sink, E: Sink, D: Door, C: Di
     ensures door { ¬ (IsServe words.now) → door.new ≡ door.old }
     ensures show { IsShow words.now → ShowSays (I.left input.old) (I.left input.new) (IsTrue (I.ended input.new)) (IsAtEnd (I.left input.new)) (O.written out.old) (O.written out.new)
         (λ line. IsSaid line (E.put_faults err.old) (E.put_faults err.new) (E.written err.old) (E.written err.new)) result }
+    ensures most { IsShow words.now → Takes (I.left input.old) (I.left input.new) (λ taken. length taken ≤ body_limit) }
     ensures verdict { IsShow words.now → (body : List ℕ) (v : Verdict) → I.left input.old ≡ Some body → IsVerdict dods_form body v → IsFor v result }
     ensures read_fault { IsShow words.now → result ≡ Status.ReadFault → Rose (I.take_faults input.old) (I.take_faults input.new) }
     ensures shelf { IsShow words.now → shelf.new ≡ shelf.old }
@@ -162,6 +165,9 @@ pub fn run<R: Threads + Sync, S: Shelf, I: Source, O: Sink, E: Sink, D: Door, C:
     ensures shows { IsShow words.now → (body : List ℕ) (v : Verdict) → I.left input.old ≡ Some body → IsVerdict dods_form body v
         → ¬ (Rose (I.take_faults input.old) (I.take_faults input.new)) → ¬ (Rose (O.put_faults out.old) (O.put_faults out.new))
         → result ≢ Status.Memory → result ≡ status_for v }
+
+    // However `show` ends, no more bytes are taken than the first that no data response has.
+    ensures most { IsShow words.now → Takes (I.left input.old) (I.left input.new) (λ taken. length taken ≤ body_limit) }
 
     ensures read_fault { IsShow words.now → result ≡ Status.ReadFault → Rose (I.take_faults input.old) (I.take_faults input.new) }
     ensures shelf { IsShow words.now → shelf.new ≡ shelf.old }

@@ -1,7 +1,9 @@
-ghost use Rattle.std.specs.Prelude.{◌≡◌, ◌≢◌, ◌≤◌, ℕ, List, Some, IsTrue};
+ghost use Rattle.std.specs.Prelude.{◌≡◌, ◌≢◌, ◌≤◌, ℕ, List, Some, IsTrue, length};
 ghost use Rattle.std.specs.Io.KnownBytes.{IsAtEnd};
+ghost use Rattle.dap_client.specs.Shows.{Takes};
 ghost use Rattle.dap_client.specs.Verdict.{Verdict, IsVerdict, dods_form};
 ghost use Rattle.dap_outside.specs.Causes.{Rose};
+ghost use Rattle.dap_types.specs.Limits.{body_limit};
 ghost use Rattle.dap2.specs.Lines.{IsSaid};
 ghost use Rattle.dap2.specs.Show.{IsFor, ShowSays};
 
@@ -22,6 +24,7 @@ pub fn show_input<I: Source, O: Sink, E: Sink>(
     ensures says { ShowSays (I.left input.old) (I.left input.new) (IsTrue (I.ended input.new)) (IsAtEnd (I.left input.new)) (O.written out.old) (O.written out.new)
         (λ line. IsSaid line (E.put_faults err.old) (E.put_faults err.new) (E.written err.old) (E.written err.new)) result }
     ensures verdict { (body : List ℕ) (v : Verdict) → I.left input.old ≡ Some body → IsVerdict dods_form body v → IsFor v result }
+    ensures most { Takes (I.left input.old) (I.left input.new) (λ taken. length taken ≤ body_limit) }
     ensures read_fault { result ≡ Status.ReadFault → Rose (I.take_faults input.old) (I.take_faults input.new) }
     ensures write_fault { result ≡ Status.WriteFault → Rose (O.put_faults out.old) (O.put_faults out.new) }
     ensures words { result ≢ Status.Words }

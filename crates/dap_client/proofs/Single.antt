@@ -1,8 +1,9 @@
 -- What is fetched for one constraint.
 use Rattle.std.proofs.Common.{◌≡◌, ℕ, ◌⊎◌, inl, inr, List, [], ◌∷◌, sym, ap, ◌∙◌, subst, arith}
+use Rattle.dap_outside.specs.Links.{LinkState}
 use Rattle.dap_http.specs.Urls.{UrlParts}
 use Rattle.dap_http.specs.declared.kind.Kind.{Kind}
-use Rattle.dap_client.specs.Fetched.{DialState, Fetches, IsAsked, IsUnasked, LinkState, SinkState, count_of}
+use Rattle.dap_client.specs.Fetched.{DialState, Fetches, IsAsked, IsUnasked, SinkState, count_of}
 use Rattle.dap_client.specs.Verdict.{Form}
 use Rattle.dap_client.specs.declared.fetching.Fetched.{Fetched}
 

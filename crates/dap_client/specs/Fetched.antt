@@ -6,6 +6,7 @@ use Rattle.std.specs.List.{flat_map}
 use Rattle.std.specs.Option.{option_map}
 use Rattle.std.specs.Io.KnownBytes.{Appends, Consumes}
 use Rattle.dap_outside.specs.Causes.{Rose}
+use Rattle.dap_outside.specs.Links.{IsNew, LinkState}
 use Rattle.dap_outside.specs.Streams.{AppendsFront}
 use Rattle.dap_http.specs.Delivered.{Delivers}
 use Rattle.dap_http.specs.Texts.{request_text}
@@ -116,23 +117,6 @@ AreGood form (suc n) bytes =
     (m : ℕ) × (v : Verdict) × (rest : List ℕ) × IsFirst form bytes v m rest × IsTrue (is_complete (outcome_of m v)) × AreGood form n rest
 
 -- ---- The link.
-
--- what a link tells, and how often it failed
-pub record LinkState : Type 0 where
-  pub whole : Option (List ℕ)
-  pub left : Option (List ℕ)
-  pub ended : Bool
-  pub written : Option (List ℕ)
-  pub take_faults : ℕ
-  pub put_faults : ℕ
-
--- as it is connected: nothing was taken or written, and nothing failed
-pub record IsNew (l : LinkState) : Type 0 where
-  pub all_left : l.left ≡ l.whole
-  pub going : l.ended ≡ false
-  pub none_written : l.written ≡ option_map (λ _. []) l.written
-  pub takes : l.take_faults ≡ 0
-  pub puts : l.put_faults ≡ 0
 
 -- what a sink has, and how often it failed
 pub record SinkState : Type 0 where

@@ -11,9 +11,10 @@ use Rattle.dap_model.specs.Shown.{shown_byte}
 use Rattle.dap_model.specs.Xdr as xdr
 use Rattle.dap_model.specs.Xdr.{Field, text, field_bytes, SpellsField, SpellsFields}
 use Rattle.xdr_fields.proofs.Fronts.{IsPart, shows}
+use Rattle.xdr_fields.proofs.Growing.{prefix_trans, said_join}
 use Rattle.xdr_fields.proofs.Judged.{ended_at, is_bad, judge, no_steps, one_step, steps_join}
 use Rattle.xdr_fields.specs.inner.Reached.{Leads, IsEnded, IsCut, IsSpoilt}
-use Rattle.xdr_fields.specs.Wants.{Want, a_count, a_value, a_byte, a_filler, a_text, a_padding, rows, Goes, Steps, becomes, fault_in, room, said, says, says_next, says_part, wants_of}
+use Rattle.xdr_fields.specs.Wants.{Want, a_count, a_value, a_byte, a_filler, a_text, a_padding, rows, Goes, Steps, becomes, fault_in, room, said, says_next, says_part, wants_of}
 use Rattle.xdr_decode.proofs.Moving.{same_first, same_rest}
 use Rattle.xdr_decode.proofs.Turning.{faulty_wide}
 use Rattle.xdr_decode.specs.Verdict.{kind_of}
@@ -21,12 +22,6 @@ use Rattle.xdr_decode.specs.Shown.{HasGood, ShowsSome}
 use Rattle.xdr_decode.specs.inner.Turning.{IsBroken, IsLoose, Spelled}
 
 -- fields one after the other
-said_join : (ws : List Want) (fs gs : List Field) (us : List Want) → Steps ws fs us → said ws (fs ++ gs) ≡ said ws fs ++ said us gs
-unfolding Steps said
-said_join ws [] gs us steps = ap (λ l. said l gs) steps
-said_join [] (f ∷ fs) gs us steps = absurd steps
-said_join (w ∷ ws) (f ∷ fs) gs us steps = ap (λ l. says w f ++ l) (said_join (becomes w f ++ ws) fs gs us steps.1) ∙ sym (append_assoc (says w f) (said (becomes w f ++ ws) fs) (said us gs))
-
 spells_join : (fs gs : List Field) (a b : List ℕ) → SpellsFields fs a → SpellsFields gs b → SpellsFields (fs ++ gs) (a ++ b)
 spells_join [] gs a b none good = subst (λ l. SpellsFields gs (l ++ b)) (sym none) good
 spells_join (f ∷ fs) gs a b (x, y, parts, one, more) good = (x, y ++ b, ap (λ l. l ++ b) parts ∙ append_assoc x y b, one, spells_join fs gs y b more good)
@@ -37,9 +32,6 @@ prefix_of (o ∷ own) [] rest z same le = absurd (omega (arith, le))
 prefix_of (o ∷ own) (b ∷ x) rest z same le =
     let (k, is) = prefix_of own x rest z (same_rest o b (own ++ rest) (x ++ z) same) (omega (arith, le)) in
     (k, ap (λ c. c ∷ x) (sym (same_first o b (own ++ rest) (x ++ z) same)) ∙ ap (λ l. o ∷ l) is)
-
-pub prefix_trans : (a b c : List ℕ) → IsPrefix a b → IsPrefix b c → IsPrefix a c
-prefix_trans a b c (x, one) (y, two) = (x ++ y, two ∙ ap (λ l. l ++ y) one ∙ append_assoc a x y)
 
 text_bytes : (b x : List ℕ) → SpellsField (text b) x → x ≡ b
 unfolding field_bytes

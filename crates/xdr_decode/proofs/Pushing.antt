@@ -10,6 +10,7 @@ use Rattle.dap_model.proofs.OneVerdict.{one_bad, bad_not_open, ended_not_bad, en
 use Rattle.dap_model.proofs.OneSpelling.{one_spelling}
 use Rattle.dap_model.specs.Received.{EndsAt, Fault, IsBadField, IsOpen}
 use Rattle.dap_model.specs.Xdr.{Spells}
+use Rattle.xdr_fields.proofs.Growing.{prefix_trans}
 use Rattle.xdr_decode.specs.Verdict.{kind_of}
 use Rattle.xdr_decode.specs.declared.bad.BadField.{BadField}
 use Rattle.xdr_decode.proofs.Standing.{ends, opens, puts, stopped, stopped_bad}
@@ -19,7 +20,7 @@ use Rattle.std.proofs.Common.{Result, Ok, Err}
 use Rattle.std.proofs.Math.Seq.{take-length}
 use Rattle.dap_outside.specs.Streams.{AppendsFront}
 use Rattle.dap_outside.specs.declared.failed.Failed.{Failed}
-use Rattle.xdr_decode.proofs.Breaking.{prefix_trans, some_shown}
+use Rattle.xdr_decode.proofs.Breaking.{some_shown}
 use Rattle.xdr_decode.proofs.Passing.{passed_and_sent, passed_and_stopped, stopped_before}
 use Rattle.xdr_decode.proofs.Turning.{own_loose, reads_stays, stays_ended}
 use Rattle.xdr_decode.specs.inner.Buffered.{Passes, PassesFront}

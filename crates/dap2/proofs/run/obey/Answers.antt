@@ -137,6 +137,9 @@ returns-in-Fetch-clause-ver g c = λ are. absurd (no-ver _ _ _ _ are c.in-Fetch.
 pub returns-in-Fetch-clause-show : goal.returns-in-Fetch-clause-show
 returns-in-Fetch-clause-show g c = λ are. absurd (no-show _ _ _ _ are c.in-Fetch.ensures)
 
+pub returns-in-Fetch-clause-most : goal.returns-in-Fetch-clause-most
+returns-in-Fetch-clause-most g c = λ are. absurd (no-show _ _ _ _ are c.in-Fetch.ensures)
+
 pub returns-in-Fetch-clause-verdict : goal.returns-in-Fetch-clause-verdict
 returns-in-Fetch-clause-verdict g c = λ are. absurd (no-show _ _ _ _ are c.in-Fetch.ensures)
 
