@@ -1,23 +1,22 @@
 -- From what `prepare` and the parts of an answer say to what the command says.
-use Rattle.std.proofs.Common.{◌≡◌, ◌≢◌, ℕ, ◌+◌, ◌≤◌, Bool, true, false, List, [], Option, Some, None, Result, Ok, Err, IsSome, IsTrue, refl, sym, ap, ◌∙◌, inl, inr, subst, arith}
-use Rattle.std.specs.Prelude.{is_some, ◌⊎◌, ⊤, length, get_or, ◌∷◌, codes}
+use Rattle.std.proofs.Common.{◌≡◌, ◌≢◌, ℕ, ◌+◌, ◌≤◌, true, List, [], Option, Some, None, Result, Ok, Err, IsSome, IsTrue, refl, sym, ap, ◌∙◌, inl, inr, subst, arith}
+use Rattle.std.specs.Prelude.{is_some, get_or}
 use Rattle.dap_errors.specs.Causes.{message_text}
 use Rattle.dap_errors.specs.declared.cause.Cause.{Cause}
 use Rattle.dap_errors.specs.declared.cause.Cause.TheVariants as causes
 use Rattle.dap_errors.specs.declared.file_cause.FileCause.{FileCause}
 use Rattle.dap_http.specs.Targets.{Asked, target_of}
-use Rattle.dap_http.specs.declared.kind.Kind.{Kind}
-use Rattle.dap_http.specs.declared.kind.Kind.TheVariants.{Dds, Das, Dods, Ver}
+use Rattle.dap_http.specs.declared.kind.Kind.TheVariants.{Dods}
 use Rattle.dap_outside.specs.Files.{Told}
 use Rattle.dap_server.proofs.Lying.{some_files}
-use Rattle.dap_server.specs.Costs.{IsCost, IsCostAt, asks_shelf, most_first}
-use Rattle.dap_server.specs.Files.{Files, Form, MayHave, form_of, netcdf, table}
+use Rattle.dap_server.specs.Costs.{IsCost, IsCostAt, most_first}
+use Rattle.dap_server.specs.Files.{Form, form_of, netcdf, table}
 use Rattle.dap_server.specs.Prepared.{IsOver, MayGive, MustGive}
-use Rattle.dap_server.specs.Results.{AnswersAsked, Text, error_object, put_of, text_of}
+use Rattle.dap_server.specs.Results.{AnswersAsked, Text, error_object, text_of}
 use Rattle.dap_server.specs.Steps.{found_or}
-use Rattle.dap2.specs.Answer.{AnswerSays, IsCostOf, MayAskAs, MayAskFor, MayHaveAsked, MayResult, MustResult, WhereKnown, is_data, is_netcdf, is_read_late, looks_up, status_for, status_of}
-use Rattle.dap2.specs.inner.Puts.{BodyPut, IsPut, RefusalPut, TextPut, start_of, status_start}
-use Rattle.dap2.specs.Lines.{cause_line, damaged_line, line_of, refused_line}
+use Rattle.dap2.specs.Answer.{AnswerSays, MayAskAs, MayAskFor, MayHaveAsked, MayResult, MustResult, WhereKnown, is_netcdf, is_read_late, looks_up, status_of}
+use Rattle.dap2.specs.inner.Puts.{BodyPut, IsPut, RefusalPut, TextPut, start_of}
+use Rattle.dap2.specs.Lines.{cause_line, damaged_line, line_of}
 use Rattle.dap2.specs.Words.{AreAnswer}
 use Rattle.dap_outside.specs.Causes.{Rose}
 use Rattle.xdr_encode.specs.Streamed.{Stops}

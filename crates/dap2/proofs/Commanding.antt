@@ -1,5 +1,5 @@
 -- The words of `serve`.
-use Rattle.std.proofs.Common.{◌≡◌, ℕ, length, suc, arith, refl, List, [], ◌∷◌, ◌⊎◌, inl, inr, get_or, codes, sym, ap, ◌∙◌, subst}
+use Rattle.std.proofs.Common.{◌≡◌, ℕ, length, arith, List, [], ◌∷◌, inl, inr, get_or, codes, sym, ap, ◌∙◌, subst}
 use Rattle.std.specs.Str.Parse.{digits_value}
 use Rattle.dap2.specs.Words.{AreServe, IsCommand, IsNumber}
 

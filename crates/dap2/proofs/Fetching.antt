@@ -1,5 +1,5 @@
 -- What the words of `fetch` are, and what is said of them.
-use Rattle.std.proofs.Common.{◌≡◌, ℕ, ◌≤◌, ◌⊎◌, inl, inr, List, [], ◌∷◌, length, get_or, Option, Some, None, codes, refl, sym, ap, ◌∙◌, subst, arith}
+use Rattle.std.proofs.Common.{◌≡◌, ℕ, ◌⊎◌, inl, inr, List, [], ◌∷◌, get_or, Option, Some, None, codes, refl, sym, ap, ◌∙◌, subst, arith}
 use Rattle.dap_outside.specs.Links.{LinkState}
 use Rattle.dap_http.specs.Urls.{UrlParts, url_of}
 use Rattle.dap_http.specs.declared.kind.Kind.{Kind}
@@ -9,7 +9,7 @@ use Rattle.dap_client.specs.declared.outcome.Outcome.{Outcome}
 use Rattle.dap_client.specs.declared.outcome.Outcome.TheVariants as outcomes
 use Rattle.dap2.specs.Fetch.{FetchSays, SaysWhy, status_of}
 use Rattle.dap2.specs.Lines.{line_of}
-use Rattle.dap2.specs.Words.{AreAnswer, AreFetch, AreServe, AreSoak, HaveFetchForm, IsCommand, IsFetch, IsKindWord, IsServe, IsShow, IsVer}
+use Rattle.dap2.specs.Words.{AreAnswer, AreFetch, AreServe, AreSoak, HaveFetchForm, IsCommand, IsFetch, IsKindWord, IsShow, IsVer}
 use Rattle.dap2.specs.declared.status.Status.{Status}
 use Rattle.dap2.specs.declared.status.Status.TheVariants.{Memory}
 

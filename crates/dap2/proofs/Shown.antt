@@ -1,5 +1,5 @@
 -- What `show` says, by its outcome.
-use Rattle.std.proofs.Common.{◌≡◌, ◌≢◌, ℕ, ℤ, List, [], ◌++◌, length, take, Option, Some, refl, sym, ap, ◌∙◌, subst, ◌⊎◌}
+use Rattle.std.proofs.Common.{◌≡◌, ◌≢◌, ℕ, ℤ, List, length, take, Option, Some, refl, sym, subst}
 use Rattle.std.specs.Fmt.{signed_decimal}
 use Rattle.std.specs.Io.KnownBytes.{Appends}
 use Rattle.dap_types.specs.Model.{Dataset, Tree}
@@ -9,7 +9,6 @@ use Rattle.xdr_decode.specs.declared.bad.BadField.{BadField}
 use Rattle.dap_client.specs.Outcomes.{outcome_of}
 use Rattle.dap_client.specs.Shows.{Gains, Takes}
 use Rattle.dap_client.specs.Verdict.{Verdict, IsVerdict, bad, dods_form, good, good_das, good_dds, server_error}
-use Rattle.dap_client.specs.declared.outcome.Outcome.{Outcome}
 use Rattle.dap_client.specs.declared.outcome.Outcome.TheVariants as outcome
 use Rattle.dap2.specs.Lines.{bad_reply_line, line_of, server_error_line}
 use Rattle.dap2.specs.Show.{IsFor, IsWrongTaken, ShowSays, status_for}

@@ -1,6 +1,6 @@
 -- What the command `answer` says: the result of a target, by its text or by the Error object for its first
 -- cause. Where a shelf does not tell its files, it may have any.
-use Rattle.std.specs.Prelude.{◌≡◌, ℕ, ◌+◌, ◌≤◌, ⊤, ◌⊎◌, Bool, true, false, ◌&&◌, List, [], Option, Some, None, IsTrue, Result, Ok, Err}
+use Rattle.std.specs.Prelude.{◌≡◌, ℕ, ◌+◌, ◌≤◌, ◌⊎◌, Bool, true, false, ◌&&◌, List, [], Option, Some, None, IsTrue, Result, Ok, Err}
 use Rattle.std.specs.Option.{option_map_or}
 use Rattle.dap_errors.specs.Causes.{message_text}
 use Rattle.dap_errors.specs.declared.cause.Cause.{Cause}

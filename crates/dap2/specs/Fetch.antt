@@ -1,5 +1,5 @@
 -- What the command `fetch` says of the replies that were asked for.
-use Rattle.std.specs.Prelude.{◌≡◌, ℕ, ⊤, List, Option}
+use Rattle.std.specs.Prelude.{◌≡◌, ℕ, ⊤, List}
 use Rattle.std.specs.Fmt.{signed_decimal}
 use Rattle.dap_outside.specs.Links.{LinkState}
 use Rattle.dap_http.specs.Urls.{UrlParts}

@@ -11,19 +11,19 @@ pub enum Status {
     Complete,
     /// The words are no command.
     Words,
-    /// There is no such file, or it is too large.
+    /// The target, the file's name or the constraint is refused; the Error object is written.
     Refused,
-    /// The file has no dataset.
+    /// The file is no table or no netCDF classic file; the Error object is written.
     Damaged,
-    /// Something is wrong with the data response that came in.
+    /// Something is wrong with the response that came in.
     BadReply,
-    /// An Error object came in place of a data response.
+    /// An Error object came in place of what was asked for.
     ServerError,
     /// A read failed.
     ReadFault,
     /// A write of the output failed; a front of it may be out.
     WriteFault,
-    /// The door failed: no link came in.
+    /// The door or the dial failed: no link came in, or none was connected.
     LinkFault,
     /// Memory was wanted.
     Memory,

@@ -1,6 +1,6 @@
 -- What begins with the word `Error` is no data response; and white space up to the limit begins no Error
 -- object.
-use Rattle.std.proofs.Common.{◌≡◌, ℕ, zero, suc, ◌+◌, ◌-◌, ◌<◌, ◌≤◌, Bool, true, false, not, ◌||◌, ◌&&◌, ◌==◌, List, [], ◌∷◌, ◌++◌, length, take, drop, map, codes, refl, sym, ap, subst, ◌∙◌, append_assoc, append-nil, length-append, take-append-drop, length-take, take_all, IsTrue, nat_le, nat_eq, inl, inr, ◌⊎◌, ⊎_elim, arith}
+use Rattle.std.proofs.Common.{◌≡◌, ℕ, ◌+◌, ◌-◌, ◌<◌, ◌≤◌, Bool, true, false, ◌&&◌, ◌==◌, List, [], ◌∷◌, ◌++◌, length, take, drop, map, codes, refl, sym, ap, subst, ◌∙◌, append_assoc, append-nil, length-append, take-append-drop, length-take, take_all, IsTrue, nat_le, inl, inr, ◌⊎◌, ⊎_elim, arith}
 use Rattle.std.proofs.Math.Seq.{take-append-add}
 use Rattle.std.proofs.lemmas.Bool.{cases_lt, eqb-true, false≢true}
 use Rattle.std.proofs.lemmas.List.{take-append-le}
@@ -12,7 +12,6 @@ use Rattle.std.specs.List.{AllPass, list_all}
 use Rattle.std.specs.Str.{bytes_eq, str_eq_ignore_ascii_case, str_to_ascii_lowercase}
 use Rattle.viable.proofs.Tests.{and_parts}
 use Rattle.dap_types.specs.Model.{Dataset}
-use Rattle.dap_model.specs.Body.{IsHead}
 use Rattle.dap_model.specs.Grammar.{DdsOf, Judged, Slot, closes, fine, keyword, name, opens, semicolon, slots_all, spells}
 use Rattle.dap_model.specs.Received.{HasHead}
 use Rattle.dap_model.specs.Tokens.{Placed, Token, sign, tokens_from, tokens_of, word}
@@ -25,7 +24,6 @@ use Rattle.dap_errors.proofs.Live.{machine}
 use Rattle.dap_errors.specs.Object.{IsObject, is_error_word, signs}
 use Rattle.dap_errors.specs.Reading.{IsBad, IsUnended, front, limit}
 use Rattle.dap_errors.specs.inner.Machine.{Ended, IsOpenState, Start, step}
-use Rattle.xdr_decode.specs.Verdict.{HasHeadOf}
 use Rattle.xdr_decode.specs.declared.bad.Bad.TheVariants.{BadError}
 use Rattle.dap_client.proofs.Objects.{white_same}
 use Rattle.dap_client.specs.Shows.{HasFewValues}

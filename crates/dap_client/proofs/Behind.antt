@@ -1,21 +1,17 @@
 -- What comes of a body with the bytes behind its head.
-use Rattle.std.proofs.Common.{◌≡◌, ℕ, ◌+◌, ◌-◌, ◌^◌, min, ◌<◌, ◌≤◌, ◌⊎◌, inl, inr, Bool, true, false, if◌then◌else◌, List, [], ◌∷◌, ◌++◌, length, take, drop, Option, Some, None, refl, ap, ◌∙◌, sym, subst, arith, append_assoc, append-nil, length-append, length-take-le, take-append-drop}
+use Rattle.std.proofs.Common.{◌≡◌, ℕ, ◌+◌, ◌-◌, ◌<◌, ◌≤◌, ◌⊎◌, inl, inr, Bool, true, false, if◌then◌else◌, List, [], ◌∷◌, ◌++◌, length, refl, ap, ◌∙◌, sym, subst, arith, append_assoc, append-nil, length-append}
 use Rattle.std.proofs.lemmas.Bool.{cases_lt}
-use Rattle.std.proofs.lemmas.List.{take-append-le, take_all}
 use Rattle.std.proofs.lemmas.List.Edits.{length-between}
-use Rattle.std.proofs.Math.Seq.{take-append-add}
-use Rattle.dap_types.specs.Model.{Dataset}
-use Rattle.dap_model.specs.Received.{HasHead}
-use Rattle.xdr_decode.specs.Verdict.{HasHeadOf, budget}
+use Rattle.xdr_decode.specs.Verdict.{budget}
 use Rattle.xdr_decode.specs.declared.bad.BadField.{BadField}
-use Rattle.dap_http.proofs.Framings.{no-end-cut, no-end-fault, one-cut, one-end}
-use Rattle.dap_http.proofs.Parts.{Opened, opened}
+use Rattle.dap_http.proofs.Framings.{no-end-cut, no-end-fault, one-end}
+use Rattle.dap_http.proofs.Parts.{Opened}
 use Rattle.dap_http.proofs.Runs.{run-append}
 use Rattle.dap_http.proofs.Seams.{split}
 use Rattle.dap_http.proofs.Whole.{ends-known, fails-known, goes-known}
 use Rattle.dap_http.specs.Codings.{Ends, Fails, Goes}
 use Rattle.dap_http.specs.Delivered.{HasCome, IsBrokenBody, IsWholeBody}
-use Rattle.dap_http.specs.Following.{Follows, body_coding, part_of, waiting}
+use Rattle.dap_http.specs.Following.{body_coding, part_of, waiting}
 use Rattle.dap_http.specs.inner.Steps.{Known, advance, is_data, run, start}
 use Rattle.dap_http.specs.declared.body_parts.BodyParts.{BodyParts}
 use Rattle.dap_http.specs.declared.coding.Coding.{Coding}

@@ -1,8 +1,7 @@
 -- From a front of the body of a DAS to one with another piece.
-use Rattle.std.proofs.Common.{◌≡◌, ℕ, ◌+◌, ◌-◌, ◌<◌, ◌≤◌, Bool, true, false, not, ◌&&◌, List, [], ◌∷◌, ◌++◌, length, take, drop, get_or, refl, sym, ap, subst, ◌∙◌, append_assoc, length-append, length-drop, length-take-le, IsTrue, inl, inr, ◌⊎◌, arith}
+use Rattle.std.proofs.Common.{◌≡◌, ℕ, ◌+◌, ◌-◌, ◌<◌, ◌≤◌, false, not, ◌&&◌, List, [], ◌∷◌, ◌++◌, length, take, drop, get_or, sym, ap, subst, ◌∙◌, append_assoc, length-append, length-drop, length-take-le, IsTrue, inl, inr, arith}
 use Rattle.std.proofs.lemmas.Grind.{common_steps}
 use Rattle.std.proofs.lemmas.List.{drop-append-le, take-append-le}
-use Rattle.std.proofs.lemmas.List.Elements.{All-head, All-tail}
 use Rattle.std.proofs.lemmas.List.Folds.{list_all-append}
 use Rattle.std.specs.List.{AllPass, list_all}
 use Rattle.dap_model.specs.Tokens as dds
@@ -10,7 +9,7 @@ use Rattle.text_tokens.specs.Languages.{BadToken, Breaks, SpellsTo}
 use Rattle.text_tokens.specs.Tokens.{Placed, Reads, Token, TokenAt, is_token, is_white, quoted, sign, token_bytes, word}
 use Rattle.das_text.specs.Grammar.{IsDas, signs}
 use Rattle.das_text.specs.Model.{Attributes}
-use Rattle.das_text.specs.Reading.{DasOf, EndsAt, HasBehind, IsBad, IsTrailing, front, limit}
+use Rattle.das_text.specs.Reading.{DasOf, EndsAt, IsBad, IsTrailing, front, limit}
 use Rattle.dap_client.proofs.Begun.{whites}
 use Rattle.dap_client.proofs.Objects.{white_same}
 

@@ -1,5 +1,5 @@
 -- From a front of the body of a DDS to one with another piece.
-use Rattle.std.proofs.Common.{◌≡◌, ℕ, ◌+◌, ◌-◌, ◌<◌, ◌≤◌, Bool, true, false, not, List, [], ◌∷◌, ◌++◌, length, take, drop, get_or, refl, sym, ap, subst, ◌∙◌, append_assoc, append-nil, length-append, length-drop, length-take, length-take-le, take-append-drop, take_all, inl, inr, ◌⊎◌, arith}
+use Rattle.std.proofs.Common.{◌≡◌, ℕ, ◌+◌, ◌-◌, ◌<◌, ◌≤◌, true, false, not, List, [], ◌∷◌, ◌++◌, length, take, drop, get_or, refl, sym, ap, subst, ◌∙◌, append_assoc, append-nil, length-append, length-drop, length-take, length-take-le, take-append-drop, take_all, inl, inr, arith}
 use Rattle.std.proofs.lemmas.Grind.{common_steps}
 use Rattle.std.proofs.lemmas.List.{take_more}
 use Rattle.std.proofs.lemmas.List.Elements.{All-append, All-cons, All-nil}
@@ -12,7 +12,7 @@ use Rattle.dds_text.specs.Reading.{IsDone, IsUnfinished, limit}
 use Rattle.dds_text.specs.inner.States.{begun}
 use Rattle.xdr_decode.specs.Verdict.{HasText}
 use Rattle.xdr_decode.specs.declared.bad.Bad.TheVariants.{Trailing}
-use Rattle.dap_client.specs.Verdict.{HasStray, JudgesDds, bad, good_dds}
+use Rattle.dap_client.specs.Verdict.{JudgesDds, bad, good_dds}
 
 abbrev White : ℕ → Type 0
 White b = is_white b ≡ true

@@ -4,7 +4,6 @@ use Rattle.std.proofs.lemmas.Bool.{cases_lt, eqb-false, eqb-true}
 use Rattle.std.proofs.lemmas.List.{take-append-drop, take-take, take_all}
 use Rattle.std.proofs.lemmas.List.Elements.{All-nil}
 use Rattle.dap_types.specs.Model.{Dataset, Tree}
-use Rattle.dap_errors.specs.Reading as errors
 use Rattle.dap_model.proofs.Values.{all_back}
 use Rattle.dap_model.specs.Body.{IsHead}
 use Rattle.dap_model.specs.Grammar.{DdsOf}

@@ -1,5 +1,5 @@
 -- What the bytes are where they end, by the stage of the reader.
-use Rattle.std.proofs.Common.{◌≡◌, ℕ, zero, suc, ◌+◌, ◌-◌, ◌<◌, ◌≤◌, true, false, cond, List, [], ◌∷◌, ◌++◌, length, take, drop, codes, refl, sym, ap, subst, ◌∙◌, append_assoc, append-nil, length-append, inl, inr, ◌⊎◌, ⊎_elim, arith, Option, Result, Ok, Err, OnErr}
+use Rattle.std.proofs.Common.{◌≡◌, ℕ, suc, ◌+◌, ◌-◌, ◌<◌, ◌≤◌, true, false, cond, List, [], ◌∷◌, ◌++◌, length, take, drop, codes, refl, sym, ap, subst, ◌∙◌, append_assoc, append-nil, length-append, inl, inr, ◌⊎◌, ⊎_elim, arith, Option, Result, Ok, Err, OnErr}
 use Rattle.std.proofs.Math.Seq.{take-append-add, take-length}
 use Rattle.std.specs.Io.KnownBytes.{Appends}
 use Rattle.dap_outside.specs.Streams.{AppendsFront}
@@ -15,18 +15,16 @@ use Rattle.dap_model.proofs.OneVerdict.{bad_not_open, ended_not_bad, ended_not_o
 use Rattle.dap_model.specs.Dds.{dds}
 use Rattle.dap_model.specs.Fits.{FitsAll}
 use Rattle.dap_model.specs.Partly.{ShowsLines}
-use Rattle.dap_model.specs.Received.{EndsAt, IsCut, IsFront, IsOpen, IsPrefix, ends_element, lines, open_line}
-use Rattle.dap_model.specs.Shown.{Element, element_line, elements_all, shown}
+use Rattle.dap_model.specs.Received.{EndsAt, IsCut, IsFront, IsOpen, ends_element, lines, open_line}
+use Rattle.dap_model.specs.Shown.{element_line, elements_all, shown}
 use Rattle.dap_model.specs.Xdr.{Field, count, filler, mark, number, packed, size, text, padding, fields_all, Spells, SpellsFields}
-use Rattle.dap_types.specs.declared.values.Value.{Value}
-use Rattle.xdr_fields.proofs.Walk.{Silent, element, all_walked}
-use Rattle.xdr_fields.specs.Wants.{Want, Goes}
+use Rattle.xdr_fields.proofs.Walk.{Silent, all_walked}
 use Rattle.xdr_decode.specs.After as decoding
 use Rattle.xdr_decode.specs.Shown.{ShowsFront}
 use Rattle.xdr_decode.specs.Verdict.{budget}
 use Rattle.dap_client.proofs.Values.{all_good}
 use Rattle.xdr_decode.specs.declared.bad.Bad.{Bad}
-use Rattle.xdr_decode.specs.declared.bad.Bad.TheVariants.{BadError, Cut, TooLong}
+use Rattle.xdr_decode.specs.declared.bad.Bad.TheVariants.{BadError, Cut}
 use Rattle.xdr_decode.specs.declared.bad.BadField.{BadField}
 use Rattle.xdr_decode.specs.declared.decoder.Decoder.{Decoder}
 use Rattle.dap_client.proofs.Filling.{error_here, no_error_here, nothing_of_error, values_lines}

@@ -1,7 +1,6 @@
 -- How many bytes are taken, and how many of a body come with them.
 use Rattle.std.proofs.Common.{◌≡◌, ℕ, ◌+◌, ◌<◌, ◌≤◌, ◌⊎◌, inl, inr, Bool, List, [], ◌++◌, length, Option, ap, ◌∙◌, sym, subst, arith, append-nil, length-append}
 use Rattle.std.proofs.KnownBytes.{Consumes-nil}
-use Rattle.httparse.specs.Grammar.{ResponseHead}
 use Rattle.xdr_decode.specs.Verdict.{budget}
 use Rattle.xdr_decode.specs.declared.bad.BadField.{BadField}
 use Rattle.dap_http.proofs.Finals.{one-gives}

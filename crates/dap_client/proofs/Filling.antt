@@ -1,11 +1,10 @@
 -- The stages once as many bytes came as are looked at.
-use Rattle.std.proofs.Common.{◌≡◌, ℕ, ◌+◌, ◌^◌, ◌<◌, ◌≤◌, Bool, true, false, List, [], ◌∷◌, ◌++◌, length, take, drop, refl, sym, ap, subst, ◌∙◌, append-nil, length-append, inl, inr, ◌⊎◌, ⊎_elim, arith}
+use Rattle.std.proofs.Common.{◌≡◌, ℕ, ◌+◌, ◌<◌, ◌≤◌, Bool, true, false, List, [], ◌++◌, length, take, drop, refl, sym, ap, subst, ◌∙◌, append-nil, length-append, inl, inr, ◌⊎◌, ⊎_elim, arith}
 use Rattle.std.proofs.Math.Seq.{take-append_seam}
 use Rattle.std.proofs.lemmas.List.{take-append-drop, take_all}
-use Rattle.dap_types.specs.Model.{Dataset, Tree}
+use Rattle.dap_types.specs.Model.{Dataset}
 use Rattle.dap_model.proofs.OneVerdict.{bad_not_open, ended_not_bad}
 use Rattle.dap_model.specs.Partly.{ShowsLines}
-use Rattle.dap_model.specs.Received.{IsOpen}
 use Rattle.dap_model.specs.Xdr.{Spells}
 use Rattle.dap_model.specs.Tokens.{tokens_of}
 use Rattle.dap_errors.specs.Reading.{ErrorOf, IsEnd}
@@ -13,16 +12,14 @@ use Rattle.dap_errors.specs.declared.object.ErrorObject.{ErrorObject}
 use Rattle.dds_text.specs.Reading.{IsBadText, IsUnfinished}
 use Rattle.xdr_decode.specs.After as decoding
 use Rattle.xdr_decode.specs.Verdict.{budget}
-use Rattle.xdr_decode.specs.declared.bad.Bad.{Bad}
 use Rattle.xdr_decode.specs.declared.bad.Bad.TheVariants.{BadDds, Cut, TooLong}
-use Rattle.xdr_decode.specs.declared.bad.BadField.{BadField}
 use Rattle.xdr_decode.specs.declared.decoder.Decoder.{Decoder}
 use Rattle.dap_client.proofs.Begun.{error_no_head}
 use Rattle.dap_client.proofs.DataLines.{unended}
 use Rattle.dap_client.proofs.Lines.{cut_no_head, line_cut}
-use Rattle.dap_client.proofs.Texts.{bad_no_head, done_token, open_no_head}
+use Rattle.dap_client.proofs.Texts.{bad_no_head, open_no_head}
 use Rattle.dap_client.proofs.Values.{all_good, may_show}
-use Rattle.dap_client.specs.Verdict.{IsVerdict, Judges, Verdict, bad, begins_error, dods_form, good, is_final, says_error, server_error}
+use Rattle.dap_client.specs.Verdict.{Judges, Verdict, bad, begins_error, dods_form, good, is_final, says_error, server_error}
 use Rattle.dap_client.specs.inner.FirstWords.{IsError, IsNoError, IsOpenWord}
 use Rattle.dap_client.specs.inner.Objects.{IsBehind, IsTrail}
 use Rattle.dap_client.specs.inner.Stages.{IsFull, IsInLine, IsInValues}

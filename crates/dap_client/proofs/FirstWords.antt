@@ -1,5 +1,5 @@
 -- From a front of the first word of a body to one with another byte.
-use Rattle.std.proofs.Common.{◌≡◌, ℕ, zero, suc, ◌+◌, ◌<◌, ◌≤◌, Bool, true, false, not, ◌||◌, if◌then◌else◌, List, [], ◌∷◌, ◌++◌, length, take, map, codes, get_or, nat_eq, bytes_eq, ◌==◌, refl, sym, ap, subst, ◌∙◌, append_assoc, append-nil, drop, inl, inr, ◌⊎◌, arith}
+use Rattle.std.proofs.Common.{◌≡◌, ℕ, zero, suc, ◌+◌, ◌<◌, ◌≤◌, Bool, true, false, not, ◌||◌, if◌then◌else◌, List, [], ◌∷◌, ◌++◌, length, take, map, codes, get_or, nat_eq, bytes_eq, ◌==◌, refl, sym, ap, subst, ◌∙◌, append_assoc, append-nil, drop, arith}
 use Rattle.std.proofs.lemmas.Grind.{common_steps}
 use Rattle.std.proofs.lemmas.Bool.{eqb-true, false≢true}
 use Rattle.std.proofs.lemmas.List.{map-append}
@@ -8,7 +8,7 @@ use Rattle.std.specs.Char.{to_ascii_lowercase}
 use Rattle.std.specs.List.{AllPass}
 use Rattle.std.specs.Str.{str_to_ascii_lowercase}
 use Rattle.dap_errors.specs.Object.{is_error_word}
-use Rattle.dap_model.specs.Tokens.{Token, Placed, word, sign, ended, is_plain, is_sign, is_white, sign_at, tokens_from, tokens_of, whole_tokens}
+use Rattle.dap_model.specs.Tokens.{Token, Placed, sign, ended, is_plain, is_sign, is_white, sign_at, tokens_from, tokens_of, whole_tokens}
 use Rattle.dds_text.specs.inner.Words.{left}
 use Rattle.dds_text.proofs.Bytes.{left-plain, left-stop, tokens-plain, tokens-stop, tokens_from-stop, whole_tokens-append}
 use Rattle.dap_client.specs.Verdict.{begins_error, says_error}

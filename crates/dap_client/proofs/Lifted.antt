@@ -1,13 +1,13 @@
 -- From the bytes behind the heads of a reply to the reply.
-use Rattle.std.proofs.Common.{◌≡◌, ℕ, ◌≤◌, ◌⊎◌, inl, inr, Bool, List, [], ◌++◌, length, take, refl, ap, ◌∙◌, sym, subst, arith, append_assoc, append-nil, length-append}
+use Rattle.std.proofs.Common.{◌≡◌, ℕ, ◌≤◌, inl, inr, Bool, List, [], length, refl, ap, sym, subst, arith, append-nil, length-append}
 use Rattle.httparse.specs.Grammar.{ResponseHead}
 use Rattle.xdr_decode.specs.declared.bad.BadField.{BadField}
 use Rattle.dap_http.proofs.Finals.{no-reply-final, one-gives}
 use Rattle.dap_http.proofs.ReplyReading.{first-of, reads-long}
 use Rattle.dap_http.specs.Reading.{Answers}
 use Rattle.dap_http.specs.declared.reply_reader.ReplyRead.TheVariants as read
-use Rattle.dap_http.specs.Delivered.{BreaksOff, Delivers, HasBadHead, HasCoding, HasCome}
-use Rattle.dap_http.specs.Replies.{HasFinal, HasNoFinal}
+use Rattle.dap_http.specs.Delivered.{HasBadHead, HasCoding, HasCome}
+use Rattle.dap_http.specs.Replies.{HasFinal}
 use Rattle.dap_http.specs.declared.coding.Coding.{Coding}
 use Rattle.dap_client.specs.After.{IsBrokenOff}
 use Rattle.dap_client.specs.Answered.{ShowsStopped, Tells}

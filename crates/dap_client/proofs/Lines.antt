@@ -1,5 +1,5 @@
 -- What stands behind a piece of the line `Data:`, and where the DDS is put behind it.
-use Rattle.std.proofs.Common.{◌≡◌, ℕ, ◌+◌, ◌<◌, ◌≤◌, true, false, List, [], ◌∷◌, ◌++◌, length, take, drop, Option, codes, refl, sym, ap, subst, ◌∙◌, append_assoc, append-nil, length-append, inl, inr, ◌⊎◌, ⊎_elim, arith}
+use Rattle.std.proofs.Common.{◌≡◌, ℕ, ◌+◌, ◌<◌, ◌≤◌, List, [], ◌∷◌, ◌++◌, length, take, drop, codes, refl, sym, ap, subst, ◌∙◌, append_assoc, append-nil, length-append, inl, inr, ◌⊎◌, ⊎_elim, arith}
 use Rattle.std.proofs.Math.Seq.{take-append-add, take-append_seam}
 use Rattle.std.proofs.lemmas.List.{take-append-drop}
 use Rattle.std.proofs.lemmas.List.Elements.{All-nil}
@@ -11,10 +11,9 @@ use Rattle.dap_model.specs.Received.{IsFront, HasHead}
 use Rattle.xdr_fields.proofs.Fronts.{Shows, shows}
 use Rattle.xdr_fields.proofs.Judged.{judge}
 use Rattle.xdr_fields.specs.Wants.{wants_of}
-use Rattle.xdr_fields.specs.inner.Reached.{IsCut, IsEnded, IsSpoilt}
-use Rattle.xdr_decode.proofs.OneVerdict.{bad_head, cut_head}
+use Rattle.xdr_decode.proofs.OneVerdict.{cut_head}
 use Rattle.xdr_decode.proofs.Turning.{faulty_wide}
-use Rattle.xdr_decode.specs.Verdict.{EndsInDataLine, EndsInHead, HasHeadOf, HasText, IsBadDataLine, IsDataLine, kind_of}
+use Rattle.xdr_decode.specs.Verdict.{EndsInDataLine, EndsInHead, IsBadDataLine, IsDataLine, kind_of}
 use Rattle.xdr_decode.specs.declared.bad.Bad.TheVariants.{BadDataLine}
 use Rattle.dap_client.specs.Shows.{HasFewValues, StopsWithin}
 use Rattle.dap_client.specs.inner.DataLines.{IsLineFront}

@@ -1,19 +1,18 @@
 -- What follows an Error object, byte by byte.
-use Rattle.std.proofs.Common.{◌≡◌, ℕ, ◌+◌, ◌<◌, ◌≤◌, Bool, true, false, not, ◌||◌, ◌&&◌, ◌==◌, List, [], ◌∷◌, ◌++◌, length, take, drop, get_or, refl, sym, ap, subst, ◌∙◌, append_assoc, append-nil, length-append, length-drop, length-take-le, take_all, IsTrue, inl, inr, ◌⊎◌, arith}
+use Rattle.std.proofs.Common.{◌≡◌, ℕ, ◌+◌, ◌<◌, ◌≤◌, Bool, true, false, not, ◌||◌, ◌&&◌, ◌==◌, List, [], ◌∷◌, ◌++◌, length, take, drop, get_or, refl, sym, ap, subst, ◌∙◌, append_assoc, length-append, length-drop, length-take-le, take_all, IsTrue, inl, inr, ◌⊎◌, arith}
 use Rattle.std.proofs.lemmas.Bool.{eqb-true, eqb-false, ne_eqb, false≢true}
 use Rattle.std.proofs.lemmas.Bool.Decides.{nat_tests}
 use Rattle.std.proofs.lemmas.Grind.{common_steps}
 use Rattle.std.proofs.lemmas.List.{drop-append-le, take-append-le}
 use Rattle.std.proofs.lemmas.List.Folds.{list_all-append}
 use Rattle.std.specs.List.{list_all}
-use Rattle.viable.proofs.Tests.{and_parts}
 use Rattle.dap_model.specs.Tokens as dds
 use Rattle.text_tokens.specs.Languages.{BadToken, Breaks}
 use Rattle.text_tokens.specs.Tokens.{Placed, Reads, Token, TokenAt, is_token, is_white, quoted, sign, token_bytes, word}
 use Rattle.dap_errors.proofs.Reading.{front_within}
 use Rattle.dap_errors.proofs.Single.{object_no_bad}
 use Rattle.dap_errors.specs.Object.{IsObject, signs}
-use Rattle.dap_errors.specs.Reading.{BadEnd, EndsAt, ErrorOf, IsBad, IsCut, IsEnd, IsStray, IsUnended, front, limit}
+use Rattle.dap_errors.specs.Reading.{EndsAt, ErrorOf, IsBad, IsEnd, IsStray, front, limit}
 use Rattle.dap_errors.specs.declared.object.ErrorObject.{ErrorObject}
 use Rattle.dap_client.specs.inner.Objects.{IsBehind, IsTrail}
 

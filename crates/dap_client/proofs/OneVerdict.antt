@@ -1,11 +1,11 @@
 -- Bytes have one verdict at most.
-use Rattle.std.proofs.Common.{◌≡◌, ℕ, ◌+◌, ◌<◌, ◌≤◌, Bool, true, false, not, List, [], ◌∷◌, ◌++◌, length, take, drop, refl, sym, ap, subst, ◌∙◌, IsTrue, inl, inr, ◌⊎◌, append_assoc, length-append, arith}
+use Rattle.std.proofs.Common.{◌≡◌, ℕ, ◌+◌, ◌<◌, ◌≤◌, Bool, true, false, not, List, [], ◌∷◌, ◌++◌, length, take, drop, refl, sym, ap, subst, ◌∙◌, IsTrue, inl, inr, ◌⊎◌, arith}
 use Rattle.std.proofs.lemmas.Bool.{false≢true}
 use Rattle.std.proofs.lemmas.List.{drop_at}
 use Rattle.std.proofs.lemmas.List.Elements.{All-head, All-tail}
 use Rattle.std.specs.Bool.{⊤}
 use Rattle.std.specs.List.{AllPass}
-use Rattle.dap_types.specs.Model.{Dataset, Tree}
+use Rattle.dap_types.specs.Model.{Dataset}
 use Rattle.dap_model.specs.Tokens.{Token, is_white, tokens_of}
 use Rattle.dap_errors.proofs.Single.{bad_no_cut, object_no_bad, object_no_cut, one_object, one_place as one_error_place}
 use Rattle.dap_errors.specs.declared.object.ErrorObject.{ErrorObject}
@@ -14,7 +14,7 @@ use Rattle.das_text.specs.Model.{Attributes}
 use Rattle.dds_text.proofs.OneReading.{bad_not_unfinished, done_not_bad, done_not_unfinished, one_end, one_place}
 use Rattle.dds_text.specs.Reading.{IsDone, limit}
 use Rattle.xdr_decode.proofs.OneVerdict.{good_body, one_verdict as one_body_verdict, small_first, text_done}
-use Rattle.xdr_decode.specs.Verdict.{HasText, IsGood, IsWrongIn, budget}
+use Rattle.xdr_decode.specs.Verdict.{HasText, IsWrongIn, budget}
 use Rattle.xdr_decode.specs.Verdict as body
 use Rattle.xdr_decode.specs.declared.bad.Bad.{Bad}
 use Rattle.xdr_decode.specs.declared.bad.Bad.TheVariants.{BadHead, HeadTooLong, Coded, BadChunk, BadDds, BadDataLine, BadDas, BadError, BadCount, BadWord, BadPadding, WrongMark, Cut, Trailing, TooLong}

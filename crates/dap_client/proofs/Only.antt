@@ -1,28 +1,25 @@
 -- The verdict on a reply is what the outcome says, but for a fault or want of memory.
-use Rattle.std.proofs.Common.{◌≡◌, ℕ, ◌+◌, ◌<◌, ◌≤◌, ◌⊎◌, inl, inr, Bool, true, false, List, [], ◌∷◌, ◌++◌, length, take, Option, Some, None, IsTrue, refl, ap, ◌∙◌, sym, subst, arith, append_assoc, append-nil, length-append}
+use Rattle.std.proofs.Common.{◌≡◌, ℕ, ◌+◌, inl, inr, Bool, true, List, [], ◌∷◌, ◌++◌, length, Option, Some, None, IsTrue, refl, ap, ◌∙◌, sym, subst, arith, append_assoc, length-append}
 use Rattle.std.proofs.lemmas.Bool.{false≢true}
 use Rattle.std.specs.Io.KnownBytes.{Consumes, IsAtEnd}
 use Rattle.dap_http.proofs.Deliveries.{break-more, delivery-more}
 use Rattle.dap_http.proofs.Finals.{gives-more, one-gives}
-use Rattle.dap_http.specs.Codings.{Ends, Fails, Goes}
-use Rattle.dap_http.specs.Delivered.{BreaksOff, Delivers, HasCoding, HasCome, IsBrokenBody, IsWholeBody}
+use Rattle.dap_http.specs.Delivered.{BreaksOff, HasCoding, HasCome, IsBrokenBody, IsWholeBody}
 use Rattle.dap_http.specs.declared.coding.Coding.{Coding}
-use Rattle.dap_http.specs.declared.coding.Coding.TheVariants.{ToEnd}
 use Rattle.dap_model.specs.Received.{Fault, bad_count, bad_padding, bad_word, wrong_mark}
 use Rattle.dap_model.specs.Tokens.{Token, tokens_of}
 use Rattle.xdr_decode.specs.Verdict.{HasWrongValues, budget, kind_of}
-use Rattle.xdr_decode.specs.declared.bad.Bad.{Bad}
-use Rattle.xdr_decode.specs.declared.bad.Bad.TheVariants.{BadChunk, BadCount, BadDas, BadDataLine, BadDds, BadError, BadPadding, BadWord, Cut, TooLong, Trailing, WrongMark}
+use Rattle.xdr_decode.specs.declared.bad.Bad.TheVariants.{Cut, TooLong}
 use Rattle.xdr_decode.specs.declared.bad.BadField.{BadField}
 use Rattle.dap_client.proofs.Behind.{brought-broken, brought-whole}
 use Rattle.dap_client.proofs.Lifted.{good-head}
 use Rattle.dap_client.proofs.OneReply.{one_reply}
 use Rattle.dap_client.proofs.OneVerdict.{one_verdict}
-use Rattle.dap_client.proofs.TextBodies.{faults, goes_first}
+use Rattle.dap_client.proofs.TextBodies.{goes_first}
 use Rattle.dap_client.specs.Answered.{BringsBad, IsLasting, Tells}
 use Rattle.dap_client.specs.Outcomes.{Answers, outcome_of}
 use Rattle.dap_client.specs.Replies.{IsReplyVerdict, first_of}
-use Rattle.dap_client.specs.Verdict.{Form, IsVerdict, Judges, JudgesDas, JudgesDasText, JudgesDds, JudgesDods, JudgesError, Verdict, bad, das_form, dds_form, dods_form, is_fault, is_final, server_error}
+use Rattle.dap_client.specs.Verdict.{Form, IsVerdict, Judges, JudgesDas, JudgesDds, JudgesDods, JudgesError, Verdict, bad, das_form, dds_form, dods_form, is_final, server_error}
 use Rattle.dap_client.specs.declared.outcome.Outcome.{Outcome}
 use Rattle.dap_client.specs.declared.outcome.Outcome.TheVariants.{Complete, ServerError, BadReply, ReadFault, WriteFault, LinkFault, Memory}
 

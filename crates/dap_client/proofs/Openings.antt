@@ -1,9 +1,9 @@
 -- From a front of the first token of a body to one with another byte.
-use Rattle.std.proofs.Common.{◌≡◌, ℕ, ◌+◌, ◌<◌, Bool, true, false, not, ◌||◌, if◌then◌else◌, List, [], ◌∷◌, ◌++◌, length, take, drop, map, get_or, refl, sym, ap, subst, ◌∙◌, append_assoc}
-use Rattle.dap_model.specs.Tokens.{Placed, Token, ended, is_plain, is_sign, is_white, sign, sign_at, tokens_from, tokens_of, whole_tokens, word}
+use Rattle.std.proofs.Common.{◌≡◌, ℕ, ◌+◌, ◌<◌, Bool, true, false, if◌then◌else◌, List, [], ◌∷◌, ◌++◌, length, take, drop, map, get_or, refl, sym, ap, subst, ◌∙◌, append_assoc}
+use Rattle.dap_model.specs.Tokens.{Placed, Token, ended, is_plain, is_sign, is_white, sign, sign_at, tokens_from, tokens_of}
 use Rattle.dds_text.specs.inner.Words.{left}
-use Rattle.dds_text.proofs.Bytes.{left-plain, left-stop, tokens-plain, tokens-stop}
-use Rattle.dap_client.proofs.FirstWords.{no_placed, seam, sign_byte, some_more, stopped, white_byte, white_no_sign}
+use Rattle.dds_text.proofs.Bytes.{left-plain, left-stop, tokens-plain}
+use Rattle.dap_client.proofs.FirstWords.{seam, sign_byte, some_more, stopped, white_byte, white_no_sign}
 
 abbrev bare : List Placed → List Token
 bare ps = map (λ (p : Placed). p.token) ps

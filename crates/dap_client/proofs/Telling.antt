@@ -1,5 +1,5 @@
 -- What the outcome of the reader of a body tells of the bytes behind the head.
-use Rattle.std.proofs.Common.{◌≡◌, ℕ, zero, suc, ◌+◌, ◌-◌, ◌^◌, min, ◌<◌, ◌≤◌, ◌⊎◌, inl, inr, Bool, List, [], ◌++◌, length, take, drop, Option, Some, None, refl, ap, ◌∙◌, sym, subst, arith, append_assoc, append-nil, length-append, length-take-le, take-append-drop}
+use Rattle.std.proofs.Common.{◌≡◌, ℕ, zero, suc, ◌+◌, ◌-◌, ◌^◌, ◌<◌, ◌≤◌, ◌⊎◌, inl, inr, Bool, List, [], ◌++◌, length, take, drop, Some, refl, ap, ◌∙◌, sym, subst, arith, append_assoc, append-nil, length-append, length-take-le, take-append-drop}
 use Rattle.std.proofs.lemmas.Bool.{cases_lt}
 use Rattle.std.proofs.lemmas.List.{take-append-le, take_all}
 use Rattle.std.proofs.Math.Seq.{take-append-add}
@@ -7,9 +7,9 @@ use Rattle.dap_outside.specs.Causes.{Rose}
 use Rattle.xdr_decode.specs.Verdict.{budget}
 use Rattle.xdr_decode.specs.declared.bad.BadField.{BadField}
 use Rattle.dap_http.proofs.Framings.{no-end-fault, no-fault-cut}
-use Rattle.dap_http.proofs.Parts.{Opened, opened}
+use Rattle.dap_http.proofs.Parts.{opened}
 use Rattle.dap_http.proofs.Whole.{known-goes}
-use Rattle.dap_http.specs.Codings.{Ends, Fails, Goes}
+use Rattle.dap_http.specs.Codings.{Ends, Goes}
 use Rattle.dap_http.specs.Delivered.{HasCome, IsBrokenBody, IsWholeBody}
 use Rattle.dap_http.specs.Following.{Follows, body_coding, part_of, waiting}
 use Rattle.dap_http.specs.declared.body_parts.BodyParts.{BodyParts}

@@ -1,9 +1,8 @@
 -- What the reader of a DDS or a DAS, or of an Error object in its place, says of the bytes of a body.
-use Rattle.std.proofs.Common.{◌≡◌, ℕ, ◌+◌, ◌-◌, ◌^◌, ◌<◌, ◌≤◌, Bool, true, false, if◌then◌else◌, List, [], ◌∷◌, ◌++◌, length, take, drop, take-append-drop, Option, Some, None, refl, sym, ap, subst, ◌∙◌, append_assoc, append-nil, length-append, inl, inr, ◌⊎◌, ⊎_elim, arith}
+use Rattle.std.proofs.Common.{◌≡◌, ℕ, ◌+◌, ◌-◌, ◌<◌, ◌≤◌, Bool, true, false, if◌then◌else◌, List, [], ◌∷◌, ◌++◌, length, take, drop, take-append-drop, Option, Some, None, refl, sym, ap, subst, ◌∙◌, append_assoc, append-nil, length-append, inl, inr, ◌⊎◌, ⊎_elim, arith}
 use Rattle.std.proofs.KnownBytes.{Appends-nil}
 use Rattle.std.proofs.Math.Seq.{take-append-add}
-use Rattle.std.proofs.lemmas.Bool.{cases_lt, false≢true}
-use Rattle.std.specs.Io.KnownBytes.{Appends}
+use Rattle.std.proofs.lemmas.Bool.{cases_lt}
 use Rattle.std.specs.Prelude.{MatchOption, ⊤}
 use Rattle.das_text.specs.Das.{das}
 use Rattle.das_text.specs.View.{attributes_view}
@@ -25,12 +24,11 @@ use Rattle.dap_client.specs.Answered.{IsLasting, ShowsBroken, ShowsRefused, good
 use Rattle.dap_client.specs.Outcomes.{outcome_of}
 use Rattle.dap_client.specs.Shows.{Gains}
 use Rattle.dap_client.specs.Replies.{first_of}
-use Rattle.dap_client.specs.Verdict.{Form, IsVerdict, Judges, JudgesDas, JudgesDasText, JudgesDds, Verdict, bad, das_form, dds_form, dods_form, good, good_das, good_dds, is_fault, is_final, says_error, server_error}
+use Rattle.dap_client.specs.Verdict.{Form, IsVerdict, Judges, JudgesDas, JudgesDasText, JudgesDds, Verdict, bad, das_form, dds_form, dods_form, good_das, good_dds, is_fault, is_final, says_error}
 use Rattle.dap_client.specs.inner.FirstWords.{IsError, IsNoError}
 use Rattle.dap_client.specs.inner.TextBodies.{IsFirstWrong, IsPut, IsText, IsTextEnded, IsWrong}
 use Rattle.dap_client.specs.declared.outcome.Outcome.{Outcome}
 use Rattle.dap_client.specs.declared.outcome.Outcome.TheVariants.{Complete, ServerError, BadReply, ReadFault, WriteFault, LinkFault, Memory}
-use Rattle.dap_client.specs.declared.text_body.TextEnded.{TextEnded}
 use Rattle.dap_client.specs.declared.text_body.TextEnded.TheVariants as ended
 
 -- ---- what stays, whatever follows, is more than that the bytes end

@@ -1,17 +1,15 @@
 -- What the outcome of a showing says, by its kind.
-use Rattle.std.proofs.Common.{◌≡◌, ℕ, ℤ, zero, suc, ◌+◌, ◌-◌, ◌^◌, ◌<◌, ◌≤◌, true, false, List, [], ◌∷◌, ◌++◌, length, take, drop, codes, Option, Some, None, IsTrue, refl, sym, ap, subst, ◌∙◌, append_assoc, append-nil, length-append, inl, inr, ◌⊎◌, ⊎_elim, arith, min}
+use Rattle.std.proofs.Common.{◌≡◌, ℕ, ◌+◌, ◌-◌, ◌<◌, ◌≤◌, true, false, List, [], ◌++◌, length, take, drop, codes, Option, Some, None, refl, sym, ap, subst, ◌∙◌, append-nil, length-append, inl, inr, ◌⊎◌, ⊎_elim, arith}
 use Rattle.std.proofs.KnownBytes.{Appends-trans, Appends-nil, Consumes-nil, Consumes-trans}
 use Rattle.std.proofs.lemmas.Bool.{false≢true}
 use Rattle.std.proofs.lemmas.List.{take-append-drop}
 use Rattle.std.specs.Io.KnownBytes.{Appends, Consumes, IsAtEnd}
 use Rattle.dap_types.specs.Model.{Dataset, Tree}
-use Rattle.dap_model.specs.Body.{IsHead}
-use Rattle.dap_model.specs.Partly.{ShowsLines, ShowsPart}
-use Rattle.dap_model.specs.Received.{HasHead, IsPrefix}
+use Rattle.dap_model.specs.Partly.{ShowsLines}
+use Rattle.dap_model.specs.Received.{HasHead}
 use Rattle.dap_model.specs.Shown.{shown}
 use Rattle.dap_model.proofs.Partly.{part_is_of_lines}
 use Rattle.dap_outside.specs.Causes.{Rose}
-use Rattle.xdr_decode.specs.Verdict.{HasHeadOf}
 use Rattle.xdr_decode.specs.declared.bad.Bad.{Bad}
 use Rattle.xdr_decode.specs.declared.bad.Bad.TheVariants.{BadHead, HeadTooLong, Coded, BadChunk, BadDds, BadDataLine, BadDas, BadError, BadCount, BadWord, BadPadding, WrongMark, Cut, Trailing, TooLong}
 use Rattle.xdr_decode.specs.declared.bad.BadField.{BadField}
@@ -20,9 +18,9 @@ use Rattle.dap_client.proofs.OneVerdict.{one_verdict}
 use Rattle.dap_client.specs.Outcomes.{Answers, OnBadReply, OnComplete, OnLinkFault, OnMemory, OnReadFault, OnServerError, OnWriteFault, WhereNothingPut, WhereWhole, outcome_of}
 use Rattle.dap_client.specs.Shows.{BreaksOff, Gains, HasFewValues, StopsWithin, Takes}
 use Rattle.dap_client.specs.Verdict.{Verdict, IsVerdict, bad, dods_form, good, server_error}
-use Rattle.dap_client.specs.inner.Readers.{HasFailed, IsEnded, IsFinished, Stands, StandsAfter, StaysBadReply, is_open, taken_of}
+use Rattle.dap_client.specs.inner.Readers.{HasFailed, IsFinished, Stands, StandsAfter, StaysBadReply, is_open, taken_of}
 use Rattle.dap_client.specs.inner.Showing.{Reads, ReadsOn}
-use Rattle.dap_client.specs.inner.Stages.{IsInValues, IsStage, is_open_stage}
+use Rattle.dap_client.specs.inner.Stages.{IsStage, is_open_stage}
 use Rattle.dap_client.specs.declared.outcome.Outcome.{Outcome}
 use Rattle.dap_client.specs.declared.outcome.Outcome.TheVariants.{Complete, ServerError, BadReply, ReadFault, WriteFault, LinkFault, Memory}
 use Rattle.dap_client.specs.declared.reader.BodyReader.{BodyReader}

@@ -1,5 +1,5 @@
 -- What stands behind a piece of the values, by what the decoder says of it.
-use Rattle.std.proofs.Common.{◌≡◌, ℕ, zero, suc, ◌+◌, ◌-◌, ◌<◌, ◌≤◌, true, false, List, [], ◌∷◌, ◌++◌, length, take, drop, Option, refl, sym, ap, subst, ◌∙◌, append_assoc, append-nil, length-append, length-drop, inl, inr, ◌⊎◌, ⊎_elim, arith, Some}
+use Rattle.std.proofs.Common.{◌≡◌, ℕ, ◌+◌, ◌-◌, ◌<◌, ◌≤◌, true, List, [], ◌∷◌, ◌++◌, length, take, drop, Option, refl, sym, ap, subst, ◌∙◌, append_assoc, append-nil, length-append, length-drop, inl, inr, ◌⊎◌, ⊎_elim, arith}
 use Rattle.std.proofs.KnownBytes.{Appends-nil, Appends-trans}
 use Rattle.std.proofs.Math.Seq.{take-append-add, take-append_seam}
 use Rattle.std.proofs.lemmas.List.{length-take-le, take-append-drop, take_all}
@@ -8,14 +8,12 @@ use Rattle.dap_types.specs.Model.{Dataset, Tree}
 use Rattle.dap_model.proofs.OneVerdict.{bad_not_open, ended_not_bad, one_bad}
 use Rattle.dap_model.specs.Body.{IsHead}
 use Rattle.dap_model.specs.Dds.{dds}
-use Rattle.dap_model.specs.Partly.{MayShowPart, ShowsLines, ShowsPart}
-use Rattle.dap_model.specs.Received.{EndsAt, Fault, bad_count, bad_word, bad_padding, wrong_mark, HasHead, IsBadField, IsCut, IsFront, IsOpen, IsPrefix, MayShow, MayFollow}
+use Rattle.dap_model.specs.Partly.{MayShowPart}
+use Rattle.dap_model.specs.Received.{EndsAt, Fault, bad_count, bad_word, bad_padding, wrong_mark, IsBadField, IsCut, IsFront, IsOpen, IsPrefix, MayShow}
 use Rattle.dap_model.specs.Xdr.{Field, Spells, SpellsFields, fields_all}
-use Rattle.dap_model.specs.Fits.{FitsAll}
 use Rattle.xdr_decode.specs.After as decoding
 use Rattle.xdr_decode.specs.Shown.{HasGood, ShowsFront, ShowsSome}
-use Rattle.xdr_decode.specs.Verdict.{HasHeadOf, HasMore, IsWrong, IsWrongIn, kind_of}
-use Rattle.xdr_decode.specs.declared.bad.Bad.{Bad}
+use Rattle.xdr_decode.specs.Verdict.{HasHeadOf, HasMore, IsWrong, kind_of}
 use Rattle.xdr_decode.specs.declared.bad.Bad.TheVariants.{Trailing}
 use Rattle.xdr_decode.specs.declared.bad.BadField.{BadField}
 use Rattle.xdr_decode.specs.declared.decoder.Decoder.{Decoder}

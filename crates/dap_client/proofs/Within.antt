@@ -1,8 +1,8 @@
 -- What is wrong with a body stands within its bytes.
-use Rattle.std.proofs.Common.{◌≡◌, ℕ, zero, suc, ◌+◌, ◌-◌, ◌<◌, ◌≤◌, Bool, true, false, not, ◌||◌, if◌then◌else◌, List, [], ◌∷◌, ◌++◌, length, take, drop, Option, Some, None, refl, sym, ap, subst, ◌∙◌, append_assoc, length-append, length-drop, length-take, length-take-le, IsTrue, inl, inr, ◌⊎◌, arith}
+use Rattle.std.proofs.Common.{◌≡◌, ℕ, zero, suc, ◌+◌, ◌-◌, ◌≤◌, Bool, true, false, ◌||◌, if◌then◌else◌, List, [], ◌∷◌, ◌++◌, length, take, drop, Some, sym, ap, subst, length-append, length-drop, length-take, inl, inr, arith}
 use Rattle.std.proofs.lemmas.List.Elements.{All-append, All-cons, All-head, All-nil, All-tail}
 use Rattle.std.proofs.lemmas.Option.{none-some, same_Some}
-use Rattle.std.specs.List.{All, AllPass, slice_get}
+use Rattle.std.specs.List.{All, slice_get}
 use Rattle.std.specs.Option.{option_map}
 use Rattle.text_tokens.specs.Languages.{BadToken}
 use Rattle.text_tokens.specs.Tokens as tokens
@@ -10,13 +10,11 @@ use Rattle.dap_errors.specs.Object as object
 use Rattle.dap_errors.specs.Reading as errors
 use Rattle.das_text.specs.Grammar as das_grammar
 use Rattle.das_text.specs.Reading as das
-use Rattle.dap_model.specs.Grammar.{IsBadAt}
 use Rattle.dap_model.specs.Tokens.{Placed, Token, ended, is_sign, is_white, sign, sign_at, tokens_from, tokens_of, whole_tokens}
 use Rattle.dds_text.specs.Reading.{IsBadText, limit}
-use Rattle.xdr_decode.specs.Verdict.{HasWrongValues, IsBadLine, IsWrongIn, budget}
+use Rattle.xdr_decode.specs.Verdict.{HasWrongValues, IsBadLine, budget}
 use Rattle.xdr_decode.specs.declared.bad.Bad.{Bad}
-use Rattle.xdr_decode.specs.declared.bad.BadField.{BadField}
-use Rattle.dap_client.specs.Verdict.{Form, HasStray, IsVerdict, Judges, JudgesDas, JudgesDasText, JudgesDds, JudgesDods, JudgesError, Verdict, bad, das_form, dds_form, dods_form, is_final}
+use Rattle.dap_client.specs.Verdict.{Form, HasStray, IsVerdict, Judges, JudgesDas, JudgesDasText, JudgesDds, JudgesDods, JudgesError, bad, das_form, dds_form, dods_form}
 
 -- ---- the tokens of a DDS
 abbrev To : ℕ → Placed → Type 0

@@ -1,7 +1,7 @@
 -- What the reader of a data response says of a body of that kind.
-use Rattle.std.proofs.Common.{◌≡◌, ℕ, ◌+◌, ◌<◌, ◌≤◌, Bool, true, false, List, [], ◌∷◌, ◌++◌, length, take, codes, replicate, refl, sym, ap, subst, ◌∙◌, append_assoc, append-nil, length-append, inl, inr, ◌⊎◌, Result, Ok, Err, Some, arith}
+use Rattle.std.proofs.Common.{◌≡◌, ℕ, ◌+◌, ◌≤◌, true, List, [], ◌∷◌, ◌++◌, length, take, refl, sym, ap, subst, ◌∙◌, append-nil, inl, inr, ◌⊎◌, Result, Err, Some}
 use Rattle.std.proofs.lemmas.Bool.{false≢true}
-use Rattle.dap_types.specs.Model.{Dataset, Tree}
+use Rattle.dap_types.specs.Model.{Dataset}
 use Rattle.dap_types.specs.View.{dataset_view}
 use Rattle.dap_model.proofs.Partly.{part_is_of_lines}
 use Rattle.dap_model.specs.Dds.{dds, line}
@@ -17,8 +17,8 @@ use Rattle.dap_client.proofs.Filling.{values_lines}
 use Rattle.dap_client.proofs.Lines.{cut_no_head, line_cut}
 use Rattle.dap_client.proofs.Texts.{open_no_head}
 use Rattle.dap_client.proofs.Within.{verdict_within}
-use Rattle.dap_client.specs.After.{HasNoLine, IsBrokenOff, IsFinished, IsPart, IsStopped}
-use Rattle.dap_client.specs.Answered.{IsLasting, ShowsStopped, text_of}
+use Rattle.dap_client.specs.After.{IsBrokenOff, IsFinished, IsPart, IsStopped}
+use Rattle.dap_client.specs.Answered.{IsLasting, ShowsStopped}
 use Rattle.dap_client.specs.Outcomes.{OnWriteFault}
 use Rattle.dap_client.specs.Replies.{first_of}
 use Rattle.dap_client.specs.Shows.{StopsWithin}

@@ -1,5 +1,5 @@
 -- Which bytes of a body a reader stands after and what it has put of them, and what its answers say.
-use Rattle.std.specs.Prelude.{◌≡◌, ℕ, ◌<◌, ◌≤◌, ◌⊎◌, true, List, [], length, take, Option, Some, None, Result, Ok, Err}
+use Rattle.std.specs.Prelude.{◌≡◌, ℕ, ◌<◌, ◌≤◌, true, List, [], length, take, Option, Some, None, Result, Ok, Err}
 use Rattle.dap_model.specs.Received.{HasHead}
 use Rattle.xdr_decode.specs.Verdict.{budget}
 use Rattle.xdr_decode.specs.declared.bad.BadField.{BadField}

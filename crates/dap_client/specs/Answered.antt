@@ -1,5 +1,5 @@
 -- What the outcome of a reply says of the bytes that were taken, and of the text that was put.
-use Rattle.std.specs.Prelude.{◌≡◌, ℕ, ◌≤◌, ◌⊎◌, ⊤, Bool, List, [], ◌++◌, length, take, IsTrue}
+use Rattle.std.specs.Prelude.{◌≡◌, ℕ, ◌⊎◌, Bool, List, [], ◌++◌, length, take}
 use Rattle.das_text.specs.Das.{das}
 use Rattle.das_text.specs.Model.{Attributes}
 use Rattle.dap_types.specs.Limits.{most_piece}

@@ -1,8 +1,7 @@
 -- The verdict on a reply (RFC 9112): its heads and its framing, and then the body that they bring, read
 -- by what it was asked for, whatever the status is.
-use Rattle.std.specs.Prelude.{◌≡◌, ℕ, ◌+◌, ◌<◌, ◌⊎◌, Bool, true, List, ◌++◌, length, if◌then◌else◌}
+use Rattle.std.specs.Prelude.{◌≡◌, ℕ, ◌+◌, ◌<◌, ◌⊎◌, true, List, ◌++◌, length, if◌then◌else◌}
 use Rattle.dap_types.specs.Limits.{body_limit, most_piece}
-use Rattle.xdr_decode.specs.declared.bad.Bad.{Bad}
 use Rattle.xdr_decode.specs.declared.bad.BadField.{BadField}
 use Rattle.dap_http.specs.Delivered.{BreaksOff, Delivers, HasCoding, HasCome}
 use Rattle.dap_http.specs.declared.coding.Coding.{Coding}

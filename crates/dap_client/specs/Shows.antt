@@ -2,7 +2,7 @@
 use Rattle.std.specs.Prelude.{◌≡◌, ℕ, ◌≤◌, ◌⊎◌, List, ◌++◌, length, codes, Option}
 use Rattle.std.specs.Io.KnownBytes.{Appends, Consumes}
 use Rattle.dap_types.specs.Model.{Dataset, Tree}
-use Rattle.dap_model.specs.Partly.{ShowsLines, ShowsPart}
+use Rattle.dap_model.specs.Partly.{ShowsPart}
 use Rattle.dap_model.specs.Received.{IsPrefix}
 use Rattle.dap_model.specs.Shown.{shown}
 use Rattle.xdr_decode.specs.Verdict.{HasHeadOf}

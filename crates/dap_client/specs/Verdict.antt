@@ -1,7 +1,7 @@
 -- The verdict on the body of a reply of any kind. Where its first word is `Error` it is an Error object
 -- (DAP 2.0, Error objects), whatever it was asked for. Else it is read by its kind. The first thing that
 -- is wrong decides, with its place. The kinds of faults, the places and the limits are this project's.
-use Rattle.std.specs.Prelude.{◌≡◌, ◌↔◌, ℕ, ◌+◌, ◌<◌, ◌≤◌, ◌⊎◌, ⊤, Bool, true, false, not, List, [], ◌∷◌, ◌++◌, length, take, IsTrue}
+use Rattle.std.specs.Prelude.{◌≡◌, ◌↔◌, ℕ, ◌+◌, ◌<◌, ◌≤◌, ◌⊎◌, Bool, true, false, not, List, [], ◌∷◌, ◌++◌, length, take, IsTrue}
 use Rattle.std.specs.List.{AllPass}
 use Rattle.dap_types.specs.Model.{Dataset, Tree}
 use Rattle.dap_model.specs.Body.{IsBody}
@@ -15,7 +15,7 @@ use Rattle.das_text.specs.Reading as das
 use Rattle.dds_text.specs.Reading.{IsBadText, IsUnfinished}
 use Rattle.xdr_decode.specs.Verdict.{budget}
 use Rattle.xdr_decode.specs.declared.bad.Bad.{Bad}
-use Rattle.xdr_decode.specs.declared.bad.Bad.TheVariants.{BadHead, HeadTooLong, Coded, BadChunk, BadDds, BadDataLine, BadDas, BadError, BadCount, BadWord, BadPadding, WrongMark, Cut, Trailing, TooLong}
+use Rattle.xdr_decode.specs.declared.bad.Bad.TheVariants.{BadDds, BadDas, BadError, Cut, Trailing, TooLong}
 use Rattle.xdr_decode.specs.Verdict.{HasText, IsGood, IsWrongIn}
 
 -- what a body was asked for: a data response, a DDS or a DAS

@@ -21,7 +21,7 @@ use Rattle.dap_model.specs.Received.{MayFollow, IsBadField, bad_count, bad_word,
 use Rattle.dap_model.specs.Shown.{shown}
 use Rattle.dap_model.specs.Tokens.{is_white, tokens_of}
 use Rattle.dap_model.specs.Xdr as field
-use Rattle.dap_model.specs.Xdr.{Field, word, zeros, bytes_of, field_bytes, fields_all, SpellsField, SpellsFields, Spells}
+use Rattle.dap_model.specs.Xdr.{Field, word, zeros, bytes_of, field_bytes, SpellsField}
 
 -- a dataset f of one variable
 abbrev one_variable : Member → Dataset

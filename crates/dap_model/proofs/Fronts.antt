@@ -16,7 +16,7 @@ use Rattle.dap_model.proofs.Tests.{both_true}
 use Rattle.dap_model.specs.Fits.{FitsRow, FitsAll}
 use Rattle.dap_model.specs.Received.{IsOpen, IsBadField, IsFront, lines, open_line, wrong_mark}
 use Rattle.dap_model.specs.Xdr as field
-use Rattle.dap_model.specs.Xdr.{Field, word, zeros, bytes_of, field_bytes, fields_all, SpellsField, SpellsFields, Spells}
+use Rattle.dap_model.specs.Xdr.{Field, bytes_of, field_bytes, fields_all, SpellsField, SpellsFields}
 
 pub differ : (n m : ℕ) → (n == m) ≡ false → n ≡ m → ⊥
 differ n m apart same = false≢true (sym apart ∙ (Decides-eqb n m).1 same)

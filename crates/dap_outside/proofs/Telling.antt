@@ -1,7 +1,6 @@
 -- What told its bytes goes on telling them.
-use Rattle.std.proofs.Common.{ℕ, List, Option, Some, None, refl}
+use Rattle.std.proofs.Common.{Some, None, refl}
 use Rattle.std.proofs.lemmas.Bool.{false≢true}
-use Rattle.std.specs.Prelude.{IsSome}
 use Rattle.std.specs.Io.KnownBytes.{Appends, Consumes}
 use Rattle.dap_outside.specs.Streams.{AppendsFront, ConsumesFront}
 use Rattle.dap_outside.specs.Laws.{TellsOn}

@@ -1,5 +1,5 @@
 -- The calls of objects in memory.
-use Rattle.std.specs.Prelude.{◌≡◌, ℕ, ◌+◌, ◌-◌, ◌^◌, ◌⊎◌, ◌↔◌, min, Result, IsErr, is_ok, Contains, if◌then◌else◌}
+use Rattle.std.specs.Prelude.{◌≡◌, ◌+◌, ◌-◌, ◌^◌, ◌⊎◌, ◌↔◌, min, Result, IsErr, is_ok, Contains, if◌then◌else◌}
 use Rattle.dap_outside.specs.declared.calls.Calls.{Calls}
 
 -- One more call: it fails exactly where its number is listed or it is refused, and the count of faults rises exactly then. Both numbers stay at their end.

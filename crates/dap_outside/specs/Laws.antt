@@ -1,7 +1,5 @@
 -- Laws of what sources and sinks tell.
 use Rattle.std.specs.Prelude.{ℕ, List, Option, IsSome}
-use Rattle.std.specs.Io.KnownBytes.{Appends, Consumes}
-use Rattle.dap_outside.specs.Streams.{AppendsFront, ConsumesFront}
 
 -- what told its bytes before some of them went or came, tells them afterwards
 abbrev pub TellsOn : (Option (List ℕ) → Option (List ℕ) → List ℕ → Type 0) → Type 0

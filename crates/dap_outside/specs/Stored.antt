@@ -1,5 +1,5 @@
 -- What the files of a shelf in memory hold.
-use Rattle.std.specs.Prelude.{ℕ, All, List}
+use Rattle.std.specs.Prelude.{All, List}
 use Rattle.dap_outside.specs.Files.{IsBytes}
 use Rattle.dap_outside.specs.declared.memory_shelf.MemFile.{MemFile}
 

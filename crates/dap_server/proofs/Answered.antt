@@ -1,10 +1,9 @@
 -- The answer to a request, from what was put of it.
-use Rattle.std.proofs.Common.{◌≡◌, ◌≢◌, ℕ, ◌+◌, ◌-◌, ◌^◌, ◌≤◌, min, Bool, false, true, List, [], ◌++◌, length, Option, Some, None, IsSome, IsTrue, Result, Ok, Err, refl, sym, ap, ◌∙◌, subst, arith, append_assoc, inl, inr, ◌⊎◌}
+use Rattle.std.proofs.Common.{◌≡◌, ◌≢◌, ℕ, ◌+◌, ◌-◌, ◌≤◌, Bool, false, true, List, ◌++◌, Option, Some, None, IsTrue, Ok, Err, refl, sym, ap, ◌∙◌, subst, arith, append_assoc, inl, inr, ◌⊎◌}
 use Rattle.std.proofs.KnownBytes.{Appends-trans}
 use Rattle.std.specs.Io.KnownBytes.{Appends}
 use Rattle.dap_errors.specs.declared.cause.Cause.{Cause}
 use Rattle.dap_errors.specs.declared.cause.Cause.TheVariants.{BadMethod, BadTarget, OutOfMemory, ReadFailed}
-use Rattle.dap_http.specs.Frames.{IsFront}
 use Rattle.dap_http.specs.Requests.{is_other}
 use Rattle.dap_http.specs.Targets.{Asked, target_of}
 use Rattle.dap_http.specs.declared.kind.Kind.{Kind}
@@ -14,17 +13,17 @@ use Rattle.dap_outside.specs.Files.{Told}
 use Rattle.xdr_encode.specs.Streamed.{HasStreamCauses}
 use Rattle.xdr_encode.specs.declared.streamed.Streamed.{Streamed}
 use Rattle.xdr_encode.specs.declared.streamed.Streamed.TheVariants as streamed
-use Rattle.dap_server.specs.Connections.{IsPart, MayAnswer, MayAsk, RoseBy, has_failed, sends_data}
+use Rattle.dap_server.specs.Connections.{IsPart, MayAnswer, MayAsk, RoseBy, has_failed}
 use Rattle.dap_server.specs.Costs.{IsCost, asks_shelf, most_first}
 use Rattle.dap_server.specs.Prepared.{MayGive}
-use Rattle.dap_server.specs.Replies.{Request, is_head, is_last, reply_of}
-use Rattle.dap_server.specs.Results.{AnswersAsked, Text, text_of}
+use Rattle.dap_server.specs.Replies.{Request, is_head}
+use Rattle.dap_server.specs.Results.{text_of}
 use Rattle.dap_server.specs.declared.turn.Answered.{Answered}
 use Rattle.dap_server.specs.declared.turn.Answered.TheVariants as answered
-use Rattle.dap_server.specs.inner.Serving.{Answers, AnswersWith, Costs, PutsCause, PutsFramed, PutsReply, PutsText, PutsValues, SaysWhole, Stand, answered_by, broken, data_front, known}
+use Rattle.dap_server.specs.inner.Serving.{Answers, AnswersWith, Costs, PutsCause, PutsFramed, PutsReply, PutsText, PutsValues, SaysWhole, Stand, answered_by, broken, data_front}
 use Rattle.dap_server.proofs.Refusals.{refused-calm}
 use Rattle.dap_server.proofs.Replying.{bad-method, bad-target, failed, gives, head-reply, memory-answer, not-broken, or-false, reply-known, reply-put}
-use Rattle.dap_server.proofs.Requesting.{cause-asks, least-asked, nothing-asked, stand, text-asks}
+use Rattle.dap_server.proofs.Requesting.{cause-asks, nothing-asked, stand, text-asks}
 
 -- ---- a head and values
 

@@ -1,8 +1,8 @@
 -- From what the steps found to what a stored file is answered with.
-use Rattle.std.proofs.Common.{◌≡◌, ℕ, ◌<◌, ◌≤◌, List, length, Option, Some, None, option_map, Result, Ok, Err, true, false, refl, sym, ap, ◌∙◌, inl, inr, subst, arith, if◌then◌else◌}
+use Rattle.std.proofs.Common.{◌≡◌, ℕ, ◌<◌, ◌≤◌, List, length, Some, None, option_map, Result, Ok, Err, true, false, refl, sym, ap, ◌∙◌, inl, inr, subst, arith, if◌then◌else◌}
 use Rattle.std.specs.Prelude.{nat_lt}
 use Rattle.std.proofs.lemmas.Bool.Decides.{nat_tests}
-use Rattle.dap_types.specs.Model.{Dataset, Tree}
+use Rattle.dap_types.specs.Model.{Dataset}
 use Rattle.dap_model.specs.Body.{body, too_large}
 use Rattle.dap_model.specs.Dds.{dds}
 use Rattle.dap_model.specs.Filter.{Marks, constrained, constrained_trees}
@@ -16,7 +16,7 @@ use Rattle.grid_projection.specs.Resolved.{cause}
 use Rattle.sequence_select.specs.Selections.{selections}
 use Rattle.dap_http.specs.declared.kind.Kind.TheVariants.{Dds, Dods}
 use Rattle.dap_server.specs.Files.{Stored}
-use Rattle.dap_server.specs.Results.{DdsAnswers, DodsAnswers, Leaves, Left, Text, dds_text, dods_text, left_of, text_of}
+use Rattle.dap_server.specs.Results.{DdsAnswers, DodsAnswers, Leaves, Left, Text, left_of, text_of}
 use Rattle.dap_server.specs.Steps.{unless}
 use Rattle.dap_server.specs.inner.Marking.{IsRefusedOn}
 use Rattle.dap_server.specs.inner.Opening.{WhereRefused, dataset_in, stored_of}

@@ -1,10 +1,10 @@
 -- The steps of a connection, together.
-use Rattle.std.proofs.Common.{◌≡◌, ◌≢◌, ℕ, ◌+◌, ◌-◌, ◌^◌, ◌<◌, ◌≤◌, min, Bool, false, true, ◌||◌, ◌==◌, List, [], ◌∷◌, ◌++◌, length, Option, Some, None, IsSome, IsTrue, Result, Ok, Err, refl, sym, ap, ◌∙◌, subst, arith, append-nil, length-append, inl, inr, ◌⊎◌}
+use Rattle.std.proofs.Common.{◌≡◌, ◌≢◌, ℕ, ◌+◌, ◌-◌, ◌<◌, ◌≤◌, Bool, false, true, ◌||◌, ◌==◌, List, [], ◌∷◌, ◌++◌, length, Option, Some, None, IsSome, IsTrue, refl, sym, ap, ◌∙◌, subst, arith, length-append, inl, inr}
 use Rattle.std.proofs.lemmas.Bool.{cases_lt, true≢false}
 use Rattle.std.specs.Io.KnownBytes.{Appends, Consumes, IsAtEnd}
 use Rattle.httparse.specs.Grammar.{RequestHead, print_request}
 use Rattle.dap_errors.specs.declared.cause.Cause.TheVariants.{OutOfMemory}
-use Rattle.dap_http.specs.Requests.{FirstRequest, HasNoRequest}
+use Rattle.dap_http.specs.Requests.{FirstRequest}
 use Rattle.dap_http.specs.declared.head_reader.Head.{Head}
 use Rattle.dap_http.proofs.Feeds.{request-feed}
 use Rattle.dap_outside.specs.Causes.{Rose}
@@ -12,7 +12,7 @@ use Rattle.dap_outside.specs.Files.{Told}
 use Rattle.dap_server.specs.Connections.{Connection, ConnectionMayAsk, IsServed, RoseBy, RoseFor, failures, put_from}
 use Rattle.dap_server.specs.Files.{Files}
 use Rattle.dap_server.specs.Whole.{AnswersAll}
-use Rattle.dap_server.specs.declared.served.Ending.TheVariants.{Closed, WriteFault}
+use Rattle.dap_server.specs.declared.served.Ending.TheVariants.{WriteFault}
 use Rattle.dap_server.specs.declared.served.Served.{Served}
 use Rattle.dap_server.specs.declared.turn.Answered.{Answered}
 use Rattle.dap_server.specs.declared.turn.Answered.TheVariants as answered

@@ -1,19 +1,18 @@
 -- How the answer to one request, or what comes in place of a request, goes on or ends a connection.
-use Rattle.std.proofs.Common.{◌≡◌, ℕ, ◌+◌, ◌≤◌, Bool, false, true, ◌||◌, ◌==◌, List, [], ◌∷◌, ◌++◌, length, Option, Some, None, MatchBool, IsTrue, Result, Ok, Err, refl, sym, ap, ◌∙◌, subst, arith, append-nil, inl, inr, ◌⊎◌}
+use Rattle.std.proofs.Common.{◌≡◌, ℕ, ◌+◌, ◌≤◌, Bool, false, true, ◌||◌, ◌==◌, List, [], ◌∷◌, ◌++◌, Option, Some, None, refl, sym, ap, ◌∙◌, subst, arith, append-nil, inl, inr, ◌⊎◌}
 use Rattle.std.specs.Io.KnownBytes.{Appends, Consumes}
 use Rattle.httparse.specs.Grammar.{RequestHead}
 use Rattle.dap_errors.specs.Causes.{http_status}
 use Rattle.dap_errors.specs.declared.cause.Cause.{Cause}
-use Rattle.dap_errors.specs.declared.cause.Cause.TheVariants.{BadRequest, HeadTooLong, OutOfMemory}
+use Rattle.dap_errors.specs.declared.cause.Cause.TheVariants.{BadRequest, HeadTooLong}
 use Rattle.dap_http.specs.Reading.{IsHead}
-use Rattle.dap_http.specs.Requests.{FirstRequest, HasNoRequest, IsBadRequest, IsGone, IsTooLong}
+use Rattle.dap_http.specs.Requests.{FirstRequest, HasNoRequest, IsBadRequest, IsTooLong}
 use Rattle.dap_http.specs.declared.head_reader.Head.{Head}
 use Rattle.dap_outside.specs.Files.{Told}
-use Rattle.dap_server.specs.Connections.{Behind, BreaksOff, Connection, IsPart, MayAnswer, MayRefuse, RoseBy, Stops, nothing, part_of_refusal, part_of_reply, refusal}
-use Rattle.dap_server.specs.Replies.{Request, Turn, is_last, last_reply, reply_of, request, status_of}
-use Rattle.dap_server.specs.Results.{Text}
+use Rattle.dap_server.specs.Connections.{Behind, MayRefuse, RoseBy, Stops, nothing, part_of_refusal, part_of_reply, refusal}
+use Rattle.dap_server.specs.Replies.{Request, Turn, is_last, last_reply, reply_of, request}
 use Rattle.dap_server.specs.declared.served.Ending.{Ending}
-use Rattle.dap_server.specs.declared.served.Ending.TheVariants.{Closed, Gone, ReadFault, WriteFault, Broken}
+use Rattle.dap_server.specs.declared.served.Ending.TheVariants.{Closed, WriteFault, Broken}
 use Rattle.dap_server.specs.declared.served.Served.{Served}
 use Rattle.dap_server.specs.declared.turn.Answered.{Answered}
 use Rattle.dap_server.specs.declared.turn.Answered.TheVariants as answered

@@ -1,5 +1,5 @@
 -- What a sink has gained of a body that is put framed to it.
-use Rattle.std.proofs.Common.{◌≡◌, ℕ, ◌≤◌, Bool, List, [], ◌++◌, length, take, drop, Option, Some, None, option_map, refl, sym, ap, ◌∙◌, subst, take-append-drop}
+use Rattle.std.proofs.Common.{◌≡◌, ℕ, Bool, List, [], ◌++◌, take, drop, Option, Some, None, option_map, refl, ap, ◌∙◌, subst, take-append-drop}
 use Rattle.std.specs.Io.KnownBytes.{Appends}
 use Rattle.dap_http.specs.Frames.{IsFront, framed}
 use Rattle.dap_outside.specs.Streams.{AppendsFront}

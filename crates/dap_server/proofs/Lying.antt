@@ -1,5 +1,5 @@
 -- From what a shelf said of a search and a read: files that it may have.
-use Rattle.std.proofs.Common.{◌≡◌, ℕ, ◌≤◌, List, length, min, Result, Option, Some, None, IsSome, Ok, Err, refl, sym, ap, ◌∙◌, inl, inr, arith}
+use Rattle.std.proofs.Common.{◌≡◌, ℕ, ◌≤◌, List, length, min, Result, Option, Some, None, Ok, Err, refl, sym, ap, ◌∙◌, inl, inr, arith}
 use Rattle.std.specs.Prelude.{option_map}
 use Rattle.std.specs.Option.{option_and_then, option_map_or}
 use Rattle.dap_errors.specs.declared.cause.Cause.{Cause}
@@ -7,8 +7,8 @@ use Rattle.dap_errors.specs.declared.cause.Cause.TheVariants.{NoFile}
 use Rattle.dap_outside.specs.Files.{Told, Finds, HasSize}
 use Rattle.dap_server.specs.Costs.{most_first, most_of_form}
 use Rattle.dap_server.specs.Files.{Files, Form, MayHave, Stored, form_of, IsStored}
-use Rattle.dap_server.specs.Results.{File, Opens, Text, file_named}
-use Rattle.dap_server.specs.Steps.{Then, found_or}
+use Rattle.dap_server.specs.Results.{File, Opens, file_named}
+use Rattle.dap_server.specs.Steps.{found_or}
 use Rattle.dap_server.specs.inner.Opening.{IsMissing, IsRead, Lies, OpenedAs, WhereRefused, stored_of}
 use Rattle.dap_server.specs.declared.open.Opened.{Opened}
 use Rattle.dap_server.specs.declared.open.Opened.TheVariants.{Netcdf, Table}

@@ -16,7 +16,7 @@ use Rattle.dap_server.proofs.Lying as lying
 use Rattle.dap_server.proofs.OneAnswer.{one_result}
 use Rattle.dap_server.specs.Costs.{IsFormCost, IsFormCostAt, asks_shelf, is_of_file}
 use Rattle.dap_server.specs.Files.{Files, MayHave, Stored, form_of, table}
-use Rattle.dap_server.specs.Prepared.{asked_of, IsFor, IsOver, MayGive, MustGive, WhereBody, WhereRefuse, WhereShelfFault, WhereText}
+use Rattle.dap_server.specs.Prepared.{asked_of, IsFor, IsOver, MayGive, MustGive, WhereBody, WhereRefuse, WhereText}
 use Rattle.dap_server.specs.Results.{Opens, Text, das_text, text_of}
 use Rattle.dap_server.specs.Steps.{Is, Then}
 use Rattle.dap_server.specs.inner.Opening.{Lies, OpenedAs, WhereFault, WhereRefused, attributes_in, stored_of}

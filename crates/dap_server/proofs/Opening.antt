@@ -1,14 +1,12 @@
 -- From the body of a netCDF file or of a table to that of what was opened.
-use Rattle.std.proofs.Common.{◌≡◌, ℕ, ◌≤◌, ◌<◌, List, [], All, length, Option, Some, None, Result, Ok, Err, IfOk, IfErr, refl, sym, subst, arith}
+use Rattle.std.proofs.Common.{◌≡◌, ℕ, ◌≤◌, ◌<◌, List, [], All, length, Some, Result, Ok, Err, IfOk, IfErr, refl, sym, subst, arith}
 use Rattle.constraint_parse.specs.Values.{Spells}
 use Rattle.constraint_parse.specs.declared.constraint.Constraint.{Constraint}
 use Rattle.csv_source.specs.Table.{CsvTable}
-use Rattle.dap_errors.specs.declared.cause.Cause.{Cause}
 use Rattle.dap_http.specs.declared.kind.Kind.TheVariants.{Dods}
 use Rattle.dap_outside.specs.Files.{Told}
 use Rattle.netcdf_source.specs.File.{FileHeader}
 use Rattle.netcdf_source.specs.Laws.{HasHeader}
-use Rattle.netcdf_source.specs.declared.header.Contents.{Contents}
 use Rattle.xdr_encode.specs.Asked.{MarksAsk}
 use Rattle.xdr_encode.specs.Bodies.{FitsFile, HasNoFile, MayAsk, cost_in, text_in}
 use Rattle.xdr_encode.specs.Costs.{marks_cost}

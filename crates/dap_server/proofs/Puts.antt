@@ -1,5 +1,5 @@
 -- What a sink that failed has gained.
-use Rattle.std.proofs.Common.{◌≡◌, ℕ, ◌<◌, List, [], length, take, drop, Option, Result, OnErr, sym, ap, subst, arith, length-drop, take-append-drop}
+use Rattle.std.proofs.Common.{◌≡◌, ℕ, ◌<◌, List, length, take, drop, Option, Result, OnErr, sym, ap, subst, arith, length-drop, take-append-drop}
 use Rattle.std.specs.Io.KnownBytes.{Appends}
 use Rattle.dap_outside.proofs.Fronts.{on_err}
 use Rattle.dap_server.specs.Connections.{IsPart}

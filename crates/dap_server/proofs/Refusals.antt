@@ -1,9 +1,7 @@
 -- No target is refused for a failed read.
-use Rattle.std.proofs.Common.{◌≡◌, ℕ, ◌+◌, Bool, true, false, List, [], ◌∷◌, ◌++◌, length, Option, Some, None, option_map, Result, Ok, Err, if◌then◌else◌, nat_lt, refl, sym, ap, ◌∙◌, subst, inl, inr, ◌⊎◌}
-use Rattle.std.specs.Prelude.{All}
+use Rattle.std.proofs.Common.{◌≡◌, ℕ, ◌+◌, Bool, true, false, List, [], ◌∷◌, ◌++◌, length, Option, Some, None, option_map, Result, Ok, Err, if◌then◌else◌, nat_lt, refl, sym, subst, inl, inr}
 use Rattle.std.specs.Option.{option_or}
-use Rattle.dap_types.specs.Model.{Dataset, Member}
-use Rattle.dap_types.specs.declared.declarations.BaseType.{BaseType}
+use Rattle.dap_types.specs.Model.{Dataset}
 use Rattle.dap_types.specs.declared.declarations.Column.{Column}
 use Rattle.dap_model.specs.Filter.{Marks}
 use Rattle.dap_errors.specs.declared.cause.Cause.{Cause}
@@ -13,7 +11,6 @@ use Rattle.constraint_parse.specs.declared.constraint.Constraint.{Constraint}
 use Rattle.constraint_parse.specs.declared.constraint.Constant.{Constant}
 use Rattle.constraint_parse.specs.declared.constraint.Clause.{Clause}
 use Rattle.constraint_parse.specs.declared.constraint.Item.{Item}
-use Rattle.constraint_parse.specs.declared.constraint.RawSlab.{RawSlab}
 use Rattle.constraint_parse.specs.declared.constraint.Step.{Step}
 use Rattle.grid_projection.specs.Clauses.{clause_cause, clause_tests, clauses_cause, compared_tests, scalar_of, scalar_tests}
 use Rattle.grid_projection.specs.First.{Test, first_there}

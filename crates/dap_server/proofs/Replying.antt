@@ -1,31 +1,27 @@
 -- How the bytes that are put are the reply of an answer.
-use Rattle.std.proofs.Common.{◌≡◌, ◌≢◌, ℕ, ◌+◌, ◌≤◌, Bool, false, true, ◌||◌, ◌&&◌, not, List, [], ◌∷◌, ◌++◌, length, Option, Some, None, IsSome, MatchBool, IsTrue, if◌then◌else◌, Result, Ok, Err, refl, sym, ap, ◌∙◌, subst, arith, append-nil, append_assoc, inl, inr, ◌⊎◌}
-use Rattle.std.proofs.KnownBytes.{Appends-trans}
+use Rattle.std.proofs.Common.{◌≡◌, ◌≢◌, ℕ, ◌+◌, ◌≤◌, Bool, false, true, ◌||◌, not, List, [], ◌++◌, length, Option, Some, None, IsSome, IsTrue, if◌then◌else◌, Result, Ok, Err, refl, sym, ap, ◌∙◌, subst, arith, append-nil, append_assoc, inl, inr}
 use Rattle.std.proofs.lemmas.Bool.{true≢false}
 use Rattle.std.specs.Io.KnownBytes.{Appends}
-use Rattle.dap_errors.specs.Causes.{http_status}
-use Rattle.dap_errors.specs.Printed.{error_text}
 use Rattle.dap_errors.specs.declared.cause.Cause.{Cause}
 use Rattle.dap_errors.specs.declared.cause.Cause.TheVariants.{BadMethod, BadTarget, OutOfMemory, ReadFailed}
-use Rattle.dap_http.specs.Frames.{IsFront, framed}
+use Rattle.dap_http.specs.Frames.{framed}
 use Rattle.dap_http.specs.Requests.{is_other}
 use Rattle.dap_http.specs.Targets.{Asked, target_of}
 use Rattle.dap_http.specs.Texts.{description_of, head_text, is_chunked, memory_error, memory_text}
-use Rattle.dap_http.specs.declared.head_reader.Head.{Head}
 use Rattle.dap_http.specs.declared.kind.Kind.{Kind}
 use Rattle.dap_http.specs.declared.kind.Kind.TheVariants.{Dds, Das, Dods, Ver}
 use Rattle.dap_outside.specs.Causes.{Rose}
 use Rattle.dap_outside.specs.Files.{Told}
-use Rattle.dap_server.specs.Connections.{IsPart, LooksForFile, MayAnswer, MayAsk, RoseBy, has_failed, sends_values}
-use Rattle.dap_server.specs.Costs.{IsCost, asks_shelf, most_first}
+use Rattle.dap_server.specs.Connections.{LooksForFile, MayAnswer, RoseBy, sends_values}
+use Rattle.dap_server.specs.Costs.{IsCost, asks_shelf}
 use Rattle.dap_server.specs.Files.{Files, MayHave}
 use Rattle.dap_server.specs.Prepared.{MayGive}
-use Rattle.dap_server.specs.Replies.{IsAnswered, Request, error_head, head_of, is_head, is_last, reply_of, status_of, wants_memory}
-use Rattle.dap_server.specs.Results.{AnswersAsked, Results, Text, asked, error_object, text_of}
+use Rattle.dap_server.specs.Replies.{Request, error_head, head_of, is_head, is_last, reply_of, status_of}
+use Rattle.dap_server.specs.Results.{Results, Text, asked, error_object, text_of}
 use Rattle.dap_server.specs.Steps.{found_or}
 use Rattle.dap_server.specs.declared.turn.Answered.{Answered}
 use Rattle.dap_server.specs.declared.turn.Answered.TheVariants as answered
-use Rattle.dap_server.specs.inner.Serving.{Answers, AnswersWith, Costs, PutsCause, PutsReply, PutsText, PutsValues, SaysWhole, Stand, broken, data_front, known, request_in}
+use Rattle.dap_server.specs.inner.Serving.{AnswersWith, Costs, PutsReply, PutsText, PutsValues, SaysWhole, Stand, broken, data_front, known}
 use Rattle.dap_server.proofs.Choices.{where_true, where_false}
 use Rattle.dap_server.proofs.Ends.{appends-known}
 

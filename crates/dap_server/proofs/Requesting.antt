@@ -1,11 +1,10 @@
 -- What a reader of heads gives, and what is put for it, as one step of a connection.
-use Rattle.std.proofs.Common.{◌≡◌, ◌≢◌, ℕ, ◌+◌, ◌≤◌, Bool, false, true, ◌||◌, ◌==◌, List, [], ◌++◌, length, Option, Some, None, MatchBool, IsTrue, if◌then◌else◌, codes, Result, Ok, Err, refl, sym, ap, ◌∙◌, subst, arith, append-nil, inl, inr, ◌⊎◌}
+use Rattle.std.proofs.Common.{◌≡◌, ◌≢◌, ℕ, ◌+◌, ◌≤◌, Bool, false, true, ◌||◌, ◌==◌, List, [], ◌++◌, Option, Some, None, IsTrue, codes, Ok, Err, refl, sym, ap, ◌∙◌, subst, arith, inl, inr, ◌⊎◌}
 use Rattle.std.specs.Str.{bytes_eq}
 use Rattle.std.specs.Io.KnownBytes.{Appends, Consumes}
 use Rattle.httparse.specs.Grammar.{RequestHead}
-use Rattle.dap_errors.specs.Causes.{http_status}
 use Rattle.dap_errors.specs.declared.cause.Cause.{Cause}
-use Rattle.dap_errors.specs.declared.cause.Cause.TheVariants.{BadRequest, HeadTooLong, OutOfMemory, ReadFailed}
+use Rattle.dap_errors.specs.declared.cause.Cause.TheVariants.{BadRequest, HeadTooLong, OutOfMemory}
 use Rattle.dap_http.specs.Reading.{IsHead}
 use Rattle.dap_http.specs.Requests.{FirstRequest, HasNoRequest, IsBadRequest, IsGone, IsTooLong}
 use Rattle.dap_http.specs.Targets.{Asked, target_of}
@@ -14,11 +13,11 @@ use Rattle.dap_http.specs.declared.head_reader.Head.{Head}
 use Rattle.dap_http.specs.declared.kind.Kind.{Kind}
 use Rattle.dap_http.specs.declared.kind.Kind.TheVariants.{Dds, Das, Dods, Ver}
 use Rattle.dap_outside.specs.Files.{Told}
-use Rattle.dap_server.specs.Connections.{IsPart, MayAsk, RoseBy, has_failed, nothing}
+use Rattle.dap_server.specs.Connections.{MayAsk, nothing}
 use Rattle.dap_server.specs.Costs.{most_first}
-use Rattle.dap_server.specs.Replies.{Request, is_last, last_reply, reply_of, request}
-use Rattle.dap_server.specs.Results.{Text, text_of}
-use Rattle.dap_server.specs.declared.served.Ending.TheVariants.{Closed, Gone, ReadFault, WriteFault}
+use Rattle.dap_server.specs.Replies.{Request, last_reply, reply_of, request}
+use Rattle.dap_server.specs.Results.{text_of}
+use Rattle.dap_server.specs.declared.served.Ending.TheVariants.{Gone, ReadFault, WriteFault}
 use Rattle.dap_server.specs.declared.served.Served.{Served}
 use Rattle.dap_server.specs.declared.turn.Answered.{Answered}
 use Rattle.dap_server.specs.declared.turn.Answered.TheVariants as answered

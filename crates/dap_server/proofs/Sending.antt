@@ -1,5 +1,5 @@
 -- From what the makers of bodies say to what a stored file is answered with.
-use Rattle.std.proofs.Common.{◌≡◌, ℕ, ◌≤◌, List, ◌++◌, All, length, Option, Some, None, Result, Ok, Err, codes, refl, sym, ap, ◌∙◌, subst, [], ◌∷◌, take, drop}
+use Rattle.std.proofs.Common.{◌≡◌, ℕ, List, ◌++◌, length, Some, None, Ok, Err, codes, refl, sym, ap, ◌∙◌, subst, [], ◌∷◌, take, drop}
 use Rattle.std.proofs.Math.Seq.{take-append_seam}
 use Rattle.std.proofs.lemmas.List.{length-map}
 use Rattle.std.specs.Prelude.{map, Bool}

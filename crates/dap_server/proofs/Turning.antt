@@ -1,14 +1,13 @@
 -- Requests in turn: one that was answered, and those behind it.
-use Rattle.std.proofs.Common.{◌≡◌, ℕ, ◌+◌, ◌-◌, ◌^◌, ◌≤◌, min, Bool, false, true, List, [], ◌∷◌, ◌++◌, length, Option, Some, None, MatchBool, refl, sym, ap, ◌∙◌, subst, arith, append_assoc, append-nil, length-append, inl, inr}
+use Rattle.std.proofs.Common.{◌≡◌, ℕ, ◌+◌, ◌-◌, Bool, false, List, [], ◌∷◌, ◌++◌, length, Option, Some, None, MatchBool, refl, sym, ap, subst, arith, append_assoc, append-nil, length-append}
 use Rattle.std.proofs.KnownBytes.{Appends-trans, Consumes-trans}
-use Rattle.std.specs.Io.KnownBytes.{Appends, Consumes}
+use Rattle.std.specs.Io.KnownBytes.{Appends}
 use Rattle.httparse.specs.Grammar.{RequestHead}
 use Rattle.httparse.proofs.GrammarLemmas.{ReadsRequest-append}
 use Rattle.dap_http.specs.Requests.{FirstRequest}
 use Rattle.dap_outside.specs.Files.{Told}
-use Rattle.dap_server.specs.Connections.{AreTurns, Behind, Connection, IsClosed, IsServedFrom, RoseBy, Stops, ends_after, is_last_turn}
+use Rattle.dap_server.specs.Connections.{Connection, IsClosed, IsServedFrom, RoseBy, Stops, ends_after, is_last_turn}
 use Rattle.dap_server.specs.Replies.{Turn, replies, reply_of, request}
-use Rattle.dap_server.specs.declared.served.Ending.{Ending}
 use Rattle.dap_server.specs.declared.served.Served.{Served}
 use Rattle.dap_server.specs.inner.Serving.{GoesOn, ServesFrom, Stand, known}
 use Rattle.dap_server.proofs.Choices.{where_false}

@@ -1,21 +1,21 @@
 -- A connection on which no fault came and memory was had answers all requests of its input.
-use Rattle.std.proofs.Common.{◌≡◌, ◌≢◌, ℕ, zero, suc, ◌+◌, ◌-◌, ◌^◌, ◌≤◌, min, Bool, false, true, ◌||◌, List, [], ◌∷◌, ◌++◌, length, map, count_by, if◌then◌else◌, ◌==◌, Option, Some, None, MatchBool, IsTrue, Result, Ok, Err, refl, sym, ap, ◌∙◌, subst, arith, append_assoc, append-nil, length-append, inl, inr, ◌⊎◌}
+use Rattle.std.proofs.Common.{◌≡◌, ◌≢◌, ℕ, zero, suc, ◌+◌, ◌-◌, ◌≤◌, Bool, false, true, ◌||◌, List, [], ◌∷◌, ◌++◌, length, map, if◌then◌else◌, ◌==◌, Option, Some, MatchBool, IsTrue, Result, Ok, Err, refl, sym, ap, ◌∙◌, subst, arith, append_assoc, append-nil, length-append, inl, inr, ◌⊎◌}
 use Rattle.std.proofs.lemmas.Bool.{true≢false}
 use Rattle.std.proofs.lemmas.List.Sums.{sum_by-append}
 use Rattle.std.specs.Io.KnownBytes.{Appends, Consumes, IsAtEnd}
 use Rattle.httparse.specs.Grammar.{NeverHasRequest, RequestHead}
 use Rattle.dap_errors.specs.Causes.{http_status}
 use Rattle.dap_errors.specs.declared.cause.Cause.{Cause}
-use Rattle.dap_errors.specs.declared.cause.Cause.TheVariants.{BadRequest, HeadTooLong, OutOfMemory, ReadFailed}
+use Rattle.dap_errors.specs.declared.cause.Cause.TheVariants.{OutOfMemory}
 use Rattle.dap_http.specs.Requests.{FirstRequest, HasNoHead, HasNoRequest, IsBadRequest, IsGone, IsTooLong, NeverHasHead, Requests, ends_connection, feeds}
 use Rattle.dap_http.proofs.HeadReading.{none-now, too-long-still}
 use Rattle.dap_outside.specs.Causes.{Rose}
 use Rattle.dap_outside.specs.Files.{Told}
-use Rattle.dap_server.specs.Connections.{AreTurns, Behind, Connection, IsClosed, IsServed, MayAnswer, MayRefuse, RoseBy, RoseFor, Stops, ends_after, failed_turns, failures, is_last_turn, last_status, nothing, part_of_refusal, part_of_reply, put_from, refusal, status_behind}
+use Rattle.dap_server.specs.Connections.{AreTurns, Behind, Connection, IsClosed, IsServed, MayAnswer, RoseBy, RoseFor, Stops, ends_after, failed_turns, failures, is_last_turn, last_status, nothing, part_of_refusal, part_of_reply, put_from, refusal, status_behind}
 use Rattle.dap_server.specs.Files.{Files}
-use Rattle.dap_server.specs.Replies.{AreAnswered, IsAnswered, Request, Turn, is_last, last_reply, replies, request, status_of, wants, wants_memory}
+use Rattle.dap_server.specs.Replies.{AreAnswered, IsAnswered, Request, Turn, replies, request, status_of, wants}
 use Rattle.dap_server.specs.Results.{Text}
-use Rattle.dap_server.specs.Whole.{AnswersAll, EndsBehind, IsRefused}
+use Rattle.dap_server.specs.Whole.{AnswersAll, EndsBehind}
 use Rattle.dap_server.specs.declared.served.Ending.{Ending}
 use Rattle.dap_server.specs.declared.served.Ending.TheVariants.{Closed, Gone, ReadFault, WriteFault, Broken}
 use Rattle.dap_server.specs.declared.served.Served.{Served}

@@ -1,9 +1,8 @@
 -- What a connection has answered of the bytes that were taken from it, and how it ended (RFC 9112, section
 -- 9; the causes of each end are this project's).
-use Rattle.std.specs.Prelude.{◌≡◌, ◌≢◌, ℕ, ◌+◌, ◌-◌, ◌^◌, ◌≤◌, ⊤, ◌⊎◌, Bool, true, false, ◌&&◌, not, List, [], ◌∷◌, ◌++◌, length, min, IsTrue, MatchBool, Option, Some, None, Result, Ok, Err}
+use Rattle.std.specs.Prelude.{◌≡◌, ◌≢◌, ℕ, ◌+◌, ◌-◌, ◌^◌, ◌≤◌, ⊤, ◌⊎◌, Bool, false, ◌&&◌, not, List, [], ◌∷◌, ◌++◌, length, min, IsTrue, MatchBool, Option, Some, None, Result, Ok, Err}
 use Rattle.dap_outside.specs.Causes.{Rose}
 use Rattle.dap_outside.specs.Files.{Told}
-use Rattle.httparse.specs.Grammar.{RequestHead}
 use Rattle.dap_errors.specs.Causes.{http_status}
 use Rattle.dap_errors.specs.declared.cause.Cause.{Cause}
 use Rattle.dap_errors.specs.declared.cause.Cause.TheVariants.{BadRequest, HeadTooLong, OutOfMemory, ReadFailed}

@@ -1,7 +1,6 @@
 -- The member with a number is the one at its place in preorder.
-use Rattle.std.proofs.Common.{◌≡◌, ℕ, zero, suc, ◌+◌, ◌-◌, ◌<◌, ◌≤◌, Bool, true, false, cond, eqb, List, [], ◌∷◌, ◌++◌, length, map, slice_get, get_or, Option, Some, None, option_map, refl, ap, ◌∙◌, sym, arith, length-append, ◌⊎◌, inl, inr, ⊎_elim, subst}
+use Rattle.std.proofs.Common.{◌≡◌, ℕ, zero, suc, ◌+◌, ◌-◌, ◌<◌, ◌≤◌, Bool, true, false, cond, eqb, List, [], ◌∷◌, ◌++◌, length, map, slice_get, Option, Some, None, option_map, refl, ap, ◌∙◌, sym, arith, length-append}
 use Rattle.std.specs.List.{find, enumerate_from, position_from}
-use Rattle.std.specs.Option.{option_and_then}
 use Rattle.std.proofs.lemmas.List.{length-map, map-append}
 use Rattle.std.proofs.lemmas.Option.{slice_get-map, none-some, same_Some}
 use Rattle.std.proofs.lemmas.Bool.{eq-eqb}
@@ -9,7 +8,7 @@ use Rattle.std.proofs.lemmas.Bool.Decides.{nat_tests}
 use Rattle.dap_types.proofs.Faults.{length-places}
 use Rattle.dap_types.proofs.Numbering.{length-paths}
 use Rattle.dap_types.specs.Model.{Member, scalar, array, structure, grid, sequence, Members, no_members, member, Dataset, name_of, count, count_all}
-use Rattle.dap_types.specs.WellFormed.{Place, place, places, part_places, leaf_places, places_of, paths, member_at, number_of, IsWellFormed}
+use Rattle.dap_types.specs.WellFormed.{Place, places, part_places, leaf_places, places_of, paths, member_at, number_of, IsWellFormed}
 use Rattle.dap_types.specs.Preorder.{preorder, preorder_all}
 
 leaf_variables : (depth : ℕ) (earlier : List (List ℕ)) (ms : List Member) → map (λ (p : Place). p.variable) (leaf_places depth earlier ms) ≡ ms

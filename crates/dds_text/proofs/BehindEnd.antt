@@ -7,7 +7,7 @@ use Rattle.std.proofs.lemmas.Option.{none-some, same_Some}
 use Rattle.dap_types.specs.Model.{Dataset}
 use Rattle.dap_model.proofs.Values.{all_first, all_rest}
 use Rattle.dap_model.specs.Grammar.{IsBad, IsFirstBad, IsBadAt}
-use Rattle.dap_model.specs.Tokens.{Token, Placed, is_white, is_sign, ended as ended_word, sign_at, tokens_from, whole_tokens, tokens_of}
+use Rattle.dap_model.specs.Tokens.{Placed, is_white, is_sign, ended as ended_word, sign_at, tokens_from, whole_tokens, tokens_of}
 use Rattle.dds_text.specs.Reading.{IsEnded}
 use Rattle.dds_text.specs.inner.States.{ended}
 use Rattle.dds_text.specs.inner.Words.{left}

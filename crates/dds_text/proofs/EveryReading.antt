@@ -7,7 +7,7 @@ use Rattle.std.specs.Option.{option_map_or}
 use Rattle.dap_types.specs.Model.{Dataset}
 use Rattle.dap_model.proofs.Tests.{both_true}
 use Rattle.dap_model.specs.Grammar.{Slot, keyword, name, sign, spells, StandsFor}
-use Rattle.dap_model.specs.Tokens.{Token, Placed, is_white, is_sign, is_plain, ended as ended_word, sign_at, tokens_from, whole_tokens, tokens_of}
+use Rattle.dap_model.specs.Tokens.{Token, Placed, is_sign, is_plain, ended as ended_word, sign_at, tokens_from, whole_tokens, tokens_of}
 use Rattle.dap_model.specs.Tokens as token
 use Rattle.dds_text.specs.inner.Machine.{Moved, moved, keeps, step, refuses, Keeps}
 use Rattle.dds_text.specs.Reading.{IsEnded, IsRefused, IsOpen, limit, IsDone, IsBadText, IsUnfinished}

@@ -4,7 +4,7 @@ use Rattle.std.proofs.lemmas.Bool.{cases_order, cases_lt}
 use Rattle.std.proofs.lemmas.Option.{same_Some}
 use Rattle.dap_types.specs.Model.{Dataset}
 use Rattle.dap_model.specs.Grammar.{IsFirstBad}
-use Rattle.dap_model.specs.Tokens.{Token, Placed, is_white, is_sign, ended as ended_word, sign_at, tokens_from, whole_tokens, tokens_of}
+use Rattle.dap_model.specs.Tokens.{Token, Placed, ended as ended_word, sign_at, tokens_from, whole_tokens, tokens_of}
 use Rattle.dds_text.specs.inner.Machine.{Keeps}
 use Rattle.dds_text.specs.Reading.{IsEnded, IsRefused, IsOpen, limit, IsDone, IsBadText, IsUnfinished}
 use Rattle.dds_text.specs.inner.States.{begun, ended}

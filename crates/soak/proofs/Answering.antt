@@ -1,6 +1,6 @@
 -- What a connection gained on which the request for the file was answered once, with status 200.
-use Rattle.std.proofs.Common.{◌≡◌, ◌⊎◌, ℕ, zero, suc, ◌+◌, ◌-◌, ◌≤◌, inl, inr, Bool, true, false, List, [], ◌∷◌, ◌++◌, length, refl, sym, ap, subst, ◌∙◌, arith, Some, None, Option, Result, Ok, Err, append-nil}
-use Rattle.std.specs.Prelude.{◌||◌, IfOk, IsSome, IsTrue, codes, is_some, MatchBool}
+use Rattle.std.proofs.Common.{◌≡◌, ℕ, ◌+◌, ◌-◌, ◌≤◌, inl, inr, Bool, true, false, List, [], ◌∷◌, ◌++◌, length, refl, sym, ap, subst, ◌∙◌, arith, Some, None, Option, Result, Ok, Err, append-nil}
+use Rattle.std.specs.Prelude.{◌||◌, IfOk, IsSome, is_some, MatchBool}
 use Rattle.std.specs.Io.KnownBytes.{Appends, Consumes}
 use Rattle.dap_outside.specs.Files.{Told}
 use Rattle.httparse.specs.Grammar.{ReadsRequest, RequestHead, trim_ows}
@@ -10,7 +10,7 @@ use Rattle.dap_errors.specs.declared.cause.Cause.TheVariants as causes
 use Rattle.dap_http.specs.Requests.{FirstRequest, ends_itself}
 use Rattle.dap_http.specs.Targets.{Asked, target_of}
 use Rattle.dap_http.specs.declared.kind.Kind.TheVariants.{Dods}
-use Rattle.dap_server.specs.Connections.{AreTurns, Behind, Connection, IsClosed, IsServed, IsTurn, MayAnswer, MayRefuse, Stops, behind_text, ends_after, is_last_turn, nothing, part_of_refusal, part_of_reply, last_status, put_from, refusal, status_behind, whole_behind}
+use Rattle.dap_server.specs.Connections.{AreTurns, Behind, Connection, IsClosed, IsServed, MayAnswer, Stops, behind_text, ends_after, is_last_turn, nothing, part_of_refusal, part_of_reply, last_status, put_from, refusal, status_behind, whole_behind}
 use Rattle.dap_server.specs.Files.{Files}
 use Rattle.dap_server.specs.Replies.{Request, Turn, replies, reply_of, request as request_of, status_of, wants}
 use Rattle.dap_server.specs.Results.{AnswersAsked, Results, Text, text_of}
@@ -19,8 +19,7 @@ use Rattle.dap_server.proofs.OneAnswer.{one_result}
 use Rattle.httparse.proofs.GrammarLemmas.{ReadsRequest-append, request_unique}
 use Rattle.dap_http.specs.Frames.{framed}
 use Rattle.dap_http.specs.Texts.{description_of, head_text}
-use Rattle.dap_server.specs.declared.served.Ending.{Ending}
-use Rattle.dap_server.specs.declared.served.Ending.TheVariants.{Broken, Closed, Gone, ReadFault, WriteFault}
+use Rattle.dap_server.specs.declared.served.Ending.TheVariants.{Closed}
 use Rattle.dap_server.specs.declared.served.Served.{Served}
 use Rattle.soak.specs.Asked.{constraint_text, file_name, request, target}
 use Rattle.soak.specs.File.{soak_bytes}

@@ -1,14 +1,13 @@
 -- The header of the generated file.
-use Rattle.std.proofs.Common.{◌≡◌, ℕ, zero, suc, ◌+◌, ◌*◌, ◌-◌, ◌^◌, ◌<◌, ◌≤◌, eqb, ltb, Bool, true, false, List, [], ◌∷◌, ◌++◌, length, Option, Some, None, Result, Ok, Err, refl, sym, ap, subst, ◌∙◌, arith, ◌&&◌, not, length-append, take}
-use Rattle.std.specs.Prelude.{codes, nat_lt, ◌==◌}
+use Rattle.std.proofs.Common.{◌≡◌, ℕ, zero, suc, ◌+◌, ◌*◌, ◌-◌, ◌^◌, ◌≤◌, eqb, ltb, Bool, true, false, List, [], ◌∷◌, ◌++◌, length, None, Ok, refl, sym, ap, subst, ◌∙◌, arith, ◌&&◌, not, length-append, take}
+use Rattle.std.specs.Prelude.{codes}
 use Rattle.std.specs.List.{list_all, flat_map, position_from}
 use Rattle.std.proofs.Math.Seq.{take-append-add}
-use Rattle.std.specs.Int.{to_be_bytes, w32}
 use Rattle.std.proofs.lemmas.Bool.{lt-ltb}
 use Rattle.std.proofs.lemmas.Bool.Decides.{nat_tests}
-use Rattle.netcdf_source.specs.Fields.{Ends, Judged}
-use Rattle.netcdf_source.specs.Grammar.{HeaderTree, Listed, VariableTree, contents, header_fields, in_turn, records_fault, tag_fault, count_fault, name_fault, repeat_fault, length_fault, type_fault, rank_fault, dimension_fault, size_fault, part_fault, begin_fault, dimension_fields, attribute_fields, id_fields, variable_fields}
-use Rattle.netcdf_source.specs.Header.{IsHeader, Stands, magic}
+use Rattle.netcdf_source.specs.Fields.{Ends}
+use Rattle.netcdf_source.specs.Grammar.{HeaderTree, VariableTree, header_fields, in_turn, records_fault, tag_fault, count_fault, name_fault, repeat_fault, length_fault, type_fault, rank_fault, dimension_fault, size_fault, part_fault, begin_fault, dimension_fields, attribute_fields, id_fields, variable_fields}
+use Rattle.netcdf_source.specs.Header.{Stands}
 use Rattle.netcdf_source.specs.Parts.{length_at, part, past_end, record_size, shares, end_of, is_past, is_record}
 use Rattle.netcdf_source.specs.Types.{size_of}
 use Rattle.netcdf_source.specs.declared.external_type.ExternalType.{ExternalType}

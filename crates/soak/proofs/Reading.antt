@@ -1,18 +1,17 @@
 -- The body of what the constraint leaves is one that is read.
-use Rattle.std.proofs.Common.{◌≡◌, ◌≢◌, ℕ, zero, suc, ◌+◌, ◌-◌, ◌*◌, ◌/◌, ◌%◌, ◌^◌, ◌<◌, ◌≤◌, Bool, true, false, List, [], ◌∷◌, ◌++◌, length, refl, sym, ap, subst, ◌∙◌, arith, Some, None, Ok, All, length-append, length-take, sum_by}
+use Rattle.std.proofs.Common.{◌≡◌, ℕ, zero, suc, ◌+◌, ◌-◌, ◌*◌, ◌/◌, ◌%◌, ◌^◌, ◌<◌, ◌≤◌, Bool, true, false, List, [], ◌∷◌, ◌++◌, length, refl, ap, subst, ◌∙◌, arith, All, length-append, length-take}
 use Rattle.std.specs.Prelude.{codes, if◌then◌else◌, nat_lt, take}
 use Rattle.std.specs.Int.{byte_at, bytes_high_first, to_be_bytes, w16, w32}
 use Rattle.std.specs.List.{flat_map, list_all, range_with_len}
 use Rattle.std.proofs.lemmas.Bool.{and_parts, ltb-true}
 use Rattle.std.proofs.Math.Nat.{mod-lt, mul-add-mod_self_right}
 use Rattle.std.proofs.lemmas.List.Elements.{All-append, All-cons, All-nil}
-use Rattle.dap_types.specs.Limits.{body_limit}
-use Rattle.dap_types.specs.Model.{Dataset, Tree}
-use Rattle.dap_types.specs.WellFormed.{IsWellFormed, elements_of, leaves_of}
+use Rattle.dap_types.specs.Model.{Tree}
+use Rattle.dap_types.specs.WellFormed.{IsWellFormed}
 use Rattle.dap_types.specs.declared.declarations.BaseType.TheVariants.{Int16, Int32}
-use Rattle.dap_model.specs.Body.{IsBody, body, too_large}
+use Rattle.dap_model.specs.Body.{too_large}
 use Rattle.dap_model.specs.Dds.{dds}
-use Rattle.dap_model.specs.Filter.{SuitsAll, constrained, constrained_trees}
+use Rattle.dap_model.specs.Filter.{SuitsAll}
 use Rattle.dap_model.specs.Fits.{FitsAll, values_in}
 use Rattle.dap_model.specs.Grammar.{HasWords}
 use Rattle.dap_model.specs.Rows.{kept}
@@ -32,11 +31,11 @@ use Rattle.netcdf_source.proofs.HeaderNames.{dataset_has_words}
 use Rattle.netcdf_source.proofs.Joined.{dataset_is_well_formed}
 use Rattle.sequence_select.specs.Selections.{selections}
 use Rattle.soak.specs.Asked.{file_name, soak_constraint}
-use Rattle.soak.specs.Datasets.{over, soak_left}
+use Rattle.soak.specs.Datasets.{soak_left}
 use Rattle.soak.specs.File.{bytes_at, described, header, soak_bytes, state, value_bytes, values, word}
 use Rattle.soak.specs.Header.{soak_contents}
 use Rattle.soak.specs.Laws.{BytesAreCounted, IsRead}
-use Rattle.soak.specs.Numbers.{left, numbers, soak_body, stored}
+use Rattle.soak.specs.Numbers.{left, soak_body, stored}
 use Rattle.soak.proofs.Headers.{header_is}
 use Rattle.soak.proofs.Leaving.{dataset-is, no-cause}
 use Rattle.soak.proofs.Serving.{dds-most, elements_are, left-dataset, small}

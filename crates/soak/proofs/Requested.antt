@@ -1,14 +1,13 @@
 -- The request that is sent is read as the head that it is, and its target as what it asks for.
-use Rattle.std.proofs.Common.{◌≡◌, ℕ, zero, suc, ◌+◌, ◌-◌, ◌*◌, ◌/◌, ◌^◌, ◌<◌, ◌≤◌, Bool, true, false, List, [], ◌∷◌, ◌++◌, length, refl, sym, ap, subst, ◌∙◌, arith, eqb, ltb, leb, not, rules, None, Some, append_assoc, append-nil, length-append}
-use Rattle.std.specs.Prelude.{codes, IsTrue, All, nat_le, nat_lt, ◌||◌, ◌&&◌}
-use Rattle.std.specs.Char.{is_ascii_alphanumeric}
+use Rattle.std.proofs.Common.{◌≡◌, ℕ, zero, suc, ◌+◌, ◌-◌, ◌*◌, ◌/◌, ◌<◌, ◌≤◌, Bool, true, false, List, [], ◌∷◌, ◌++◌, length, refl, sym, ap, ◌∙◌, arith, eqb, ltb, leb, not, Some, append_assoc, append-nil, length-append}
+use Rattle.std.specs.Prelude.{codes, IsTrue, All, nat_le, nat_lt, ◌&&◌}
 use Rattle.std.specs.Fmt.{decimal}
 use Rattle.std.specs.Fmt as fmt
-use Rattle.std.specs.List.{list_all, flat_map, list_any}
+use Rattle.std.specs.List.{list_all}
 use Rattle.std.proofs.lemmas.Bool.{and_parts, ltb-true}
 use Rattle.std.proofs.lemmas.Bool.Decides.{nat_tests}
 use Rattle.std.proofs.lemmas.Grind.{flat_map-append}
-use Rattle.std.proofs.lemmas.Fmt.{decimal_is_IsNumeral, digits_decimal, digits_value-decimal, length-decimal-le}
+use Rattle.std.proofs.lemmas.Fmt.{digits_decimal, length-decimal-le}
 use Rattle.std.proofs.lemmas.List.Elements.{All-cons, All-nil}
 use Rattle.std.proofs.lemmas.List.Sums.{AllPass-from_list_all}
 use Rattle.std.proofs.lemmas.Str.{IsUtf8-from_ascii}
@@ -16,9 +15,9 @@ use Rattle.std.specs.Str.{IsAscii}
 use Rattle.httparse.specs.Grammar.{AllPass, Field, IsField, IsRequestHead, IsToken, RequestHead, crlf, is_token_byte, is_uri_byte, is_value_byte, print_request, print_section}
 use Rattle.percent_encoding.specs.Percent.{percent_decode}
 use Rattle.dap_http.specs.Requests.{FirstRequest}
-use Rattle.dap_http.specs.Targets.{Asked, is_name, is_target_long, target_of}
+use Rattle.dap_http.specs.Targets.{is_name, is_target_long, target_of}
 use Rattle.dap_http.specs.Texts.{close_line, escaped, escaped_byte, host_lines, is_plain, request_text}
-use Rattle.dap_http.specs.Urls.{UrlParts, url_of}
+use Rattle.dap_http.specs.Urls.{url_of}
 use Rattle.dap_http.specs.declared.kind.Kind.TheVariants.{Dods}
 use Rattle.viable.specs.Prefix.{is_byte}
 use Rattle.constraint_parse.specs.Language.{is_digit}

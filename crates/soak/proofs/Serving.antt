@@ -1,7 +1,6 @@
 -- What is asked of the generated file is served.
-use Rattle.std.proofs.Common.{◌≡◌, ℕ, ◌+◌, ◌-◌, ◌*◌, ◌/◌, ◌<◌, ◌≤◌, Bool, true, false, List, [], ◌∷◌, ◌++◌, length, refl, sym, ap, subst, ◌∙◌, arith, leb, ltb, Some, None, Ok, Err, inl, sum_by, option_map, length-append}
+use Rattle.std.proofs.Common.{◌≡◌, ℕ, ◌+◌, ◌-◌, ◌*◌, ◌/◌, ◌≤◌, false, length, refl, sym, ap, ◌∙◌, arith, ltb, Some, None, Ok, inl, sum_by, option_map, length-append}
 use Rattle.std.proofs.lemmas.Bool.Decides.{nat_tests}
-use Rattle.dap_types.specs.Model.{Dataset}
 use Rattle.dap_types.specs.WellFormed.{elements_of, leaves_of}
 use Rattle.dap_model.specs.Body.{too_large}
 use Rattle.dap_model.specs.Dds.{array_text, closing, dds, line}
@@ -12,16 +11,16 @@ use Rattle.dap_model.specs.Filter.{constrained}
 use Rattle.grid_projection.specs.Marks.{marks}
 use Rattle.grid_projection.specs.Resolved.{cause}
 use Rattle.dap_errors.specs.declared.cause.Cause.TheVariants.{NoFile}
-use Rattle.dap_server.specs.Files.{Files, IsStored, Stored, form_of, netcdf}
-use Rattle.dap_server.specs.Results.{File, Opens, file_named}
+use Rattle.dap_server.specs.Files.{Files, netcdf}
+use Rattle.dap_server.specs.Results.{File, Opens}
 use Rattle.dap_server.specs.Steps.{found_or}
 use Rattle.dap_server.proofs.Accepted.{accepted_is_served}
 use Rattle.soak.specs.Asked.{constraint_text, file_name, soak_constraint, target}
-use Rattle.soak.specs.Datasets.{soak_dataset, soak_left}
+use Rattle.soak.specs.Datasets.{soak_left}
 use Rattle.soak.specs.File.{soak_bytes}
 use Rattle.soak.specs.Header.{soak_contents}
 use Rattle.soak.specs.Laws.{ElementsAreCounted, ElementsAreThese, IsServed}
-use Rattle.soak.specs.Numbers.{left, numbers, stored}
+use Rattle.soak.specs.Numbers.{left, stored}
 use Rattle.soak.proofs.Headers.{header_is}
 use Rattle.soak.proofs.Leaving.{dataset-is, left-is, no-cause}
 use Rattle.soak.proofs.Requested.{asked}

@@ -1,7 +1,7 @@
 -- What is read of the reply.
-use Rattle.std.proofs.Common.{◌≡◌, ℕ, ◌+◌, ◌-◌, ◌*◌, ◌/◌, ◌%◌, ◌^◌, ◌≤◌, Option, inl, inr, Bool, true, false, List, [], ◌++◌, length, refl, sym, ap, subst, ◌∙◌, arith, Some, None, append-nil, length-append, lit≤}
+use Rattle.std.proofs.Common.{◌≡◌, ℕ, ◌+◌, ◌-◌, ◌*◌, ◌/◌, ◌%◌, ◌^◌, ◌≤◌, Option, inl, Bool, true, List, [], ◌++◌, length, refl, sym, ap, subst, ◌∙◌, arith, Some, None, append-nil, length-append, lit≤}
 use Rattle.std.specs.Io.KnownBytes.{Appends, Consumes}
-use Rattle.std.specs.Prelude.{IsTrue, codes, sum}
+use Rattle.std.specs.Prelude.{IsTrue, sum}
 use Rattle.std.proofs.lemmas.List.Sums.{AllPass-from_list_all}
 use Rattle.httparse.specs.Grammar.{is_value_byte}
 use Rattle.dap_types.specs.Model.{Dataset, Tree}
@@ -15,7 +15,6 @@ use Rattle.dap_http.proofs.Deliveries.{delivery-more, one-delivery}
 use Rattle.dap_http.proofs.FramedWhole.{framed-whole}
 use Rattle.dap_client.specs.Outcomes.{outcome_of}
 use Rattle.dap_client.specs.Verdict.{Verdict, IsVerdict, dods_form, good}
-use Rattle.dap_client.specs.declared.outcome.Outcome.{Outcome}
 use Rattle.dap_client.specs.declared.outcome.Outcome.TheVariants.{Complete}
 use Rattle.dap_client.proofs.Bodies.{body_good}
 use Rattle.dap_client.proofs.OneVerdict.{one_verdict}

@@ -1,5 +1,5 @@
 -- The text of the constraint spells it.
-use Rattle.std.proofs.Common.{◌≡◌, ℕ, ◌+◌, ◌-◌, ◌*◌, ◌^◌, ◌<◌, ◌≤◌, Bool, true, false, List, [], ◌∷◌, ◌++◌, length, refl, sym, ap, subst, ◌∙◌, arith, ltb, rules, None, Some}
+use Rattle.std.proofs.Common.{◌≡◌, ℕ, ◌-◌, ◌^◌, ◌<◌, ◌≤◌, true, List, [], ◌∷◌, length, refl, sym, ap, subst, ◌∙◌, arith, ltb, rules, None, Some}
 use Rattle.std.specs.Prelude.{codes, pos}
 use Rattle.std.specs.Fmt.{decimal}
 use Rattle.std.specs.List.{list_all, flat_map}
@@ -8,7 +8,7 @@ use Rattle.std.proofs.lemmas.Fmt.{decimal_is_IsNumeral, digits_decimal, digits_v
 use Rattle.std.proofs.lemmas.Str.Parse.{IsNumeralModel, numerals_by_fold}
 use Rattle.dap_types.specs.Names.{constraint_id}
 use Rattle.viable.specs.Runs.{is_run}
-use Rattle.constraint_parse.specs.Language.{ConstraintTree, IsSpaced, IsTextOf, SlabTree, StepTree, Token, constraint_tokens, is_digit, is_token, path as steps, range, some_items, strided, token_bytes}
+use Rattle.constraint_parse.specs.Language.{ConstraintTree, IsSpaced, IsTextOf, Token, constraint_tokens, is_digit, is_token, path as steps, range, some_items, strided, token_bytes}
 use Rattle.constraint_parse.specs.Values as values
 use Rattle.constraint_parse.specs.Values.{Spells, constraint_value}
 use Rattle.constraint_parse.specs.declared.constraint.Constraint.{Constraint}

@@ -1,13 +1,13 @@
 -- Fields that are spelled one after the other, and have no fault, stand.
-use Rattle.std.proofs.Common.{◌≡◌, ℕ, ◌+◌, ◌<◌, inr, Bool, true, false, ◌&&◌, List, [], ◌∷◌, ◌++◌, length, Option, Some, None, Result, Ok, Err, MatchOption, refl, sym, ap, subst, ◌∙◌, arith, append_assoc, length-append}
+use Rattle.std.proofs.Common.{◌≡◌, ℕ, ◌+◌, inr, Bool, true, ◌&&◌, List, [], ◌∷◌, ◌++◌, length, Option, Some, None, Result, Ok, Err, MatchOption, refl, ap, ◌∙◌, append_assoc, length-append}
 use Rattle.std.specs.Prelude.{nat_lt, ◌==◌, is_none}
 use Rattle.std.specs.List.{list_all, flat_map}
 use Rattle.std.proofs.lemmas.Bool.{ltb-true, eqb-true, and_parts}
 use Rattle.std.proofs.lemmas.List.{length-replicate}
-use Rattle.netcdf_source.specs.Fields.{Ends, Fault, Field, Judged, Spells, bad, failure, field_len, number, run, streaming}
+use Rattle.netcdf_source.specs.Fields.{Ends, Fault, Field, Judged, Spells, failure, number, run}
 use Rattle.netcdf_source.specs.Versions.{limit_of, number_bytes}
 use Rattle.netcdf_source.specs.declared.stop.Failure.{Failure}
-use Rattle.dap_model.specs.Xdr.{fill, padded, zeros}
+use Rattle.dap_model.specs.Xdr.{fill, zeros}
 
 -- a field with zero bytes as padding
 abbrev pub field_spelling : Field → List ℕ

@@ -1,5 +1,5 @@
 -- The dataset of the generated file, and what the constraint leaves of it, written out.
-use Rattle.std.specs.Prelude.{ℕ, ◌+◌, ◌-◌, ◌*◌, ◌/◌, List, [], ◌∷◌, Some, codes}
+use Rattle.std.specs.Prelude.{ℕ, ◌+◌, ◌/◌, List, [], ◌∷◌, Some, codes}
 use Rattle.dap_types.specs.Model.{Dataset, array, member, no_members}
 use Rattle.dap_types.specs.declared.declarations.ArrayDecl.{ArrayDecl}
 use Rattle.dap_types.specs.declared.declarations.BaseType.{BaseType}

@@ -1,6 +1,6 @@
 -- The numbers that are said of the generated file: of what the constraint leaves of it, of its data response,
 -- and of what is shown of that.
-use Rattle.std.specs.Prelude.{◌≡◌, ℕ, ◌-◌, ◌%◌, ◌^◌, List, ◌++◌, length, sum, sum_by, codes}
+use Rattle.std.specs.Prelude.{ℕ, ◌-◌, ◌%◌, ◌^◌, List, ◌++◌, length, sum, sum_by, codes}
 use Rattle.std.specs.Fmt.{decimal}
 use Rattle.dap_types.specs.WellFormed.{elements_of, leaves_of}
 use Rattle.dap_model.specs.Body.{body}

@@ -1,19 +1,19 @@
 -- The variable with values that is the first behind another.
-use Rattle.std.proofs.Common.{◌≡◌, ℕ, zero, suc, ◌+◌, ◌-◌, ◌<◌, ◌≤◌, ◌^◌, Bool, true, false, MatchBool, List, [], ◌∷◌, ◌++◌, length, length-append, length-drop, drop, drop-cons, take, get_or, codes, Option, Some, None, option_map, slice_get, refl, ap, ◌∙◌, sym, subst, arith, append_assoc, append-nil}
+use Rattle.std.proofs.Common.{◌≡◌, ℕ, suc, ◌+◌, ◌-◌, ◌<◌, ◌≤◌, ◌^◌, Bool, true, false, MatchBool, List, [], ◌∷◌, ◌++◌, length, length-append, length-drop, drop, drop-cons, take, get_or, codes, Option, Some, None, option_map, slice_get, refl, ap, ◌∙◌, sym, subst, arith, append_assoc, append-nil}
 use Rattle.std.proofs.Math.Seq.{take-append_seam, get_or-append_seam}
 use Rattle.std.proofs.lemmas.List.{drop-drop, drop_all}
 use Rattle.std.proofs.lemmas.Option.{slice_get-get_or}
 use Rattle.dap_types.proofs.Views.{members-here}
-use Rattle.dap_types.specs.Model.{Member, scalar, array, structure, grid, sequence, Members, no_members, member}
+use Rattle.dap_types.specs.Model.{Member, scalar, array, structure, grid, sequence, Members}
 use Rattle.dap_types.specs.View.{member_view, members_view}
 use Rattle.dap_types.specs.declared.declarations.ArrayDecl.{ArrayDecl}
 use Rattle.dap_types.specs.declared.declarations.Column.{Column}
 use Rattle.dap_types.specs.declared.declarations.Decl.{Decl}
-use Rattle.xdr_fields.specs.Wants.{Want, wants_all, wants_of_array, wants_of_arrays}
+use Rattle.xdr_fields.specs.Wants.{wants_all, wants_of_arrays}
 use Rattle.xdr_decode.proofs.Entering.{at_room, start_followed}
 use Rattle.xdr_decode.proofs.Rooms.{grid_room, many, parts_room, room_from}
 use Rattle.xdr_decode.proofs.Spots.{from-drop, inside, past, scalar_alone, array_alone, sequence_alone}
-use Rattle.xdr_decode.specs.inner.Places.{AreEmpty, HasRoom, HaveRoom, IsBehind, IsBehindIn, IsEntered, IsLast, IsLastIn, Spot, alone, followed, from_start, members_from, of_grid, spot, spot_first, spot_of}
+use Rattle.xdr_decode.specs.inner.Places.{AreEmpty, HasRoom, HaveRoom, IsBehind, IsBehindIn, IsEntered, IsLast, IsLastIn, Spot, followed, from_start, members_from, of_grid, spot, spot_first, spot_of}
 
 value_or : {X : Type 0} → X → Option X → X
 value_or d None = d

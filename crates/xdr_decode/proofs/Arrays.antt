@@ -1,12 +1,11 @@
 -- Arrays behind their counts (DAP 2.0, arrays).
-use Rattle.std.proofs.Common.{◌≡◌, ℕ, ◌+◌, ◌<◌, ◌^◌, min, List, [], ◌∷◌, ◌++◌, length, map, inl, inr, refl, ap, ◌∙◌, sym, subst, arith, append_assoc, append-nil}
-use Rattle.std.specs.List.{flat_map}
+use Rattle.std.proofs.Common.{◌≡◌, ℕ, ◌+◌, ◌<◌, ◌^◌, List, [], ◌∷◌, ◌++◌, length, map, refl, ap, ◌∙◌, sym, subst, arith, append-nil}
 use Rattle.dap_types.specs.declared.declarations.BaseType.{BaseType}
 use Rattle.dap_types.specs.declared.declarations.BaseType.TheVariants.{Byte, Int16, UInt16, Int32, UInt32, Float32, Float64, Text, Url}
 use Rattle.dap_types.specs.declared.values.Value.{Value}
 use Rattle.dap_model.specs.Fits.{IsOf}
 use Rattle.dap_model.specs.Laws.{IsNumber}
-use Rattle.dap_model.specs.Xdr.{Field, count, fill, filler, packed, array_fields, SpellsField, SpellsFields}
+use Rattle.dap_model.specs.Xdr.{count, fill, filler, packed, array_fields, SpellsField}
 use Rattle.std.specs.Prelude.{All, Result, Ok, Err, IfOk, IfErr}
 use Rattle.xdr_fields.proofs.Judged.{no_steps, one_step, steps_join}
 use Rattle.xdr_fields.specs.Wants.{Want, a_count, a_filler, IsTextType, Steps, array_wants, elements_left}

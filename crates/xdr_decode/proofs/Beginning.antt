@@ -9,8 +9,8 @@ use Rattle.dap_types.specs.WellFormed.{IsWellFormed}
 use Rattle.xdr_fields.specs.Wants.{Want, a_count, a_value, a_byte, a_filler, a_text, a_padding, rows, Steps, array_wants, room, said, says_next, wants, wants_all, wants_of, wants_of_array, wants_of_arrays}
 use Rattle.dap_model.specs.Xdr.{SpellsFields}
 use Rattle.xdr_fields.proofs.Judged.{no_steps}
-use Rattle.xdr_decode.specs.After.{Reads, Stands, StandsAfter, dataset_of, place_of, start_of}
-use Rattle.xdr_decode.specs.inner.Places.{HaveMarks, HaveRoom, IsOwn, IsPlaced, wants_left}
+use Rattle.xdr_decode.specs.After.{Reads, Stands, StandsAfter, dataset_of}
+use Rattle.xdr_decode.specs.inner.Places.{HaveMarks, IsOwn, IsPlaced, wants_left}
 use Rattle.xdr_decode.specs.declared.decoder.Decoder.{Decoder}
 use Rattle.xdr_decode.specs.declared.decoder.State.TheVariants as state
 use Rattle.xdr_decode.specs.declared.place.Place.{Place}

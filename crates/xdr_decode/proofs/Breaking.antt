@@ -1,20 +1,17 @@
 -- What may be shown where the sink fails: a front of the lines of the bytes that came.
-use Rattle.std.proofs.Common.{◌≡◌, ℕ, zero, suc, ◌+◌, ◌-◌, ◌<◌, ◌≤◌, ◌⊎◌, List, [], ◌∷◌, ◌++◌, length, length-append, take, drop, take-append-drop, All, Some, None, inl, inr, ⊎_elim, refl, ap, ◌∙◌, sym, subst, arith, append_assoc, append-nil}
+use Rattle.std.proofs.Common.{◌≡◌, ℕ, ◌+◌, ◌-◌, ◌<◌, ◌≤◌, ◌⊎◌, List, [], ◌∷◌, ◌++◌, length, take, drop, take-append-drop, All, Some, None, inl, inr, ⊎_elim, refl, ap, ◌∙◌, sym, subst, arith, append_assoc, append-nil}
 use Rattle.std.proofs.lemmas.Grind.{flat_map-append}
-use Rattle.std.proofs.lemmas.List.{length-take, length-drop}
-use Rattle.std.proofs.lemmas.List.Elements.{All-append}
 use Rattle.std.specs.List.{flat_map}
 use Rattle.dap_types.specs.Model.{Dataset, Tree}
 use Rattle.dap_model.proofs.Values.{all_back}
-use Rattle.dap_model.specs.Received.{Fault, EndsAt, IsBadField, IsFront, IsPrefix}
+use Rattle.dap_model.specs.Received.{Fault, EndsAt, IsBadField, IsPrefix}
 use Rattle.dap_model.specs.Shown.{shown_byte}
-use Rattle.dap_model.specs.Xdr as xdr
 use Rattle.dap_model.specs.Xdr.{Field, text, field_bytes, SpellsField, SpellsFields}
 use Rattle.xdr_fields.proofs.Fronts.{IsPart, shows}
 use Rattle.xdr_fields.proofs.Growing.{prefix_trans, said_join}
-use Rattle.xdr_fields.proofs.Judged.{ended_at, is_bad, judge, no_steps, one_step, steps_join}
-use Rattle.xdr_fields.specs.inner.Reached.{Leads, IsEnded, IsCut, IsSpoilt}
-use Rattle.xdr_fields.specs.Wants.{Want, a_count, a_value, a_byte, a_filler, a_text, a_padding, rows, Goes, Steps, becomes, fault_in, room, said, says_next, says_part, wants_of}
+use Rattle.xdr_fields.proofs.Judged.{ended_at, is_bad, judge, steps_join}
+use Rattle.xdr_fields.specs.inner.Reached.{IsEnded, IsCut, IsSpoilt}
+use Rattle.xdr_fields.specs.Wants.{Want, a_count, a_value, a_byte, a_filler, a_text, a_padding, rows, Steps, becomes, fault_in, said, says_next, wants_of}
 use Rattle.xdr_decode.proofs.Moving.{same_first, same_rest}
 use Rattle.xdr_decode.proofs.Turning.{faulty_wide}
 use Rattle.xdr_decode.specs.Verdict.{kind_of}

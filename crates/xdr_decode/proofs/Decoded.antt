@@ -1,19 +1,17 @@
 -- From the parts that were read to the verdict on a body.
-use Rattle.std.proofs.Common.{◌≡◌, ℕ, ◌+◌, ◌-◌, ◌<◌, ◌≤◌, min, ◌⊎◌, inl, inr, List, [], ◌∷◌, ◌++◌, length, take, drop, map, Option, Some, None, Result, Ok, Err, IfOk, IfErr, codes, refl, ap, ◌∙◌, sym, subst, arith, append_assoc, append-nil, length-append, length-take, length-drop, take-append-drop}
+use Rattle.std.proofs.Common.{◌≡◌, ℕ, ◌+◌, ◌-◌, ◌<◌, ◌≤◌, inl, inr, List, [], ◌∷◌, ◌++◌, length, take, drop, map, Result, Ok, Err, IfOk, IfErr, codes, refl, ap, ◌∙◌, sym, subst, arith, append_assoc, append-nil, length-append, length-take, length-drop, take-append-drop}
 use Rattle.std.proofs.lemmas.List.{take-take, take_all}
-use Rattle.std.specs.Bool.{⊤}
 use Rattle.dap_types.specs.Model.{Dataset, Tree}
 use Rattle.dap_types.specs.View.{dataset_view, tree_view}
-use Rattle.dap_types.specs.declared.declarations.Dataset as code
-use Rattle.dap_model.specs.Body.{IsBody, IsHead}
+use Rattle.dap_model.specs.Body.{IsBody}
 use Rattle.dap_model.specs.Fits.{FitsAll}
 use Rattle.dap_model.specs.Grammar.{DdsOf}
 use Rattle.dap_model.specs.Xdr.{Spells, SpellsFields, fields_all}
-use Rattle.dds_text.specs.Reading.{IsBadText, IsDone, IsEnded, IsUnfinished, limit}
+use Rattle.dds_text.specs.Reading.{IsBadText, IsDone, IsUnfinished, limit}
 use Rattle.xdr_fields.proofs.Judged.{is_bad, is_open}
 use Rattle.xdr_fields.specs.Wants.{wants_of}
 use Rattle.xdr_decode.proofs.OneVerdict.{good_body, small_first}
-use Rattle.xdr_decode.specs.Verdict.{EndsInDataLine, HasHeadOf, HasMore, HasText, IsBadDataLine, IsDataLine, IsGood, IsRefusal, IsVerdict, IsWrong, IsWrongIn, budget, good_of, kind_of}
+use Rattle.xdr_decode.specs.Verdict.{HasHeadOf, HasMore, HasText, IsBadDataLine, IsDataLine, IsGood, IsRefusal, IsVerdict, IsWrong, IsWrongIn, budget, good_of}
 use Rattle.xdr_decode.specs.declared.bad.Bad.{Bad}
 use Rattle.xdr_decode.specs.declared.bad.Bad.TheVariants.{BadDataLine, BadDds, Cut, TooLong, Trailing}
 use Rattle.xdr_decode.specs.declared.data_line.LineStop.TheVariants as line_stop

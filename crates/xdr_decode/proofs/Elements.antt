@@ -1,12 +1,12 @@
 -- The elements of arrays and the rows of Sequences, one after the other.
-use Rattle.std.proofs.Common.{◌≡◌, ℕ, zero, suc, ◌+◌, ◌-◌, ◌*◌, ◌<◌, ◌≤◌, List, [], ◌∷◌, ◌++◌, length, map, drop, get_or, All, inl, inr, refl, ap, ◌∙◌, sym, subst, arith, append_assoc, append-nil, MatchBool, Bool, true, false}
+use Rattle.std.proofs.Common.{◌≡◌, ℕ, zero, suc, ◌+◌, ◌-◌, ◌*◌, ◌<◌, List, [], ◌∷◌, ◌++◌, length, map, drop, get_or, All, inl, refl, ap, ◌∙◌, sym, subst, arith, append_assoc, append-nil, MatchBool, Bool, true, false}
 use Rattle.std.proofs.lemmas.Bool.{false≢true}
 use Rattle.std.proofs.lemmas.List.{length-map}
 use Rattle.std.proofs.lemmas.Grind.{flat_map-append}
 use Rattle.std.proofs.lemmas.List.Elements.{All-nil, All-push}
 use Rattle.std.specs.List.{AllZip, flat_map}
-use Rattle.dap_types.proofs.Views.{drop-here, items-trees_of, kids-Many, trees-push, view-Many, view-One}
-use Rattle.dap_types.specs.Model.{Tree, one, many, Trees, no_trees, tree, items, kids, trees_of, product}
+use Rattle.dap_types.proofs.Views.{items-trees_of, kids-Many, trees-push, view-Many, view-One}
+use Rattle.dap_types.specs.Model.{Tree, many, kids, trees_of, product}
 use Rattle.dap_types.specs.View.{tree_view, trees_view}
 use Rattle.dap_types.specs.declared.declarations.BaseType.{BaseType}
 use Rattle.dap_types.specs.declared.declarations.Column.{Column}
@@ -16,7 +16,7 @@ use Rattle.dap_types.specs.declared.values.Tree.{One, Many}
 use Rattle.dap_types.specs.declared.values.Value.{Value}
 use Rattle.dap_model.proofs.Values.{length-values_in, values_of_fit}
 use Rattle.dap_model.specs.Fits.{IsOf, IsMany, FitsArray, FitsRow, FitsScalar, values_in, values_in_all}
-use Rattle.dap_model.specs.Xdr.{Field, mark, cell_fields, row_fields}
+use Rattle.dap_model.specs.Xdr.{mark, cell_fields, row_fields}
 use Rattle.xdr_fields.proofs.Judged.{no_steps, one_step}
 use Rattle.xdr_fields.specs.Wants.{Want, Steps, cell_wants, elements_left, index_texts, row_path, rows}
 use Rattle.xdr_decode.proofs.Leading.{elements_lead, rows_lead}

@@ -1,8 +1,8 @@
 -- The first variable with values.
-use Rattle.std.proofs.Common.{◌≡◌, ℕ, zero, suc, ◌+◌, ◌-◌, ◌%◌, ◌<◌, ◌≤◌, ◌^◌, Bool, true, false, MatchBool, List, [], ◌∷◌, ◌++◌, length, length-append, drop, take, get_or, codes, Option, Some, None, option_map, refl, ap, ◌∙◌, sym, subst, arith, append_assoc, append-nil}
+use Rattle.std.proofs.Common.{◌≡◌, ℕ, ◌+◌, ◌-◌, ◌%◌, ◌<◌, ◌≤◌, ◌^◌, Bool, true, false, MatchBool, List, [], ◌∷◌, ◌++◌, length, length-append, drop, take, get_or, codes, option_map, refl, ap, ◌∙◌, sym, subst, arith, append_assoc, append-nil}
 use Rattle.std.proofs.Math.Seq.{take-append_seam}
 use Rattle.dap_types.proofs.Views.{members-here, members-end}
-use Rattle.dap_types.specs.Model.{Member, scalar, array, structure, grid, sequence, Members, no_members, member}
+use Rattle.dap_types.specs.Model.{Member, scalar, array, structure, grid, sequence, Members}
 use Rattle.dap_types.specs.View.{member_view, members_view}
 use Rattle.dap_types.specs.declared.declarations.ArrayDecl.{ArrayDecl}
 use Rattle.dap_types.specs.declared.declarations.Column.{Column}
@@ -10,7 +10,7 @@ use Rattle.dap_types.specs.declared.declarations.Decl.{Decl}
 use Rattle.xdr_fields.specs.Wants.{wants, wants_all, wants_of_array}
 use Rattle.xdr_decode.proofs.Rooms.{first_room, grid_room, inner_room, many, parts_room, room_from}
 use Rattle.xdr_decode.proofs.Spots.{from-drop}
-use Rattle.xdr_decode.specs.inner.Places.{AreEmpty, HasRoom, HaveRoom, IsEmpty, IsEntered, IsInside, Spot, followed, from_start, members_from, of_grid, spot_first, spot_of, stage_wants}
+use Rattle.xdr_decode.specs.inner.Places.{AreEmpty, HasRoom, HaveRoom, IsEmpty, IsEntered, IsInside, Spot, followed, from_start, of_grid, spot_first, spot_of, stage_wants}
 use Rattle.xdr_decode.specs.declared.place.Stage.TheVariants as stage
 
 pub start_followed : (above : List ℕ) (ms : Members) (s : Spot) → from_start (followed above ms s) ≡ from_start s ++ wants_all above ms

@@ -1,9 +1,7 @@
 -- Things that are read in turn, each with its own values.
-use Rattle.std.proofs.Common.{◌≡◌, ℕ, zero, suc, ◌+◌, ◌<◌, ◌≤◌, List, [], ◌∷◌, ◌++◌, length, take, drop, map, get_or, refl, ap, ◌∙◌, sym, subst, arith, append_assoc, append-nil}
-use Rattle.std.proofs.lemmas.Grind.{flat_map-append}
+use Rattle.std.proofs.Common.{◌≡◌, ℕ, zero, suc, ◌+◌, ◌<◌, ◌≤◌, List, [], ◌∷◌, ◌++◌, length, take, drop, get_or, ap, ◌∙◌, sym, subst, arith, append_assoc, append-nil}
 use Rattle.std.proofs.lemmas.List.{take_all, take_more}
 use Rattle.std.specs.List.{AllZip, flat_map}
-use Rattle.dap_types.proofs.Views.{drop-here}
 use Rattle.dap_types.specs.Model.{Tree}
 use Rattle.dap_model.specs.Xdr.{Field, in_turn}
 use Rattle.xdr_fields.proofs.Judged.{no_steps, steps_join}

@@ -1,24 +1,21 @@
 -- One field: what the code reads in its bytes, and what it refuses.
-use Rattle.std.proofs.Common.{◌≡◌, ◌≢◌, ℕ, ℤ, pos, negsuc, ◌+◌, ◌-◌, ◌%◌, ◌/◌, ◌^◌, ◌<◌, ◌≤◌, ◌≤ℤ◌, ◌<ℤ◌, neg_ℤ, List, [], ◌∷◌, length, replicate, min, Option, Some, None, Result, Ok, Err, IfOk, IfErr, inl, inr, ⊎_elim, refl, ap, ◌∙◌, sym, subst, arith, option_map}
+use Rattle.std.proofs.Common.{◌≡◌, ◌≢◌, ℕ, ℤ, pos, ◌%◌, ◌^◌, ◌<◌, ◌≤◌, List, [], ◌∷◌, length, replicate, Some, None, inl, inr, refl, ap, ◌∙◌, sym, subst, arith}
 use Rattle.std.proofs.lemmas.Int.{ints}
 use Rattle.std.specs.Int.{to_be_bytes, cast_unsigned, w32, w64}
 use mir.Val.{to_z, of_z}
 use Rattle.dap_types.specs.declared.declarations.BaseType.{BaseType}
-use Rattle.dap_types.specs.declared.declarations.BaseType.TheVariants.{Byte, Int16, UInt16, Int32, UInt32, Float32, Float64, Text, Url}
+use Rattle.dap_types.specs.declared.declarations.BaseType.TheVariants.{Float32, Float64}
 use Rattle.dap_types.specs.declared.values.Value.TheVariants as values
 use Rattle.dap_model.proofs.FieldKinds.{word_same}
 use Rattle.dap_model.proofs.Values.{whole_low, whole_high}
-use Rattle.dap_model.specs.Fits.{IsOf}
-use Rattle.dap_model.specs.Received.{Fault, bad_count, bad_word, bad_padding, wrong_mark}
-use Rattle.dap_model.specs.Xdr.{Field, count, number, packed, filler, size, text, padding, mark, word, zeros, field_bytes, SpellsField, fill}
-use Rattle.xdr_decode.specs.declared.bad.Bad.{Bad}
+use Rattle.dap_model.specs.Received.{bad_count, bad_word, bad_padding, wrong_mark}
+use Rattle.dap_model.specs.Xdr.{count, number, packed, filler, size, padding, mark, word, field_bytes}
 use Rattle.xdr_decode.specs.declared.bad.Bad.TheVariants as bad
 use Rattle.xdr_fields.proofs.Decided.{IsWholeType, whole_good, whole_bad, whole_type, count_none, size_none, number_none, text_fault, filler_zeros, padding_zeros, mark_none}
-use Rattle.xdr_fields.specs.Wants.{Want, a_count, a_value, a_byte, a_filler, a_text, a_padding, rows, IsTextType, Goes}
+use Rattle.xdr_fields.specs.Wants.{Want, a_count, a_value, a_byte, a_filler, a_padding, rows, IsTextType}
 use Rattle.xdr_fields.specs.inner.Words.{whole_in}
-use Rattle.xdr_decode.specs.inner.Asked.{Asks, Is, IsGood, IsFaulty}
+use Rattle.xdr_decode.specs.inner.Asked.{Asks, IsGood, IsFaulty}
 use Rattle.xdr_decode.specs.declared.field.Ask.TheVariants.{Count, Value, Packed, Filler, Padding, Mark}
-use Rattle.xdr_decode.specs.declared.field.Token.{Token}
 use Rattle.xdr_decode.specs.declared.field.Token.TheVariants as token
 
 pub count_good : (k bits : ℕ) (want : Want) → k ≡ bits → bits < 2 ^ 32 → Asks (Count k) want → IsGood want (word bits) token.Count

@@ -1,5 +1,5 @@
 -- The fields of values lead from what is to come of them to what stands behind them.
-use Rattle.std.proofs.Common.{◌≡◌, ℕ, zero, suc, ◌+◌, ◌^◌, ◌<◌, List, [], ◌∷◌, ◌++◌, length, All, inl, inr, refl, ap, ◌∙◌, sym, subst, arith, append_assoc, append-nil}
+use Rattle.std.proofs.Common.{◌≡◌, ℕ, ◌+◌, ◌^◌, ◌<◌, List, [], ◌∷◌, ◌++◌, length, All, inl, refl, sym, subst, arith, append_assoc, append-nil}
 use Rattle.std.specs.List.{AllZip, flat_map}
 use Rattle.dap_types.specs.Model.{Member, Members, Tree, kids, sizes}
 use Rattle.dap_types.specs.declared.declarations.ArrayDecl.{ArrayDecl}

@@ -1,12 +1,12 @@
 -- What is put of an element, part by part.
-use Rattle.std.proofs.Common.{◌≡◌, ℕ, zero, suc, ◌+◌, ◌-◌, ◌/◌, ◌%◌, ◌<◌, ◌≤◌, ◌^◌, ◌⊎◌, Bool, true, false, nat_lt, List, [], ◌∷◌, ◌++◌, length, drop, take, get_or, codes, min, map, Option, Some, None, option_map, slice_get, refl, ap, ◌∙◌, sym, subst, arith, append_assoc, append-nil, inl, inr, ⊎_elim}
+use Rattle.std.proofs.Common.{◌≡◌, ℕ, ◌+◌, ◌-◌, ◌/◌, ◌%◌, ◌<◌, ◌≤◌, ◌^◌, ◌⊎◌, Bool, true, false, nat_lt, List, [], ◌∷◌, ◌++◌, length, drop, get_or, codes, min, map, slice_get, refl, ap, ◌∙◌, sym, arith, inl, inr, ⊎_elim}
 use Rattle.std.proofs.Math.Nat.{div-eq_of_lt, mod-eq_of_lt}
 use Rattle.std.proofs.lemmas.Bool.{false≢true}
 use Rattle.std.proofs.lemmas.Bool.Decides.{nat_tests}
 use Rattle.std.specs.Option.{option_map_or}
 use Rattle.dap_model.specs.Shown.{index_text}
 use Rattle.dap_types.proofs.Views.{members-here, members-end}
-use Rattle.dap_types.specs.Model.{Member, scalar, array, structure, grid, sequence, Members, no_members, member, product, sizes}
+use Rattle.dap_types.specs.Model.{Member, scalar, array, structure, grid, sequence, Members, product}
 use Rattle.dap_types.specs.View.{member_view, members_view}
 use Rattle.dap_types.specs.declared.declarations.ArrayDecl.{ArrayDecl}
 use Rattle.dap_types.specs.declared.declarations.Decl.{Decl}
@@ -14,7 +14,6 @@ use Rattle.dap_types.specs.declared.declarations.Dim.{Dim}
 use Rattle.xdr_fields.specs.Wants.{index_texts}
 use Rattle.xdr_decode.proofs.Spots.{from-drop}
 use Rattle.xdr_decode.specs.inner.Lines.{array_text, cell_text, path_text, shown_token, text_first, text_in, token_text}
-use Rattle.xdr_decode.specs.inner.Places.{members_from}
 use Rattle.xdr_decode.specs.declared.field.Token.{Token}
 use Rattle.xdr_decode.specs.declared.field.Token.TheVariants as token
 use Rattle.xdr_decode.specs.declared.place.Stage.{Stage}

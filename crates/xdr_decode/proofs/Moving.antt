@@ -1,5 +1,5 @@
 -- How a place goes on behind a field.
-use Rattle.std.proofs.Common.{◌≡◌, ℕ, zero, suc, ◌+◌, ◌-◌, ◌<◌, ◌≤◌, ◌^◌, ◌==◌, if◌then◌else◌, Bool, true, false, MatchBool, List, [], ◌∷◌, ◌++◌, length, length-drop, drop, drop-cons, get_or, codes, Option, Some, None, option_map, slice_get, refl, ap, ◌∙◌, sym, subst, arith, append_assoc, append-nil}
+use Rattle.std.proofs.Common.{◌≡◌, ℕ, suc, ◌+◌, ◌-◌, ◌<◌, ◌≤◌, ◌^◌, ◌==◌, if◌then◌else◌, Bool, true, false, MatchBool, List, [], ◌∷◌, ◌++◌, length, length-drop, drop, codes, Some, None, slice_get, refl, ap, ◌∙◌, sym, subst, arith, append_assoc, append-nil}
 use Rattle.std.specs.Option.{option_map_or}
 use Rattle.std.proofs.lemmas.List.{drop-drop}
 use Rattle.dap_types.specs.Model.{Member, scalar, array, structure, grid, sequence, Members, no_members, member, sizes, product}
@@ -11,7 +11,7 @@ use Rattle.dap_types.specs.declared.declarations.Decl.{Decl}
 use Rattle.dap_types.specs.View.{members_view}
 use Rattle.dap_model.specs.Xdr as xdr
 use Rattle.dap_model.specs.Xdr.{Field, number, packed, filler, size, text, padding, mark}
-use Rattle.xdr_fields.specs.Wants.{Want, a_count, a_value, a_byte, a_filler, a_text, a_padding, rows, Goes, array_wants, becomes, cell_wants, elements_left, index_texts, row_path, values_left, wants_all}
+use Rattle.xdr_fields.specs.Wants.{Want, a_value, a_byte, a_filler, a_text, a_padding, rows, Goes, array_wants, becomes, cell_wants, elements_left, index_texts, row_path, wants_all}
 use Rattle.xdr_decode.proofs.Advancing.{GoesAll, mapped, some_same}
 use Rattle.xdr_decode.proofs.Asking.{leaf_array, next_none, next_some}
 use Rattle.xdr_decode.proofs.Rooms.{many}
@@ -19,7 +19,7 @@ use Rattle.xdr_decode.proofs.Spots.{scalar_alone, array_alone, sequence_alone}
 use Rattle.xdr_decode.specs.inner.Asked.{Is}
 use Rattle.xdr_decode.specs.inner.Leaves.{IsLeaf}
 use Rattle.xdr_decode.specs.inner.Moving.{IsSettled, Moves, text_of}
-use Rattle.xdr_decode.specs.inner.Places.{AreEmpty, HaveRoom, IsEntered, IsPlaced, IsStage, IsStageAt, IsStageOr, Spot, elements_wants, followed, from_start, members_from, of_grid, spot, spot_at, spot_first, spot_of, stage_wants, text_wants, wants_left}
+use Rattle.xdr_decode.specs.inner.Places.{AreEmpty, HaveRoom, IsEntered, IsPlaced, IsStage, IsStageAt, IsStageOr, Spot, elements_wants, followed, members_from, of_grid, spot, spot_at, spot_first, spot_of, stage_wants, text_wants, wants_left}
 use Rattle.xdr_decode.specs.declared.field.Token.{Token}
 use Rattle.xdr_decode.specs.declared.field.Token.TheVariants as token
 use Rattle.xdr_decode.specs.declared.path.Leaf.{Leaf}

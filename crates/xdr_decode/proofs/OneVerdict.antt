@@ -1,19 +1,18 @@
 -- There is one verdict on a body.
-use Rattle.std.proofs.Common.{◌≡◌, ℕ, zero, suc, ◌+◌, ◌-◌, ◌<◌, ◌≤◌, min, ◌⊎◌, inl, inr, ⊎_elim, List, [], ◌∷◌, ◌++◌, length, take, drop, map, Result, Ok, Err, IfOk, IfErr, codes, refl, ap, ◌∙◌, sym, subst, arith, append_assoc, append-nil, length-append, length-take, length-drop, take-append-drop}
+use Rattle.std.proofs.Common.{◌≡◌, ℕ, ◌+◌, ◌-◌, ◌<◌, ◌≤◌, ◌⊎◌, inl, inr, ⊎_elim, List, [], ◌∷◌, ◌++◌, length, take, drop, Result, Ok, Err, IfOk, IfErr, codes, refl, ap, ◌∙◌, sym, subst, arith, append_assoc, append-nil, length-append, length-take, length-drop}
 use Rattle.std.proofs.lemmas.Bool.{cases_lt}
-use Rattle.std.proofs.lemmas.List.{append_cancel_left, take-append-le, take-take, take_all}
+use Rattle.std.proofs.lemmas.List.{take-take, take_all}
 use Rattle.std.proofs.Math.Seq.{take-add, take-append_seam}
-use Rattle.std.specs.Bool.{⊤}
 use Rattle.dap_types.specs.Model.{Dataset, Tree}
 use Rattle.dap_model.proofs.OneBody.{one_head}
 use Rattle.dap_model.proofs.OneSpelling.{one_spelling}
 use Rattle.dap_model.proofs.OneVerdict.{bad_not_open, ended_not_bad, ended_not_open, one_bad}
-use Rattle.dap_model.specs.Body.{IsBody, IsHead}
+use Rattle.dap_model.specs.Body.{IsBody}
 use Rattle.dap_model.specs.Grammar.{DdsOf}
-use Rattle.dap_model.specs.Received.{EndsAt, Fault, IsBadField, IsOpen}
+use Rattle.dap_model.specs.Received.{EndsAt}
 use Rattle.dap_model.specs.Xdr.{Spells}
 use Rattle.dds_text.proofs.OneReading.{bad_not_unfinished, done_not_bad, done_not_unfinished, one_end, one_place}
-use Rattle.dds_text.specs.Reading.{IsBadText, IsDone, IsEnded, IsUnfinished, limit}
+use Rattle.dds_text.specs.Reading.{IsBadText, IsDone, IsUnfinished, limit}
 use Rattle.xdr_decode.proofs.Lined.{line_alone}
 use Rattle.xdr_decode.specs.Verdict.{EndsInDataLine, EndsInHead, Gives, HasHeadOf, HasMore, HasText, HasWrongValues, IsBadDataLine, IsBadLine, IsDataLine, IsGood, IsRefusal, IsRefused, IsTooLong, IsVerdict, IsWrong, IsWrongIn, Verdict, budget, good, good_of, kind_of, wrong}
 use Rattle.xdr_decode.specs.declared.bad.Bad.{Bad}

@@ -1,9 +1,8 @@
 -- The path that is put is that of the element that comes.
-use Rattle.std.proofs.Common.{◌≡◌, ℕ, zero, suc, ◌+◌, ◌-◌, ◌<◌, ◌≤◌, List, [], ◌∷◌, ◌++◌, length, length-drop, drop, codes, slice_get, Option, Some, None, option_map, refl, ap, ◌∙◌, sym, subst, arith, append_assoc, append-nil}
+use Rattle.std.proofs.Common.{◌≡◌, ℕ, zero, suc, ◌+◌, ◌-◌, ◌<◌, List, [], ◌∷◌, ◌++◌, length, length-drop, drop, codes, slice_get, Option, Some, None, refl, ap, ◌∙◌, sym, subst, arith, append_assoc}
 use Rattle.std.specs.Bool.{⊤}
 use Rattle.std.specs.Option.{option_map_or}
 use Rattle.dap_types.specs.Model.{Member, scalar, array, structure, grid, sequence, Members, no_members, member, sizes, product}
-use Rattle.dap_types.specs.declared.declarations.ArrayDecl.{ArrayDecl}
 use Rattle.dap_types.specs.declared.declarations.BaseType.{BaseType}
 use Rattle.dap_types.specs.declared.declarations.BaseType.TheVariants.{Byte, Int16, UInt16, Int32, UInt32, Float32, Float64, Text, Url}
 use Rattle.dap_types.specs.declared.declarations.Column.{Column}
@@ -11,14 +10,14 @@ use Rattle.dap_types.specs.declared.values.Value.{Value}
 use Rattle.dap_types.specs.declared.values.Value.TheVariants as values
 use Rattle.dap_model.specs.Shown.{index_text, shown_value}
 use Rattle.dap_model.specs.Xdr.{Field, number, packed, size, padding}
-use Rattle.xdr_fields.specs.Wants.{Want, a_count, a_value, a_byte, a_filler, a_text, a_padding, rows, Goes, array_wants, cell_wants, index_texts, row_path, says}
+use Rattle.xdr_fields.specs.Wants.{Want, a_count, a_value, a_byte, a_filler, a_padding, rows, Goes, array_wants, cell_wants, index_texts, row_path, says}
 use Rattle.xdr_decode.proofs.Advancing.{mapped, some_same}
 use Rattle.xdr_decode.proofs.Asking.{next_none, next_some}
 use Rattle.xdr_decode.proofs.Moving.{Some_left, element_want, elements_more, same_first, some_left}
 use Rattle.xdr_decode.proofs.Spots.{scalar_alone, array_alone, sequence_alone}
 use Rattle.xdr_decode.proofs.Turning.{later, no_string, padding_first}
 use Rattle.xdr_decode.specs.inner.Asked.{Asks, Is, IsElement}
-use Rattle.xdr_decode.specs.inner.Lines.{array_text, cell_text, column_text, path_text, stage_text, text_first, text_in, token_text}
+use Rattle.xdr_decode.specs.inner.Lines.{array_text, cell_text, path_text, text_first, text_in, token_text}
 use Rattle.xdr_decode.specs.inner.Places.{IsPlaced, IsStage, Spot, alone, elements_wants, followed, members_from, of_grid, spot, spot_at, spot_first, spot_of, stage_wants, wants_left}
 use Rattle.xdr_decode.specs.declared.field.Ask.{Ask}
 use Rattle.xdr_decode.specs.declared.field.Ask.TheVariants as ask

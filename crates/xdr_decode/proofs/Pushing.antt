@@ -1,33 +1,31 @@
 -- What a push says of the bytes that came.
-use Rattle.std.proofs.Common.{◌≡◌, ℕ, zero, suc, ◌+◌, ◌-◌, ◌^◌, ◌<◌, ◌≤◌, ◌⊎◌, List, [], ◌∷◌, ◌++◌, length, length-append, get_or, take, drop, take-append-drop, All, Option, Some, None, inl, inr, ⊎_elim, refl, ap, ◌∙◌, sym, subst, arith, append_assoc, append-nil}
+use Rattle.std.proofs.Common.{◌≡◌, ℕ, zero, suc, ◌+◌, ◌-◌, ◌^◌, ◌<◌, ◌≤◌, ◌⊎◌, List, [], ◌++◌, length, length-append, get_or, take, drop, take-append-drop, All, Option, Some, None, inl, inr, ⊎_elim, refl, ap, ◌∙◌, sym, subst, arith, append_assoc, append-nil}
 use Rattle.std.proofs.Math.Seq.{take-add}
 use Rattle.std.proofs.lemmas.List.{take-append-le, length-take, length-drop}
 use Rattle.std.proofs.lemmas.List.Elements.{All-append, All-from_get_or, All-take}
-use Rattle.std.specs.Bool.{⊤}
 use Rattle.std.specs.Io.KnownBytes.{Appends}
-use Rattle.dap_types.specs.Model.{Dataset, Tree}
+use Rattle.dap_types.specs.Model.{Dataset}
 use Rattle.dap_model.proofs.OneVerdict.{one_bad, bad_not_open, ended_not_bad, ended_not_open}
 use Rattle.dap_model.proofs.OneSpelling.{one_spelling}
-use Rattle.dap_model.specs.Received.{EndsAt, Fault, IsBadField, IsOpen}
+use Rattle.dap_model.specs.Received.{Fault, IsBadField, IsOpen}
 use Rattle.dap_model.specs.Xdr.{Spells}
 use Rattle.xdr_fields.proofs.Growing.{prefix_trans}
 use Rattle.xdr_decode.specs.Verdict.{kind_of}
 use Rattle.xdr_decode.specs.declared.bad.BadField.{BadField}
-use Rattle.xdr_decode.proofs.Standing.{ends, opens, puts, stopped, stopped_bad}
+use Rattle.xdr_decode.proofs.Standing.{ends, opens, puts, stopped}
 use Rattle.xdr_decode.specs.After.{EndsBehind, HasFailed, IsFirstBad, IsStopped, Reads, Stands, StandsAfter, UnlessFault, WhereDone, WhereFault, WhereMore, WhereRefused, dataset_of, start_of, used_of}
 use Rattle.xdr_decode.specs.inner.Places.{wants_left}
-use Rattle.std.proofs.Common.{Result, Ok, Err}
+use Rattle.std.proofs.Common.{Ok, Err}
 use Rattle.std.proofs.Math.Seq.{take-length}
 use Rattle.dap_outside.specs.Streams.{AppendsFront}
 use Rattle.dap_outside.specs.declared.failed.Failed.{Failed}
 use Rattle.xdr_decode.proofs.Breaking.{some_shown}
 use Rattle.xdr_decode.proofs.Passing.{passed_and_sent, passed_and_stopped, stopped_before}
-use Rattle.xdr_decode.proofs.Turning.{own_loose, reads_stays, stays_ended}
-use Rattle.xdr_decode.specs.inner.Buffered.{Passes, PassesFront}
+use Rattle.xdr_decode.proofs.Turning.{own_loose, stays_ended}
 use Rattle.dap_model.specs.Received.{IsPrefix}
 use Rattle.xdr_decode.specs.After.{place_of}
 use Rattle.xdr_decode.specs.inner.Pushing.{IsAnswer, IsPushed, IsSaid, state_behind}
-use Rattle.xdr_decode.specs.inner.Turning.{IsBroken, IsGoneThrough, IsLoose, IsRead, Spelled, Stays}
+use Rattle.xdr_decode.specs.inner.Turning.{IsBroken, IsGoneThrough, IsLoose, IsRead, Spelled}
 use Rattle.xdr_decode.specs.Shown.{ShowsFront, ShowsSome}
 use Rattle.xdr_decode.specs.declared.decoder.Decoder.{Decoder}
 use Rattle.xdr_decode.specs.declared.decoder.Pushed.{Pushed}

@@ -1,14 +1,13 @@
 -- A piece, one turn after the other.
-use Rattle.std.proofs.Common.{◌≡◌, ℕ, ◌+◌, ◌-◌, ◌<◌, ◌≤◌, List, [], ◌∷◌, ◌++◌, length, length-append, length-drop, take, drop, take-append-drop, Option, Some, None, Result, Ok, Err, refl, ap, ◌∙◌, sym, subst, arith, append_assoc, append-nil}
-use Rattle.std.proofs.Math.Seq.{take-add, take-length}
+use Rattle.std.proofs.Common.{◌≡◌, ℕ, ◌+◌, ◌-◌, ◌≤◌, List, [], ◌++◌, length, take, drop, take-append-drop, Option, Result, Ok, Err, ap, ◌∙◌, sym, subst, append_assoc, append-nil}
+use Rattle.std.proofs.Math.Seq.{take-add}
 use Rattle.std.specs.Prelude.{IsErr}
 use Rattle.dap_types.specs.Model.{Dataset}
 use Rattle.dap_outside.specs.declared.failed.Failed.{Failed}
 use Rattle.xdr_decode.proofs.Passing.{passes_kept, passes_two, front_second}
-use Rattle.xdr_decode.specs.After.{IsStopped, Reads, dataset_of, place_of, start_of}
-use Rattle.xdr_decode.specs.inner.Buffered.{Passes, PassesFront, Puts}
-use Rattle.xdr_decode.specs.inner.Places.{wants_left}
-use Rattle.xdr_decode.specs.inner.Turning.{Falls, IsBroken, IsGoneThrough, IsLeft, IsRead, IsSome, Spelled, Stays, Turns, weight}
+use Rattle.xdr_decode.specs.After.{IsStopped, Reads, dataset_of}
+use Rattle.xdr_decode.specs.inner.Buffered.{Passes}
+use Rattle.xdr_decode.specs.inner.Turning.{IsBroken, IsGoneThrough, Spelled, Stays, Turns}
 use Rattle.xdr_decode.specs.declared.decoder.Decoder.{Decoder}
 use Rattle.xdr_decode.specs.declared.decoder.Pushed.{Pushed}
 use Rattle.xdr_decode.specs.declared.decoder.Pushed.TheVariants as pushed

@@ -1,8 +1,8 @@
 -- A path has room for each variable of a well formed dataset.
-use Rattle.std.proofs.Common.{◌≡◌, ℕ, ◌+◌, ◌<◌, ◌≤◌, ◌^◌, List, [], ◌∷◌, length, sym, ap, ◌∙◌, arith}
+use Rattle.std.proofs.Common.{◌≤◌, [], arith}
 use Rattle.std.proofs.lemmas.List.Elements.{All-weaker}
 use Rattle.dap_types.proofs.Faults.{length-places}
-use Rattle.dap_types.specs.Model.{Dataset, count_all}
+use Rattle.dap_types.specs.Model.{Dataset}
 use Rattle.dap_types.specs.WellFormed.{IsWellFormed, places_of}
 use Rattle.xdr_decode.specs.inner.Places.{HaveRoom, IsShallow}
 

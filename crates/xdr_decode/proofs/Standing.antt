@@ -1,15 +1,15 @@
 -- What a decoder that still reads says of the bytes that it used: their values are ended, or open, and what
 -- it has put is what may be shown of them.
-use Rattle.std.proofs.Common.{◌≡◌, ℕ, ◌+◌, ◌<◌, List, [], ◌∷◌, ◌++◌, length, min, ◌⊎◌, inl, inr, refl, ap, ◌∙◌, sym, subst, arith, append_assoc, append-nil}
+use Rattle.std.proofs.Common.{◌≡◌, ℕ, ◌+◌, ◌<◌, List, [], ◌∷◌, ◌++◌, length, min, ◌⊎◌, inl, inr, refl, ap, ◌∙◌, sym, subst, arith, append-nil}
 use Rattle.dap_model.specs.Received.{EndsAt, Fault, IsBadField, IsOpen, IsFront, IsPrefix}
 use Rattle.xdr_fields.proofs.Fronts.{IsPart, shows}
 use Rattle.xdr_fields.proofs.Judged.{ended_at, is_open}
-use Rattle.xdr_fields.specs.inner.Reached.{Leads, IsEnded, IsCut}
-use Rattle.xdr_fields.specs.Wants.{Want, a_count, a_value, a_byte, a_filler, a_text, a_padding, rows, Steps, room, says_next, said, wants_of}
+use Rattle.xdr_fields.specs.inner.Reached.{IsEnded}
+use Rattle.xdr_fields.specs.Wants.{Want, a_count, a_value, a_byte, a_filler, a_text, a_padding, rows, Steps, room, wants_of}
 use Rattle.dap_model.proofs.OneVerdict.{one_bad, bad_not_open, ended_not_bad, ended_not_open}
 use Rattle.xdr_decode.specs.Verdict.{kind_of}
 use Rattle.xdr_decode.specs.declared.bad.BadField.{BadField}
-use Rattle.xdr_decode.specs.After.{Reads, IsStopped, IsFirstBad, EndsBehind, Stands, StandsAfter, dataset_of, place_of, start_of}
+use Rattle.xdr_decode.specs.After.{Reads, IsStopped, IsFirstBad, EndsBehind, Stands, StandsAfter, dataset_of, start_of}
 use Rattle.std.specs.Option.{option_map_or}
 use Rattle.std.proofs.Common.{Result, Ok, Err, IfOk, IfErr}
 use Rattle.dap_types.specs.Model.{Dataset}
@@ -21,7 +21,7 @@ use Rattle.xdr_decode.specs.declared.field.Ask.{Ask}
 use Rattle.xdr_decode.specs.declared.place.Next.{Next}
 use Rattle.xdr_decode.specs.declared.place.Next.TheVariants as next
 use Rattle.xdr_decode.specs.declared.place.Text.TheVariants as texts
-use Rattle.xdr_decode.specs.Shown.{HasGood, ShowsFront}
+use Rattle.xdr_decode.specs.Shown.{ShowsFront}
 use Rattle.xdr_decode.specs.declared.decoder.Decoder.{Decoder}
 use Rattle.xdr_decode.specs.declared.place.Place.{Place}
 

@@ -1,18 +1,14 @@
 -- What was read and what was not, joined.
-use Rattle.std.proofs.Common.{◌≡◌, ℕ, ◌+◌, ◌<◌, List, [], ◌∷◌, ◌++◌, length, ◌⊎◌, inl, inr, Some, refl, ap, ◌∙◌, sym, subst, arith, append_assoc, append-nil}
-use Rattle.std.specs.Bool.{⊤}
-use Rattle.dap_model.specs.Received.{Fault}
+use Rattle.std.proofs.Common.{◌≡◌, ℕ, ◌+◌, ◌<◌, List, [], ◌∷◌, ◌++◌, length, inl, inr, refl, ap, ◌∙◌, sym, subst, append_assoc, append-nil}
 use Rattle.dap_model.specs.Xdr.{Field, SpellsField, SpellsFields}
-use Rattle.xdr_fields.proofs.Judged.{leads_nowhere, no_steps, steps_join}
-use Rattle.xdr_fields.specs.inner.Reached.{Leads, IsCut, IsSpoilt}
-use Rattle.xdr_fields.specs.Wants.{Want, Goes, Steps, becomes, fault_in, room}
-use Rattle.xdr_decode.specs.Verdict.{kind_of}
+use Rattle.xdr_fields.proofs.Judged.{leads_nowhere, steps_join}
+use Rattle.xdr_fields.specs.Wants.{Want, Goes, Steps, becomes, room}
 use Rattle.xdr_decode.specs.declared.bad.Bad.{Bad}
 use Rattle.xdr_decode.specs.declared.bad.Bad.TheVariants.{Cut}
 use Rattle.xdr_decode.specs.declared.field.Token.{Token}
 use Rattle.xdr_decode.specs.declared.values.Stop.{Stop}
 use Rattle.xdr_decode.specs.declared.values.Stop.TheVariants.{Wrong, Memory}
-use Rattle.xdr_decode.specs.inner.Asked.{Is, IsFaulty, IsGood}
+use Rattle.xdr_decode.specs.inner.Asked.{Is, IsFaulty}
 use Rattle.xdr_decode.specs.inner.Taken.{IsTaken, Spelt, Stops}
 
 spells_join : (fs gs : List Field) (a b : List ℕ) → SpellsFields fs a → SpellsFields gs b → SpellsFields (fs ++ gs) (a ++ b)

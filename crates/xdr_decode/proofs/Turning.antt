@@ -1,8 +1,7 @@
 -- One field after the other: what a turn of a decoder makes of what came.
-use Rattle.std.proofs.Common.{◌≡◌, ℕ, zero, suc, ◌+◌, ◌-◌, ◌*◌, ◌^◌, ◌<◌, ◌≤◌, ◌⊎◌, List, [], ◌∷◌, ◌++◌, length, length-append, min, take, drop, take-append-drop, replicate, nat_lt, true, false, if◌then◌else◌, Some, None, Option, All, Result, Ok, Err, inl, inr, ⊎_elim, refl, ap, ◌∙◌, sym, subst, arith, append_assoc, append-nil}
+use Rattle.std.proofs.Common.{◌≡◌, ℕ, zero, suc, ◌+◌, ◌-◌, ◌*◌, ◌^◌, ◌<◌, ◌≤◌, ◌⊎◌, List, [], ◌∷◌, ◌++◌, length, length-append, min, take, drop, take-append-drop, replicate, nat_lt, true, false, if◌then◌else◌, Some, None, Option, Result, Ok, Err, inl, inr, ⊎_elim, refl, ap, ◌∙◌, sym, subst, arith, append_assoc, append-nil}
 use Rattle.std.proofs.lemmas.Bool.Decides.{nat_tests}
 use Rattle.std.proofs.lemmas.List.{length-take}
-use Rattle.std.specs.Bool.{⊤}
 use Rattle.std.specs.Prelude.{IsErr}
 use Rattle.dap_outside.specs.declared.failed.Failed.{Failed}
 use Rattle.xdr_decode.specs.declared.bad.BadField.{BadField}
@@ -15,7 +14,7 @@ use Rattle.dap_types.specs.Model.{Dataset, Members}
 use Rattle.dap_types.specs.WellFormed.{IsWellFormed}
 use Rattle.dap_types.specs.declared.declarations.BaseType.{BaseType}
 use Rattle.dap_types.specs.declared.declarations.BaseType.TheVariants.{Byte, Int16, UInt16, Int32, UInt32, Float32, Float64, Text, Url}
-use Rattle.dap_model.specs.Received.{Fault, bad_count, IsBadField, IsFront, IsPrefix}
+use Rattle.dap_model.specs.Received.{Fault, IsBadField, IsFront, IsPrefix}
 use Rattle.dap_model.specs.Shown.{shown_byte}
 use Rattle.dap_model.specs.Xdr as xdr
 use Rattle.dap_model.specs.Xdr.{Field, text, field_bytes, SpellsField, SpellsFields, fill}
@@ -23,8 +22,8 @@ use Rattle.xdr_decode.specs.Verdict.{kind_of}
 use Rattle.xdr_decode.specs.declared.bad.Bad.{Bad}
 use Rattle.xdr_fields.proofs.Fronts.{shows}
 use Rattle.xdr_fields.proofs.Judged.{is_bad, no_steps, one_step, steps_join}
-use Rattle.xdr_fields.specs.inner.Reached.{Leads, IsSpoilt}
-use Rattle.xdr_fields.specs.Wants.{Want, a_count, a_value, a_byte, a_filler, a_text, a_padding, rows, Goes, Steps, becomes, fault_in, room, said, says, says_next, says_part, wants_of}
+use Rattle.xdr_fields.specs.inner.Reached.{IsSpoilt}
+use Rattle.xdr_fields.specs.Wants.{Want, a_count, a_value, a_byte, a_filler, a_text, a_padding, rows, Goes, Steps, becomes, room, said, says, says_next, says_part, wants_of}
 use Rattle.xdr_decode.proofs.Asking.{value_wide}
 use Rattle.xdr_decode.proofs.Beginning.{next_none}
 use Rattle.xdr_decode.proofs.Roomy.{roomy}
@@ -32,7 +31,6 @@ use Rattle.xdr_decode.specs.After.{IsStopped, Reads, dataset_of, place_of, start
 use Rattle.xdr_decode.specs.inner.Asked.{Asks, Is, IsFaulty, width_of}
 use Rattle.xdr_decode.specs.inner.Moving.{mark_bytes}
 use Rattle.xdr_decode.specs.inner.Places.{AsksFirst, HaveMarks, HaveRoom, IsCutText, IsEarly, IsOwn, IsPlaced, IsStageAt, spot, spot_at, stage_wants, text_behind, text_wants, wants_left}
-use Rattle.xdr_decode.specs.Shown.{ShowsFront, HasGood}
 use Rattle.xdr_decode.specs.inner.Turning.{IsBroken, IsFresh, IsHeld, IsLoose, IsSome, Spelled, Stays, Turns, first_room}
 use Rattle.xdr_decode.specs.declared.decoder.Decoder.{Decoder}
 use Rattle.xdr_decode.specs.declared.field.Ask.{Ask}

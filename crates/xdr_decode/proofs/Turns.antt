@@ -1,18 +1,18 @@
 -- The cells of a row, the arrays of a Grid and the variables of a dataset, each read in turn.
-use Rattle.std.proofs.Common.{◌≡◌, ℕ, zero, suc, ◌+◌, ◌<◌, ◌≤◌, List, [], ◌∷◌, ◌++◌, length, take, drop, map, get_or, refl, ap, ◌∙◌, sym, subst, arith, append_assoc, append-nil}
+use Rattle.std.proofs.Common.{◌≡◌, ℕ, suc, ◌+◌, ◌<◌, ◌≤◌, List, [], ◌∷◌, ◌++◌, length, map, get_or, refl, ap, ◌∙◌, sym, subst, arith, append-nil}
 use Rattle.std.specs.List.{AllZip, flat_map}
-use Rattle.dap_types.proofs.Views.{trees-push, view-One, view-Many, kids-Many, items-trees_of}
-use Rattle.dap_types.specs.Model.{Member, Members, members_of, member, no_members, Tree, one, many, items, kids, trees_of, sizes}
-use Rattle.dap_types.specs.View.{member_view, members_view, tree_view, trees_view}
+use Rattle.dap_types.proofs.Views.{trees-push, view-One}
+use Rattle.dap_types.specs.Model.{Tree, one, sizes}
+use Rattle.dap_types.specs.View.{member_view, members_view, tree_view}
 use Rattle.dap_types.specs.declared.declarations.ArrayDecl.{ArrayDecl}
 use Rattle.dap_types.specs.declared.declarations.Column.{Column}
 use Rattle.dap_types.specs.declared.declarations.Decl.{Decl}
 use Rattle.dap_types.specs.declared.values.Tree as code
-use Rattle.dap_types.specs.declared.values.Tree.{One, Many}
+use Rattle.dap_types.specs.declared.values.Tree.{One}
 use Rattle.dap_types.specs.declared.values.Value.{Value}
 use Rattle.dap_model.specs.Fits.{IsOf, Fits, FitsAll, FitsArray, FitsScalar, values_in}
 use Rattle.dap_model.specs.Xdr.{Field, array_fields, array_fields_of_each, cell_fields, fields, fields_all, in_turn, scalar_fields, value_fields}
-use Rattle.xdr_fields.specs.Wants.{Want, Steps, a_value, cell_wants, wants, wants_all, wants_of_array, wants_of_arrays}
+use Rattle.xdr_fields.specs.Wants.{Want, a_value, cell_wants, wants, wants_all, wants_of_array, wants_of_arrays}
 use Rattle.xdr_decode.proofs.InTurn.{Read, turn_fit, turn_push, turn_read, turn_start, turn_stop}
 use Rattle.xdr_decode.proofs.Leading.{array_lead, member_lead, scalar_lead}
 use Rattle.xdr_decode.specs.declared.values.Stop.{Stop}

@@ -1,5 +1,5 @@
 -- One value that was read, or not.
-use Rattle.std.proofs.Common.{◌≡◌, ℕ, ℤ, ◌+◌, ◌<◌, ◌^◌, List, [], ◌∷◌, ◌++◌, length, ◌⊎◌, inl, inr, refl, ap, ◌∙◌, sym, subst, arith, append_assoc, append-nil, length-append, to_z, of_z, w64}
+use Rattle.std.proofs.Common.{◌≡◌, ℕ, ℤ, ◌+◌, ◌<◌, ◌^◌, List, [], ◌∷◌, ◌++◌, length, refl, ap, sym, subst, arith, append-nil, length-append, to_z, of_z, w64}
 use Rattle.std.proofs.lemmas.Int.{ints}
 use Rattle.dap_model.proofs.Values.{whole_high, whole_low}
 use Rattle.dap_types.specs.declared.declarations.BaseType.{BaseType}
@@ -8,9 +8,9 @@ use Rattle.dap_types.specs.declared.declarations.Column.{Column}
 use Rattle.dap_types.specs.declared.values.Value.{Value}
 use Rattle.dap_types.specs.declared.values.Value.TheVariants as values
 use Rattle.dap_model.specs.Fits.{IsOf}
-use Rattle.dap_model.specs.Xdr.{Field, number, packed, size, text, padding, mark, value_fields, field_bytes, SpellsField, SpellsFields}
+use Rattle.dap_model.specs.Xdr.{Field, number, packed, size, text, padding, mark, value_fields, field_bytes, SpellsField}
 use Rattle.xdr_fields.proofs.Judged.{no_steps, one_step}
-use Rattle.xdr_fields.specs.Wants.{Want, a_byte, a_padding, a_text, a_value, rows, IsTextType, Goes, Steps}
+use Rattle.xdr_fields.specs.Wants.{Want, a_byte, a_padding, a_text, a_value, rows, IsTextType, Steps}
 use Rattle.xdr_decode.proofs.Stopping.{spelt_then, stops_behind, stops_short}
 use Rattle.xdr_decode.specs.declared.bad.Bad.TheVariants.{Cut}
 use Rattle.xdr_decode.specs.declared.field.Token.{Token}

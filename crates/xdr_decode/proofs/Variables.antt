@@ -1,8 +1,8 @@
 -- A variable by its kind: what was read of it, and why nothing was.
-use Rattle.std.proofs.Common.{◌≡◌, ℕ, List, [], ◌∷◌, ◌++◌, map, All, codes, refl, ap, ◌∙◌, sym, subst, append-nil}
+use Rattle.std.proofs.Common.{◌≡◌, ℕ, List, [], ◌∷◌, ◌++◌, map, All, codes, ap, ◌∙◌, sym, subst, append-nil}
 use Rattle.std.specs.List.{AllZip, flat_map}
 use Rattle.dap_types.proofs.Views.{kids-Many, view-Many, view-One}
-use Rattle.dap_types.specs.Model.{Member, Members, scalar, array, structure, grid, sequence, Tree, one, many, kids, sizes}
+use Rattle.dap_types.specs.Model.{Member, Members, scalar, structure, grid, sequence, Tree, sizes}
 use Rattle.dap_types.specs.View.{tree_view}
 use Rattle.dap_types.specs.declared.declarations.ArrayDecl.{ArrayDecl}
 use Rattle.dap_types.specs.declared.declarations.Column.{Column}
@@ -10,8 +10,8 @@ use Rattle.dap_types.specs.declared.values.Tree as code
 use Rattle.dap_types.specs.declared.values.Tree.{One, Many}
 use Rattle.dap_types.specs.declared.values.Value.{Value}
 use Rattle.dap_model.specs.Fits.{IsOf, IsMany, Fits, FitsAll, FitsArray, FitsRow, FitsScalar}
-use Rattle.dap_model.specs.Xdr.{Field, mark, array_fields_of_each, fields, fields_all, row_fields, value_fields}
-use Rattle.xdr_fields.specs.Wants.{Want, a_value, rows, wants, wants_all, wants_of_arrays}
+use Rattle.dap_model.specs.Xdr.{mark, array_fields_of_each, fields, fields_all, row_fields, value_fields}
+use Rattle.xdr_fields.specs.Wants.{a_value, rows, wants, wants_all, wants_of_arrays}
 use Rattle.xdr_decode.specs.declared.values.Stop.{Stop}
 use Rattle.xdr_decode.specs.inner.Taken.{Spelt, Stops}
 

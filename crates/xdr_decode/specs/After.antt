@@ -1,15 +1,14 @@
 -- Which bytes a decoder stands after and what it has put of them, and what an answer says of them and the
 -- piece behind them.
-use Rattle.std.specs.Prelude.{◌≡◌, ℕ, ◌+◌, ◌-◌, ◌≤◌, ◌<◌, ◌^◌, ⊤, List, [], ◌∷◌, ◌++◌, length, take, All, Option}
-use Rattle.std.specs.Io.KnownBytes.{Appends}
+use Rattle.std.specs.Prelude.{◌≡◌, ℕ, ◌+◌, ◌<◌, ◌^◌, ⊤, List, ◌++◌, length, take, All}
 use Rattle.dap_types.specs.Model.{Dataset, Tree}
 use Rattle.dap_types.specs.View.{dataset_view}
 use Rattle.dap_types.specs.WellFormed.{IsWellFormed}
-use Rattle.dap_model.specs.Received.{Fault, EndsAt, IsBadField, IsOpen}
+use Rattle.dap_model.specs.Received.{Fault, EndsAt, IsBadField}
 use Rattle.dap_model.specs.Xdr.{Field, SpellsFields}
 use Rattle.xdr_decode.specs.Verdict.{kind_of}
 use Rattle.xdr_decode.specs.declared.bad.BadField.{BadField}
-use Rattle.xdr_fields.specs.Wants.{Want, Steps, said, says_next, wants_of}
+use Rattle.xdr_fields.specs.Wants.{Steps, said, says_next, wants_of}
 use Rattle.xdr_decode.specs.inner.Places.{HaveMarks, IsOwn, IsPlaced, wants_left}
 use Rattle.xdr_decode.specs.Shown.{ShowsFront}
 use Rattle.xdr_decode.specs.declared.decoder.Decoder.{Decoder}

@@ -1,5 +1,5 @@
 -- A front of the body of a DDS, in pieces.
-use Rattle.std.specs.Prelude.{◌≡◌, ℕ, ◌<◌, false, List, [], ◌++◌, length, take, get_or}
+use Rattle.std.specs.Prelude.{◌≡◌, ℕ, ◌<◌, false, List, ◌++◌, length, take, get_or}
 use Rattle.std.specs.List.{AllPass}
 use Rattle.dap_types.specs.View.{dataset_view}
 use Rattle.dap_model.specs.Tokens.{is_white}

@@ -1,5 +1,5 @@
 -- The front of a body while its first word may be `Error`, letter by letter.
-use Rattle.std.specs.Prelude.{◌≡◌, ℕ, ◌≤◌, ⊤, true, false, List, [], ◌++◌, length, take, codes}
+use Rattle.std.specs.Prelude.{◌≡◌, ℕ, ◌≤◌, true, false, List, [], ◌++◌, take, codes}
 use Rattle.std.specs.List.{AllPass}
 use Rattle.std.specs.Str.{str_to_ascii_lowercase}
 use Rattle.dap_model.specs.Tokens.{is_white, tokens_of}

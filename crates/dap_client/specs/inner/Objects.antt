@@ -1,5 +1,5 @@
 -- A front of an Error object, in pieces.
-use Rattle.std.specs.Prelude.{◌≡◌, ℕ, ◌≤◌, ◌<◌, ⊤, Bool, true, false, List, [], ◌∷◌, ◌++◌, length, take, drop, IsTrue}
+use Rattle.std.specs.Prelude.{◌≡◌, ℕ, ◌≤◌, ◌<◌, ⊤, Bool, true, false, List, ◌∷◌, ◌++◌, length, drop, IsTrue}
 use Rattle.std.specs.List.{list_all}
 use Rattle.text_tokens.specs.Tokens.{is_white}
 use Rattle.dap_errors.specs.Reading.{EndsAt, IsBad, limit}

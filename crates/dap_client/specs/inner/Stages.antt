@@ -1,5 +1,5 @@
 -- How far the reader of a data response is, and what it has put by then.
-use Rattle.std.specs.Prelude.{◌≡◌, ℕ, ◌+◌, ◌≤◌, ◌⊎◌, ⊤, Bool, true, false, List, [], ◌∷◌, ◌++◌, length, take, Option}
+use Rattle.std.specs.Prelude.{◌≡◌, ℕ, ◌+◌, ◌≤◌, ◌⊎◌, ⊤, Bool, true, false, List, [], ◌++◌, length, take, Option}
 use Rattle.dap_types.specs.Limits.{most_piece}
 use Rattle.dap_types.specs.Model.{Dataset}
 use Rattle.dap_types.specs.View.{dataset_view}
@@ -25,7 +25,6 @@ use Rattle.dap_client.specs.inner.FirstWords.{IsError, IsNoError, IsOpenWord}
 use Rattle.dap_client.specs.inner.Objects.{IsObjectOf}
 use Rattle.dap_client.specs.declared.data_line.DataLine.{DataLine}
 use Rattle.dap_client.specs.declared.first_word.FirstWord.{FirstWord}
-use Rattle.dap_client.specs.declared.object.Object.{Object}
 use Rattle.dap_client.specs.declared.stage.Stage.{Stage}
 use Rattle.dap_client.specs.declared.stage.Stage.TheVariants as stage
 

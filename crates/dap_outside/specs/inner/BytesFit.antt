@@ -1,8 +1,7 @@
 -- What a shelf in memory tells are bytes.
-use Rattle.std.proofs.Common.{◌≡◌, ◌<◌, ℕ, zero, suc, List, [], ◌∷◌, length, get_or, Bool, true, false, cond, Option, Some, None, ap, sym, ◌∙◌, subst, arith}
+use Rattle.std.proofs.Common.{◌≡◌, ℕ, zero, suc, List, [], ◌∷◌, Bool, true, false, cond, Option, Some, ap, ◌∙◌, subst}
 use Rattle.std.proofs.lemmas.List.Elements.{All-head, All-tail}
 use Rattle.std.proofs.lemmas.Option.{none-some, same_Some}
-use Rattle.std.specs.Prelude.{All, slice_get}
 use Rattle.std.specs.Str.{bytes_eq}
 use Rattle.dap_outside.specs.Files.{IsBytes}
 use Rattle.dap_outside.specs.MemShelf.{bytes_at, bytes_named}

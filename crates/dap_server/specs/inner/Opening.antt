@@ -1,5 +1,5 @@
 -- A stored file that was opened, and why none was.
-use Rattle.std.specs.Prelude.{◌≡◌, ℕ, ◌≤◌, ◌*◌, ⊤, List, length, max, Option, Some, None, IsSome, Ok, Err}
+use Rattle.std.specs.Prelude.{◌≡◌, ℕ, ◌≤◌, ◌*◌, ⊤, List, length, max, Option, Some, None, IsSome, Ok}
 use Rattle.dap_outside.specs.Files.{IsBytes, Reads, Told}
 use Rattle.das_text.specs.Model.{Attributes}
 use Rattle.dap_types.specs.Model.{Dataset}

@@ -1,5 +1,5 @@
 -- How the requests of a connection are served one by one.
-use Rattle.std.specs.Prelude.{◌≡◌, ℕ, ◌+◌, ◌<◌, ◌≤◌, ⊤, ◌⊎◌, Bool, true, false, List, [], ◌++◌, MatchBool, Option, Some, None, Result, Ok, Err}
+use Rattle.std.specs.Prelude.{◌≡◌, ℕ, ◌+◌, ◌<◌, ◌≤◌, ⊤, ◌⊎◌, Bool, true, false, List, ◌++◌, MatchBool, Option, Some, None, Result, Err}
 use Rattle.std.specs.Io.KnownBytes.{Appends, Consumes}
 use Rattle.dap_errors.specs.Causes.{http_status}
 use Rattle.dap_errors.specs.declared.cause.Cause.{Cause}

@@ -1,6 +1,6 @@
 -- Which variable the code lends.
 use Rattle.std.specs.Prelude.{◌≡◌}
-use Rattle.dap_types.specs.Model.{Member, scalar, array, structure, grid, sequence}
+use Rattle.dap_types.specs.Model.{Member, scalar, array, sequence}
 use Rattle.xdr_decode.specs.declared.path.Leaf.{Leaf}
 use Rattle.xdr_decode.specs.declared.path.Leaf.TheVariants as leaf
 

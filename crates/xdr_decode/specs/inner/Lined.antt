@@ -1,5 +1,5 @@
 -- The parts of the line between a DDS and the values, as texts, and why none of them is read.
-use Rattle.std.specs.Prelude.{◌≡◌, ℕ, ◌⊎◌, List, [], ◌∷◌, ◌++◌, length, codes, Bool, false, ⊤}
+use Rattle.std.specs.Prelude.{◌≡◌, ℕ, ◌⊎◌, List, [], ◌∷◌, ◌++◌, length, codes, false, ⊤}
 use Rattle.dap_model.specs.Tokens.{is_white}
 use Rattle.xdr_decode.specs.declared.data_line.LineStop.{LineStop}
 use Rattle.xdr_decode.specs.declared.data_line.LineStop.TheVariants.{Cut, Differs}

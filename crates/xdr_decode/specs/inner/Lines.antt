@@ -1,5 +1,5 @@
 -- What is shown of an element, in the order in which it is put (this project's).
-use Rattle.std.specs.Prelude.{◌≡◌, ℕ, zero, suc, List, [], ◌∷◌, ◌++◌, codes, slice_get, Option, Some, None, map}
+use Rattle.std.specs.Prelude.{ℕ, List, [], ◌∷◌, ◌++◌, codes, slice_get}
 use Rattle.std.specs.Option.{option_map_or}
 use Rattle.dap_model.specs.Shown.{index_text, shown_value}
 use Rattle.dap_types.specs.Model.{Member, scalar, array, structure, grid, sequence, Members, no_members, member, sizes}

@@ -1,10 +1,10 @@
 -- How a place goes on behind a field.
-use Rattle.std.specs.Prelude.{◌≡◌, ℕ, List, [], ◌∷◌, ◌++◌, Option, Some, None}
+use Rattle.std.specs.Prelude.{◌≡◌, ℕ, List, ◌∷◌, ◌++◌, Some}
 use Rattle.dap_types.specs.Model.{Member, Members}
 use Rattle.dap_model.specs.Xdr.{Field}
 use Rattle.xdr_fields.specs.Wants.{Want, Goes, becomes}
 use Rattle.xdr_decode.specs.inner.Asked.{Is}
-use Rattle.xdr_decode.specs.inner.Places.{IsPlaced, IsStage, IsStageOr, Spot, spot_at, stage_wants, text_wants, wants_left}
+use Rattle.xdr_decode.specs.inner.Places.{IsPlaced, IsStageOr, Spot, spot_at, stage_wants, text_wants, wants_left}
 use Rattle.xdr_decode.specs.declared.field.Token.{Token}
 use Rattle.xdr_decode.specs.declared.field.Token.TheVariants as token
 use Rattle.xdr_decode.specs.declared.place.Place.{Place}

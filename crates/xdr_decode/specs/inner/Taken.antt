@@ -5,7 +5,6 @@ use Rattle.dap_types.specs.declared.declarations.BaseType.{BaseType}
 use Rattle.dap_types.specs.declared.declarations.BaseType.TheVariants.{Byte}
 use Rattle.dap_types.specs.declared.declarations.Dim.{Dim}
 use Rattle.dap_types.specs.declared.values.Value.{Value}
-use Rattle.dap_model.specs.Received.{Fault}
 use Rattle.dap_model.specs.Xdr.{Field, packed, value_fields, SpellsFields}
 use Rattle.xdr_decode.specs.declared.bad.Bad.TheVariants.{Cut}
 use Rattle.xdr_decode.specs.declared.field.Token.{Token}

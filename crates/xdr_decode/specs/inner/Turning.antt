@@ -1,13 +1,11 @@
 -- How a decoder goes through a piece, one field after the other.
-use Rattle.std.specs.Prelude.{◌≡◌, ℕ, ◌+◌, ◌*◌, ◌≤◌, ◌<◌, ⊤, ◌⊎◌, List, [], ◌∷◌, ◌++◌, length, min, take, Option, Some, None, Result, Ok, Err}
+use Rattle.std.specs.Prelude.{◌≡◌, ℕ, ◌+◌, ◌*◌, ◌≤◌, ◌<◌, ⊤, ◌⊎◌, List, [], ◌∷◌, ◌++◌, length, min, take, Option, Some, Result, Ok, Err}
 use Rattle.dap_types.specs.Model.{Dataset, Members}
 use Rattle.dap_types.specs.WellFormed.{IsWellFormed}
 use Rattle.dap_model.specs.Xdr.{Field, SpellsFields}
 use Rattle.dap_outside.specs.declared.failed.Failed.{Failed}
-use Rattle.xdr_decode.specs.declared.bad.BadField.{BadField}
 use Rattle.xdr_fields.specs.Wants.{Want, a_text, Steps, room, said, says_next, wants_of}
 use Rattle.xdr_decode.specs.After.{IsStopped, Reads, dataset_of, place_of, start_of}
-use Rattle.xdr_decode.specs.inner.Asked.{width_of}
 use Rattle.xdr_decode.specs.inner.Buffered.{Puts}
 use Rattle.xdr_decode.specs.inner.Places.{HaveMarks, IsPlaced, Spot, spot_at, wants_left}
 use Rattle.xdr_decode.specs.declared.decoder.Decoder.{Decoder}

@@ -1,4 +1,4 @@
-use Rattle.std.proofs.Common.{rules, ◌≡◌, ◌∷◌, [], ◌∙◌, List, ℕ, length, codes, sym, ap, subst, arith}
+use Rattle.std.proofs.Common.{rules, ◌≡◌, List, ℕ, codes, subst, arith}
 use Rattle.dap2.proofs.Commanding.{one-item, serve-words}
 use Rattle.dap2.specs.Words.{Reads}
 use Rattle.dap2.proofs.command.command_of_more.Goals as goal

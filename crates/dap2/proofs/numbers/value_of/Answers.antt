@@ -1,4 +1,4 @@
-use Rattle.std.proofs.Common.{◌≡◌, ◌+◌, ◌-◌, ◌*◌, ◌<◌, ◌^◌, ap, ◌∙◌, arith, take, get_or, length}
+use Rattle.std.proofs.Common.{◌≡◌, ◌+◌, ◌-◌, ◌*◌, ◌<◌, ◌^◌, ap, ◌∙◌, arith, take, get_or}
 use Rattle.std.proofs.lemmas.List.{take_all}
 use Rattle.std.specs.Str.Parse.{digits_value}
 use Rattle.viable.proofs.Digits.{number_bound, number_more}

@@ -1,4 +1,4 @@
-use Rattle.std.proofs.Common.{◌++◌, ◌≤◌, refl, sym, subst, inl, inr, arith}
+use Rattle.std.proofs.Common.{refl, sym, subst, inl, inr, arith}
 use Rattle.dap_client.proofs.DasBodies.{bad_stays, trailing_stays}
 use Rattle.dap_client.specs.inner.DasBodies.{IsDasBody}
 use Rattle.dap_client.proofs.das_body.judged.Goals as goal

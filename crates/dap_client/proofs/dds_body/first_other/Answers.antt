@@ -1,4 +1,4 @@
-use Rattle.std.proofs.Common.{◌≤◌, ◌∙◌, sym, arith}
+use Rattle.std.proofs.Common.{◌∙◌, sym, arith}
 use Rattle.dap_client.proofs.DdsBodies.{all_white, more_white}
 use Rattle.dap_client.proofs.dds_body.first_other.Goals as goal
 

@@ -1,4 +1,4 @@
-use Rattle.std.proofs.Common.{ℕ, List, ◌≤◌, length, take}
+use Rattle.std.proofs.Common.{◌≤◌, length, take}
 use Rattle.std.specs.List.{AllPass}
 use Rattle.dap_model.specs.Tokens.{is_white}
 use Rattle.dap_client.proofs.dds_body.first_other.Given as goal

@@ -1,4 +1,4 @@
-use Rattle.std.proofs.Common.{◌≡◌, ℕ, ◌+◌, ◌≤◌, List, ◌++◌, length, take, refl, sym, subst, ◌∙◌, inl, arith, length-append, length-take-le}
+use Rattle.std.proofs.Common.{◌≡◌, ◌+◌, ◌++◌, length, take, refl, sym, subst, inl, arith, length-append, length-take-le}
 use Rattle.dds_text.specs.Reading.{IsBadText}
 use Rattle.dap_client.proofs.DdsBodies.{piece_parts}
 use Rattle.dap_client.proofs.Texts.{done_in_piece, reader_bad}

@@ -1,4 +1,4 @@
-use Rattle.std.proofs.Common.{◌≡◌, ℕ, ◌+◌, ◌≤◌, ◌-◌, List, ◌++◌, length, take, drop, subst, ap, sym, ◌∙◌, arith, append_assoc, length-append, length-take-le, length-drop, take_all, take-append-drop}
+use Rattle.std.proofs.Common.{◌≡◌, ℕ, ◌+◌, ◌-◌, List, ◌++◌, length, take, drop, subst, ap, ◌∙◌, arith, append_assoc, length-append, length-take-le, length-drop, take_all, take-append-drop}
 use Rattle.dap_client.specs.inner.Objects.{IsObjectOf}
 use Rattle.dap_client.proofs.object.gather.Goals as goal
 

@@ -1,4 +1,4 @@
-use Rattle.std.proofs.Common.{◌++◌, ◌+◌, take, arith, ap, subst}
+use Rattle.std.proofs.Common.{◌++◌, ◌+◌, take, arith, subst}
 use Rattle.dap_errors.specs.Reading.{IsBad}
 use Rattle.dap_client.proofs.Objects.{piece_end, piece_step, stray_in}
 use Rattle.dap_client.proofs.object.trail.Goals as goal

@@ -1,4 +1,3 @@
-use Rattle.std.proofs.Common.{◌≡◌, ℕ, List}
 use Rattle.dap_client.proofs.Wrapped.{bad_broken, error_broken, whole_broken}
 use Rattle.dap_client.proofs.part.break_data.Goals as goal
 

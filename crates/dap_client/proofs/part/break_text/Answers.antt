@@ -1,4 +1,4 @@
-use Rattle.std.proofs.Common.{◌≡◌, ℕ, List, refl, sym, subst}
+use Rattle.std.proofs.Common.{refl, sym, subst}
 use Rattle.das_text.specs.View.{attributes_view}
 use Rattle.dap_types.specs.View.{dataset_view}
 use Rattle.dap_client.specs.Verdict.{Form, Judges, bad, good_das, good_dds, server_error}

@@ -1,4 +1,4 @@
-use Rattle.std.proofs.Common.{◌≡◌, ℕ, List, ◌++◌, inl}
+use Rattle.std.proofs.Common.{◌++◌, inl}
 use Rattle.dap_client.proofs.Wrapped.{full_data, refused_stopped}
 use Rattle.dap_client.proofs.part.closed.Goals as goal
 

@@ -1,4 +1,4 @@
-use Rattle.std.proofs.Common.{◌≡◌, ℕ, List, ◌∙◌}
+use Rattle.std.proofs.Common.{◌∙◌}
 use Rattle.dap_client.proofs.TextBodies.{das_finished, no_memory, nothing_gained}
 use Rattle.dap_client.specs.declared.outcome.Outcome.TheVariants as outcome
 use Rattle.dap_client.proofs.part.finish_das.Goals as goal

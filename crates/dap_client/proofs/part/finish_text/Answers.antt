@@ -1,4 +1,4 @@
-use Rattle.std.proofs.Common.{◌≡◌, ℕ, List, [], refl, inl, sym, subst}
+use Rattle.std.proofs.Common.{[], refl, inl, sym, subst}
 use Rattle.dap_client.proofs.TextBodies.{is_bad, no_memory, nothing_gained}
 use Rattle.dap_client.specs.After.{IsFinished}
 use Rattle.dap_client.specs.Outcomes.{OnWriteFault}

@@ -1,4 +1,4 @@
-use Rattle.std.proofs.Common.{◌≡◌, ◌<◌, ◌^◌, ℕ, List, ◌++◌, refl, sym, subst, ◌∙◌, arith}
+use Rattle.std.proofs.Common.{◌++◌, refl, sym, ◌∙◌, arith}
 use Rattle.dap_client.proofs.Filling.{budget_is}
 use Rattle.dap_client.proofs.Wrapped.{err_same, no_head_before, on_write_fault}
 use Rattle.dap_client.proofs.part.read_data.Goals as goal

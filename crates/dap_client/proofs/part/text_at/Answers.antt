@@ -1,4 +1,4 @@
-use Rattle.std.proofs.Common.{◌≡◌, ◌<◌, ◌≤◌, ℕ, List, refl, sym, subst, arith}
+use Rattle.std.proofs.Common.{◌<◌, refl, sym, subst, arith}
 use Rattle.xdr_decode.specs.Verdict.{budget}
 use Rattle.dap_client.proofs.Filling.{full_at, less_than_full, most_at}
 use Rattle.dap_client.proofs.TextBodies.{full_stopped, wrong_stopped}

@@ -1,4 +1,4 @@
-use Rattle.std.proofs.Common.{arith, ◌≡◌, ℕ, ◌+◌, ◌≤◌, ◌<◌, ◌^◌, ◌++◌, List, [], length, length-append, true, false, refl, sym, ap, subst, ◌∙◌, inl}
+use Rattle.std.proofs.Common.{◌+◌, ◌++◌, [], refl, sym, ap, subst, ◌∙◌, inl}
 use Rattle.std.proofs.Common.{append-nil}
 use Rattle.dap_model.specs.Tokens.{tokens_of}
 use Rattle.xdr_decode.specs.declared.bad.Bad.TheVariants.{Cut}

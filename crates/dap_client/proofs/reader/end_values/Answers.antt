@@ -1,4 +1,3 @@
-use Rattle.std.proofs.Common.{arith, ◌≡◌, ℕ, ◌+◌, ◌≤◌, ◌<◌, ◌^◌, ◌++◌, List, [], length, length-append, true, false, refl, sym, ap, subst, ◌∙◌, inl}
 use Rattle.std.proofs.Common.{⊎_elim}
 use Rattle.dap_client.proofs.Ending.{cut_end, refused_end, whole_end}
 use Rattle.dap_client.proofs.reader.end_values.Goals as goal

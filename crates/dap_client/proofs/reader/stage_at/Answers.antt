@@ -1,6 +1,6 @@
-use Rattle.std.proofs.Common.{arith, ◌≡◌, ℕ, ◌+◌, ◌≤◌, ◌<◌, ◌^◌, ◌++◌, List, [], length, length-append, true, false, refl, sym, ap, subst, ◌∙◌, inl}
+use Rattle.std.proofs.Common.{length, true, false, sym, ◌∙◌}
 use Rattle.std.proofs.lemmas.Bool.{false≢true}
-use Rattle.dap_client.proofs.Filling.{budget_is, full_at, less_than_full}
+use Rattle.dap_client.proofs.Filling.{full_at, less_than_full}
 use Rattle.dap_client.proofs.Waiting.{own_failed}
 use Rattle.dap_client.proofs.reader.stage_at.Goals as goal
 

@@ -1,4 +1,4 @@
-use Rattle.std.proofs.Common.{◌≡◌, ◌≤◌, ◌++◌, ℕ, List, [], length, refl, sym, ap, subst, ◌∙◌, arith, append_assoc, inr}
+use Rattle.std.proofs.Common.{◌++◌, ℕ, List, [], ap, subst, arith, append_assoc, inr}
 use Rattle.std.proofs.KnownBytes.{Appends-nil, Consumes-trans}
 use Rattle.dap_http.proofs.Finals.{gives-more}
 use Rattle.dap_http.specs.Reading.{rest_of}
@@ -8,7 +8,6 @@ use Rattle.dap_client.specs.Replies.{BringsFew, form_of}
 use Rattle.dap_client.specs.Verdict.{Form}
 use Rattle.dap_client.proofs.Few.{few-brought, few-first, few-nowhere, few-refused}
 use Rattle.dap_client.proofs.Lifted.{bad-head, fault-told, head-told, lifted, memory-told}
-use Rattle.dap_client.proofs.Telling.{rose-later}
 use Rattle.dap_client.proofs.reply.read_one.Goals as goal
 
 pub returns-in-Final-clause-tells : goal.returns-in-Final-clause-tells

@@ -1,4 +1,4 @@
-use Rattle.std.proofs.Common.{◌≡◌, ◌≤◌, ◌++◌, ℕ, List, [], length, refl, ap, subst, arith}
+use Rattle.std.proofs.Common.{◌++◌, ℕ, List, [], refl, subst, arith}
 use Rattle.std.proofs.KnownBytes.{Appends-nil, Consumes-nil}
 use Rattle.dap_http.specs.Reading.{rest_of}
 use Rattle.dap_client.specs.Answered.{Tells}

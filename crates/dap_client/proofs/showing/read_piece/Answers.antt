@@ -1,4 +1,4 @@
-use Rattle.std.proofs.Common.{arith, ◌≡◌, ◌∙◌, ◌<◌, take, List, ℕ, sym, subst}
+use Rattle.std.proofs.Common.{◌<◌, take, sym, subst}
 use Rattle.std.specs.Io.KnownBytes.{Consumes}
 use Rattle.dap_client.proofs.Told.{none_read, same_left, still_short}
 use Rattle.dap_client.proofs.showing.read_piece.Goals as goal

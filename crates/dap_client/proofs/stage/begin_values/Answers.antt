@@ -1,10 +1,10 @@
-use Rattle.std.proofs.Common.{◌≡◌, ℕ, ◌++◌, List, take, refl, sym, ap, subst, ◌∙◌}
+use Rattle.std.proofs.Common.{◌++◌, take, refl, sym, subst, ◌∙◌}
 use Rattle.dap_types.specs.View.{dataset_view}
 use Rattle.dap_model.specs.Dds.{dds}
 use Rattle.dap_client.proofs.Lines.{dds_fault, few_behind}
 use Rattle.dap_client.proofs.Values.{first_values, moves_none, moves_on}
 use Rattle.dap_client.specs.Shows.{StopsWithin}
-use Rattle.dap_client.specs.inner.Stages.{HasValues, IsStage, Moves}
+use Rattle.dap_client.specs.inner.Stages.{HasValues}
 use Rattle.dap_client.specs.declared.stage.Stage.TheVariants as stage
 use Rattle.dap_client.proofs.stage.begin_values.Goals as goal
 

@@ -1,4 +1,3 @@
-use Rattle.std.proofs.Common.{◌≡◌, ℕ, ◌+◌, ◌++◌, List, [], length, refl, sym, ap, subst, ◌∙◌}
 use Rattle.dap_types.specs.View.{dataset_view}
 use Rattle.dap_client.proofs.Texts.{text_ended}
 use Rattle.dap_client.proofs.stage.end_text.Goals as goal

@@ -1,4 +1,4 @@
-use Rattle.std.proofs.Common.{◌≡◌, ℕ, ◌++◌, List, [], length, true, false, refl, sym, ap, subst, ◌∙◌}
+use Rattle.std.proofs.Common.{◌++◌, [], refl, sym, ap, subst, ◌∙◌}
 use Rattle.dap_client.proofs.Filling.{first_bad, full_bad, unfinished_not_full}
 use Rattle.dap_client.proofs.Texts.{done_token, few_nothing, open_no_head}
 use Rattle.dap_client.specs.inner.Stages.{IsStage}

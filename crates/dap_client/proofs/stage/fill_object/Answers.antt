@@ -1,4 +1,4 @@
-use Rattle.std.proofs.Common.{◌≡◌, ℕ, ◌++◌, List, [], length, true, false, refl, sym, ap, subst, ◌∙◌}
+use Rattle.std.proofs.Common.{[], sym, subst}
 use Rattle.dap_client.proofs.Begun.{error_refused}
 use Rattle.dap_client.proofs.Filling.{full_object, short_not_full}
 use Rattle.dap_client.specs.inner.Stages.{IsStage}

@@ -1,4 +1,4 @@
-use Rattle.std.proofs.Common.{◌≡◌, ℕ, ◌≤◌, ◌++◌, List, [], length, length-take, arith, refl, sym, ap, subst, ◌∙◌}
+use Rattle.std.proofs.Common.{[], length, length-take, arith, ap}
 use Rattle.std.proofs.KnownBytes.{Appends-nil}
 use Rattle.dap_outside.specs.Causes.{Rose}
 use Rattle.dap_errors.specs.Reading.{limit}

@@ -1,4 +1,4 @@
-use Rattle.std.proofs.Common.{arith, length, ◌^◌, ◌≡◌, ℕ, ◌+◌, ◌++◌, List, [], take, drop, refl, sym, ap, subst, ◌∙◌}
+use Rattle.std.proofs.Common.{arith, ◌^◌, ◌+◌, ◌++◌, [], take, refl, sym, subst}
 use Rattle.std.proofs.KnownBytes.{Appends-nil}
 use Rattle.dap_types.specs.View.{dataset_view}
 use Rattle.dap_client.proofs.Lines.{differs_within, line_head, line_on, line_refused}

@@ -1,4 +1,4 @@
-use Rattle.std.proofs.Common.{◌≡◌, ℕ, List, [], ◌++◌, length, refl, sym, subst}
+use Rattle.std.proofs.Common.{[], ◌++◌, refl, sym, subst}
 use Rattle.dap_client.proofs.Begun.{error_few, error_refused}
 use Rattle.dap_client.specs.inner.Stages.{IsStage, WhereFailed}
 use Rattle.dap_client.proofs.stage.read_object.Goals as goal

@@ -1,4 +1,4 @@
-use Rattle.std.proofs.Common.{arith, ◌≡◌, ℕ, ◌+◌, ◌^◌, ◌++◌, List, [], length, take, drop, refl, sym, ap, subst, ◌∙◌}
+use Rattle.std.proofs.Common.{arith, ◌+◌, ◌^◌, ◌++◌, [], take, refl, sym, subst, ◌∙◌}
 use Rattle.std.proofs.KnownBytes.{Appends-nil}
 use Rattle.dap_client.proofs.Texts.{done_in_piece, few_in_piece, text_refused}
 use Rattle.dap_client.proofs.Values.{slice_seam, slice_small, taken_front}

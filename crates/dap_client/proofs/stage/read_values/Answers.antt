@@ -1,4 +1,4 @@
-use Rattle.std.proofs.Common.{◌≡◌, ◌++◌, subst, sym}
+use Rattle.std.proofs.Common.{◌++◌, subst, sym}
 use Rattle.dap_outside.specs.Causes.{Rose}
 use Rattle.dap_client.proofs.Values.{fault_piece, on_end, on_piece, refused_piece, rose_here, trailing_piece}
 use Rattle.dap_client.specs.inner.Stages.{IsStage}

@@ -1,4 +1,4 @@
-use Rattle.std.proofs.Common.{◌≡◌, ℕ, ◌++◌, List, [], length, refl, sym, ap, subst, ◌∙◌}
+use Rattle.std.proofs.Common.{◌++◌, refl, ◌∙◌}
 use Rattle.dap_client.proofs.Texts.{few_nothing, open_no_head}
 use Rattle.dap_client.proofs.Waiting.{first_on}
 use Rattle.dap_client.proofs.stage.wait.Goals as goal

@@ -1,4 +1,4 @@
-use Rattle.std.proofs.Common.{◌≡◌, ℕ, List, inr, subst, sym}
+use Rattle.std.proofs.Common.{inr, subst, sym}
 use Rattle.dap_model.specs.Tokens.{tokens_of}
 use Rattle.dap_client.proofs.TextBodies.{das_waits}
 use Rattle.dap_client.specs.Verdict.{das_form}

@@ -1,4 +1,4 @@
-use Rattle.std.proofs.Common.{◌≡◌, ℕ, List, inr, refl}
+use Rattle.std.proofs.Common.{inr, refl}
 use Rattle.dap_client.proofs.text_body.end_dds.Goals as goal
 
 pub returns-in-Ok : goal.returns-in-Ok

@@ -1,4 +1,4 @@
-use Rattle.std.proofs.Common.{◌≡◌, ℕ, List, refl}
+use Rattle.std.proofs.Common.{refl}
 use Rattle.dap_client.proofs.TextBodies.{das_whole}
 use Rattle.dap_client.proofs.text_body.end_whole.Goals as goal
 

@@ -1,4 +1,4 @@
-use Rattle.std.proofs.Common.{◌≡◌, ℕ, List, subst}
+use Rattle.std.proofs.Common.{subst}
 use Rattle.dap_client.proofs.TextBodies.{das_wrong, match_on}
 use Rattle.dap_client.specs.inner.DasBodies.{IsDasBody}
 use Rattle.dap_client.proofs.text_body.wrong_das.Goals as goal

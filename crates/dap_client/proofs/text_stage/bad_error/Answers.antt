@@ -1,4 +1,3 @@
-use Rattle.std.proofs.Common.{ℕ, List}
 use Rattle.dap_client.proofs.TextBodies.{object_wrong}
 use Rattle.dap_client.proofs.text_stage.bad_error.Goals as goal
 

@@ -1,4 +1,4 @@
-use Rattle.std.proofs.Common.{◌≡◌, ℕ, ◌≤◌, List, [], ◌++◌, length, sym, subst, append_assoc, arith}
+use Rattle.std.proofs.Common.{ℕ, List, ◌++◌, sym, subst, append_assoc, arith}
 use Rattle.dap_errors.specs.Reading.{IsBad, limit}
 use Rattle.dap_client.proofs.Begun.{blank_bad, full_front, short_front}
 use Rattle.dap_client.proofs.text_stage.begin_object.Goals as goal

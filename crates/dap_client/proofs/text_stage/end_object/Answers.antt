@@ -1,4 +1,4 @@
-use Rattle.std.proofs.Common.{◌≡◌, ℕ, ◌++◌, List, [], length, append-nil, refl, sym, ap, subst, ◌∙◌, inl, inr}
+use Rattle.std.proofs.Common.{[], append-nil, refl, sym, subst, ◌∙◌, inl, inr}
 use Rattle.dap_errors.specs.Reading as errors
 use Rattle.dap_client.proofs.Filling.{behind_error, error_here}
 use Rattle.dap_client.specs.inner.TextBodies.{IsTextEnded}

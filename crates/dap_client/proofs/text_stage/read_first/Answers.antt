@@ -1,4 +1,4 @@
-use Rattle.std.proofs.Common.{◌≡◌, ◌≤◌, ℕ, List, ap, length, length-take, arith}
+use Rattle.std.proofs.Common.{ap, length, length-take, arith}
 use Rattle.dap_errors.specs.Reading.{limit}
 use Rattle.dap_client.proofs.text_stage.read_first.Goals as goal
 

@@ -1,4 +1,3 @@
-use Rattle.std.proofs.Common.{◌≡◌, ℕ, List, ◌++◌}
 use Rattle.dap_client.proofs.text_stage.read_object.Goals as goal
 
 pub returns-in-Ok-Bad : goal.returns-in-Ok-Bad

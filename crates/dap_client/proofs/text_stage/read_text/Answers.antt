@@ -1,4 +1,3 @@
-use Rattle.std.proofs.Common.{◌≡◌, ℕ, List, ◌++◌}
 use Rattle.dap_client.proofs.text_stage.read_text.Goals as goal
 
 pub returns-in-Some : goal.returns-in-Some

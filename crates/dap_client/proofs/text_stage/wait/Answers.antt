@@ -1,4 +1,3 @@
-use Rattle.std.proofs.Common.{◌≡◌, ℕ, List, ◌++◌}
 use Rattle.dap_client.proofs.text_stage.wait.Goals as goal
 
 pub returns-in-Ok-read : goal.returns-in-Ok-read

@@ -1,4 +1,4 @@
-use Rattle.std.proofs.Common.{Ok, None, ◌∙◌, refl, sym, ap, arith}
+use Rattle.std.proofs.Common.{None, ◌∙◌, refl, sym, ap, arith}
 use Rattle.dap_http.specs.Texts.{description_of, head_text}
 use Rattle.dap_http.specs.declared.kind.Kind.TheVariants.{Dods}
 use Rattle.dap_server.specs.inner.Serving.{Costs, request_in}

@@ -1,4 +1,4 @@
-use Rattle.std.proofs.Common.{◌∙◌, sym, subst, inl, Ok}
+use Rattle.std.proofs.Common.{sym, subst, inl, Ok}
 use Rattle.dap_server.specs.inner.Serving.{request_in}
 use Rattle.dap_server.specs.Prepared.{MayGive, asked_of}
 use Rattle.dap_server.specs.Results.{text_of}

@@ -1,4 +1,4 @@
-use Rattle.std.proofs.Common.{◌≡◌, ◌∙◌, ap, length}
+use Rattle.std.proofs.Common.{◌∙◌, ap}
 use Rattle.csv_source.specs.Dataset.{table_dataset}
 use Rattle.sequence_select.specs.Selections.{selections}
 use Rattle.sequence_select.specs.Tests.{tested}

@@ -1,9 +1,6 @@
-use Rattle.std.proofs.Common.{rules, ◌≡◌, ◌∙◌, Err, List, ℕ, ap, refl, sym}
+use Rattle.std.proofs.Common.{rules, Err, ap, refl}
 use Rattle.dap_types.specs.View.{dataset_view}
-use Rattle.dap_types.specs.Model.{Dataset}
 use Rattle.grid_projection.specs.Resolved.{marks_in}
-use Rattle.sequence_select.specs.Selections.{selections}
-use Rattle.csv_source.specs.Dataset.{table_dataset}
 use Rattle.xdr_encode.specs.Bodies.{text_in}
 use Rattle.dap_server.proofs.Sending as sending
 use Rattle.dap_server.specs.Files.{table_stored}

@@ -1,4 +1,4 @@
-use Rattle.dap_server.proofs.Connecting.{last-rose, never-read, served-so, whole-so}
+use Rattle.dap_server.proofs.Connecting.{never-read, served-so, whole-so}
 use Rattle.dap_server.proofs.connection.serve_connection.Goals as goal
 
 pub returns-in-Ok-clause-served : goal.returns-in-Ok-clause-served

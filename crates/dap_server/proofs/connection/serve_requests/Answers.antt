@@ -1,5 +1,5 @@
-use Rattle.std.proofs.Common.{refl, sym, ◌∙◌, arith}
-use Rattle.dap_server.proofs.Connecting.{loop-end, loop-start, loop-step}
+use Rattle.std.proofs.Common.{◌∙◌, arith}
+use Rattle.dap_server.proofs.Connecting.{loop-end, loop-step}
 use Rattle.dap_server.proofs.connection.serve_requests.Goals as goal
 
 pub requests-preserved : goal.requests-preserved

@@ -1,9 +1,6 @@
-use Rattle.std.proofs.Common.{rules, ◌≡◌, ◌∙◌, Err, List, ℕ, ap}
-use Rattle.das_text.specs.Das.{das}
+use Rattle.std.proofs.Common.{rules, Err, List, ℕ}
 use Rattle.dap_http.specs.declared.kind.Kind.TheVariants.{Das}
 use Rattle.dap_server.proofs.Making as making
-use Rattle.dap_server.specs.Results.{das_text}
-use Rattle.dap_server.specs.Steps.{Is}
 use Rattle.dap_server.specs.inner.Opening.{WhereRefused}
 use Rattle.dap_server.specs.inner.Preparing.{MayGiveAs}
 use Rattle.dap_server.proofs.kinds.das_answer.Goals as goal

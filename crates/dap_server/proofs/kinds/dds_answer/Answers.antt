@@ -1,4 +1,4 @@
-use Rattle.std.proofs.Common.{rules, ◌≡◌, ◌∙◌, Err, List, ℕ}
+use Rattle.std.proofs.Common.{rules, Err}
 use Rattle.dap_http.specs.declared.kind.Kind.TheVariants.{Dds}
 use Rattle.dap_server.proofs.Making as making
 use Rattle.dap_server.specs.Results.{DdsAnswers, text_of}

@@ -1,4 +1,4 @@
-use Rattle.std.proofs.Common.{rules, Err, List, ℕ}
+use Rattle.std.proofs.Common.{rules, Err}
 use Rattle.dap_http.specs.declared.kind.Kind.TheVariants.{Dods}
 use Rattle.dap_server.proofs.DataGiven as given
 use Rattle.dap_server.proofs.Making as making

@@ -1,4 +1,4 @@
-use Rattle.std.proofs.Common.{rules, arith, ◌≤◌, Err}
+use Rattle.std.proofs.Common.{rules, arith, Err}
 use Rattle.dap_server.proofs.Lying as lying
 use Rattle.dap_server.specs.Files.{Files, MayHave}
 use Rattle.dap_server.specs.Results.{Opens}

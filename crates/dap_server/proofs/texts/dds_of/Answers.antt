@@ -1,4 +1,4 @@
-use Rattle.std.proofs.Common.{rules, ◌≡◌, ◌≤◌, ◌∙◌, Err, List, ℕ, length, subst}
+use Rattle.std.proofs.Common.{rules, ◌≤◌, ◌∙◌, Err, List, ℕ, length, subst}
 use Rattle.dap_types.specs.View.{dataset_view}
 use Rattle.grid_projection.specs.Resolved.{marks_in}
 use Rattle.dap_server.proofs.Answering as answering

@@ -1,4 +1,3 @@
-use Rattle.std.proofs.Common.{◌∙◌}
 use Rattle.dap_server.proofs.Answered.{says-whole, shelf-rose, sink-rose, values-front, values-put}
 use Rattle.dap_server.proofs.values.put_streamed.Goals as goal
 

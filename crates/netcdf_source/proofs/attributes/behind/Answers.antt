@@ -1,4 +1,3 @@
-use Rattle.std.proofs.Common.{sym, ap, ◌∙◌}
 use Rattle.std.proofs.lemmas.Result.{err_from_is_err_and}
 use Rattle.netcdf_source.specs.inner.Unread.{behind_at}
 use Rattle.netcdf_source.proofs.Unread.{behind-goes_on, behind-ends, behind-is_done}

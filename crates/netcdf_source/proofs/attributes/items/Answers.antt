@@ -1,6 +1,5 @@
-use Rattle.std.proofs.Common.{◌≡◌, ◌∙◌, sym, ap, arith, Ok}
+use Rattle.std.proofs.Common.{arith}
 use Rattle.std.proofs.lemmas.Result.{err_from_is_err_and}
-use Rattle.netcdf_source.specs.inner.Unread.{attributes_in}
 use Rattle.netcdf_source.proofs.Unread.{read-list, failed-list, left-le, front-list, front-whole}
 use Rattle.netcdf_source.proofs.attributes.items.Goals as goal
 

@@ -1,4 +1,4 @@
-use Rattle.std.proofs.Common.{◌≡◌, arith, drop, length, refl}
+use Rattle.std.proofs.Common.{arith, drop, length, refl}
 use Rattle.std.proofs.lemmas.List.{drop_all}
 use Rattle.soak.proofs.Shown.{read-is}
 use Rattle.soak.proofs.both_ends.read.Goals as goal

@@ -1,5 +1,4 @@
-use Rattle.std.proofs.Common.{◌≡◌, ◌++◌, List, ℕ, rules}
-use Rattle.std.specs.Int.{to_be_bytes, w32}
+use Rattle.std.proofs.Common.{rules}
 use Rattle.soak.specs.File.{header}
 use Rattle.soak.proofs.file.header.Goals as goal
 

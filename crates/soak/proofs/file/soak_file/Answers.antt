@@ -1,4 +1,4 @@
-use Rattle.std.proofs.Common.{◌≡◌, ◌++◌, ℕ, ◌+◌, ◌*◌, ◌%◌, ◌^◌, ap, sym, ◌∙◌, append-nil, append_assoc}
+use Rattle.std.proofs.Common.{◌≡◌, ◌++◌, ◌+◌, ◌*◌, ◌%◌, ◌^◌, ap, sym, ◌∙◌, append-nil, append_assoc}
 use Rattle.soak.specs.File.{bytes_at, header, state, value_bytes, values}
 use Rattle.soak.proofs.Values.{state-more, state-none, values-more, values-none}
 use Rattle.soak.proofs.file.soak_file.Goals as goal

@@ -1,4 +1,4 @@
-use Rattle.std.proofs.Common.{◌≡◌, ℕ, List, [], ◌∷◌, ◌++◌, Option, Some, None, ap, refl, ◌∙◌}
+use Rattle.std.proofs.Common.{◌≡◌, ℕ, List, [], ◌∷◌, ◌++◌, Some, ap, ◌∙◌}
 use Rattle.std.specs.Prelude.{codes}
 use Rattle.dap_outside.specs.MemShelf.{bytes_named}
 use Rattle.dap_outside.specs.declared.memory_shelf.MemFile.{MemFile}

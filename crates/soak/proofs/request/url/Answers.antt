@@ -1,4 +1,4 @@
-use Rattle.std.proofs.Common.{◌≡◌, Some, None, Err, ap, ◌∙◌, Option}
+use Rattle.std.proofs.Common.{◌≡◌, Some, None, Err, ap, ◌∙◌}
 use Rattle.std.specs.Prelude.{codes}
 use Rattle.dap_http.specs.Urls.{UrlParts, url_of}
 use Rattle.soak.specs.Asked.{url_text}

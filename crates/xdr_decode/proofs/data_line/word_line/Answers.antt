@@ -1,4 +1,4 @@
-use Rattle.std.proofs.Common.{codes, rules}
+use Rattle.std.proofs.Common.{rules}
 use Rattle.xdr_decode.proofs.Arrays.{each_err, each_ok}
 use Rattle.xdr_decode.proofs.Lined.{word_end_stop, word_read, word_stop}
 use Rattle.xdr_decode.specs.inner.Lined.{StopsIn, WordLines}

@@ -1,4 +1,3 @@
-use Rattle.std.proofs.Common.{sym, ◌∙◌}
 use Rattle.xdr_decode.proofs.Judging.{number_good, number_bad}
 use Rattle.xdr_decode.proofs.field.number.Goals as goal
 

@@ -1,4 +1,4 @@
-use Rattle.std.proofs.Common.{◌≡◌, pos, ap, sym, subst}
+use Rattle.std.proofs.Common.{sym, subst}
 use mir.Val.{to_z, of_z}
 use Rattle.std.specs.Int.{w64}
 use Rattle.xdr_decode.specs.inner.Asked.{IsGood}

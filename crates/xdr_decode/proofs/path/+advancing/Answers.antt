@@ -1,6 +1,6 @@
-use Rattle.std.proofs.Common.{◌≡◌, ◌+◌, ◌<◌, ◌++◌, ◌∷◌, [], ℕ, List, length, drop, take, get_or, ap, refl, sym, ◌∙◌, subst, arith}
+use Rattle.std.proofs.Common.{◌+◌, get_or, ap, refl, sym, ◌∙◌, arith}
 use Rattle.dap_types.proofs.Views.{view-Base, view-Array, view-Structure, view-Grid, view-Sequence}
-use Rattle.dap_types.specs.View.{member_view, members_view}
+use Rattle.dap_types.specs.View.{member_view}
 use Rattle.xdr_decode.proofs.Advancing.{cut_back, no_array, no_scalar, no_sequence, past_last, went_grid, went_inside, went_on, went_structure}
 use Rattle.xdr_decode.proofs.Texts.{part-rest}
 use Rattle.xdr_decode.proofs.path.+advancing.Goals as goal

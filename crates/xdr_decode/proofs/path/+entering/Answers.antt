@@ -1,9 +1,8 @@
-use Rattle.std.proofs.Common.{◌≡◌, ◌+◌, ◌<◌, ◌++◌, ◌∷◌, [], ℕ, List, length, length-append, take, ap, refl, sym, ◌∙◌, subst, rules, arith}
+use Rattle.std.proofs.Common.{ap, refl, ◌∙◌, subst, arith}
 use Rattle.dap_types.proofs.Views.{view-Base, view-Array, view-Structure, view-Grid, view-Sequence}
-use Rattle.dap_types.specs.View.{member_view, members_view}
+use Rattle.dap_types.specs.View.{member_view}
 use Rattle.xdr_decode.proofs.Entering.{entered_loop, preserved_loop, put_back, room_behind, start_array, start_grid, start_scalar, start_sequence, start_structure}
-use Rattle.xdr_decode.proofs.Rooms.{many, parts_room}
-use Rattle.xdr_decode.specs.inner.Places.{HasRoom, HaveRoom, IsInside}
+use Rattle.xdr_decode.specs.inner.Places.{IsInside}
 use Rattle.xdr_decode.proofs.path.+entering.Goals as goal
 
 pub enter-returns-in-Base : goal.enter-returns-in-Base

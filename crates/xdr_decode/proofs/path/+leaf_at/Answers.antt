@@ -1,5 +1,4 @@
-use Rattle.std.proofs.Common.{◌≡◌, refl, sym, ◌∙◌, subst, ap, arith}
-use Rattle.dap_types.specs.View.{members_view}
+use Rattle.std.proofs.Common.{refl, sym}
 use Rattle.xdr_decode.proofs.Spots.{past, some_of, at_base, at_array, at_sequence, at_structure, at_grid, past_grid, short_grid}
 use Rattle.xdr_decode.proofs.path.+leaf_at.Goals as goal
 

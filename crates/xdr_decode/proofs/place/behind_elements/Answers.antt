@@ -1,4 +1,4 @@
-use Rattle.std.proofs.Common.{◌++◌, sym, ◌∙◌, arith}
+use Rattle.std.proofs.Common.{◌++◌}
 use Rattle.dap_types.specs.Model.{sizes}
 use Rattle.xdr_decode.proofs.Moving.{bytes_done, values_done}
 use Rattle.xdr_decode.proofs.place.behind_elements.Goals as goal

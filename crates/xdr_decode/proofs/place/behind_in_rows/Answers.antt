@@ -1,4 +1,4 @@
-use Rattle.std.proofs.Common.{sym, subst, arith, ◌∙◌}
+use Rattle.std.proofs.Common.{sym, subst, arith}
 use Rattle.dap_types.specs.Model.{sequence}
 use Rattle.xdr_decode.proofs.Moving.{moves_cell, moves_start}
 use Rattle.xdr_decode.specs.inner.Moving.{Moves}

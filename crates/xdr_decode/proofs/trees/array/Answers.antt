@@ -1,4 +1,4 @@
-use Rattle.std.proofs.Common.{◌++◌, IfErr, IfOk, subst, sym}
+use Rattle.std.proofs.Common.{◌++◌, IfErr, subst, sym}
 use Rattle.dap_types.specs.Model.{product, sizes}
 use Rattle.xdr_fields.specs.Wants.{array_wants}
 use Rattle.xdr_decode.specs.inner.Taken.{Stops}

@@ -1,4 +1,4 @@
-use Rattle.std.proofs.Common.{◌∷◌, [], rules}
+use Rattle.std.proofs.Common.{rules}
 use Rattle.dap_model.proofs.Values.{length-values_in}
 use Rattle.dap_model.specs.Fits.{values_in}
 use Rattle.dap_types.specs.Model.{product}

@@ -1,4 +1,4 @@
-use Rattle.std.proofs.Common.{◌++◌, refl, sym, subst}
+use Rattle.std.proofs.Common.{◌++◌}
 use Rattle.dap_types.specs.View.{members_view}
 use Rattle.xdr_decode.proofs.Passing.{front_as, front_first, puts_as, puts_failed, puts_two}
 use Rattle.xdr_decode.proofs.Paths.{says_all}

@@ -1,8 +1,5 @@
-use Rattle.std.proofs.Common.{◌++◌, refl, sym, subst}
-use Rattle.xdr_decode.proofs.Paths.{says_none, says_padding}
-use Rattle.xdr_decode.proofs.Passing.{passes_kept, puts_as}
-use Rattle.xdr_fields.specs.Wants.{says}
-use Rattle.xdr_decode.specs.inner.Asked.{Asks, IsElement}
+use Rattle.std.proofs.Common.{sym, subst}
+use Rattle.xdr_decode.specs.inner.Asked.{IsElement}
 use Rattle.xdr_decode.proofs.turn.put_token.Goals as goal
 
 pub returns-in-Value-clause-puts : goal.returns-in-Value-clause-puts

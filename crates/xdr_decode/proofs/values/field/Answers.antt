@@ -1,4 +1,4 @@
-use Rattle.std.proofs.Common.{◌∷◌, [], length, refl, ap, ◌∙◌, sym, subst, arith, rules}
+use Rattle.std.proofs.Common.{◌∷◌, [], length, ◌∙◌, sym, subst, arith, rules}
 use Rattle.xdr_decode.proofs.Stopping.{stops_bad, stops_short}
 use Rattle.xdr_decode.proofs.Turning.{asks_room}
 use Rattle.xdr_decode.specs.declared.values.Stop.TheVariants.{Wrong}

@@ -1,4 +1,4 @@
-use Rattle.std.proofs.Common.{◌∷◌, [], ◌∙◌, sym, subst, refl, rules}
+use Rattle.std.proofs.Common.{◌∷◌, [], subst, rules}
 use Rattle.xdr_fields.specs.Wants.{rows}
 use Rattle.xdr_decode.proofs.Valued.{end_taken, mark_none, mark_shorter, mark_token, row_taken}
 use Rattle.xdr_decode.specs.inner.Taken.{IsTaken, Stops}

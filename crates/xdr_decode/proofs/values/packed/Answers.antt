@@ -1,4 +1,4 @@
-use Rattle.std.proofs.Common.{◌∷◌, [], ◌∙◌, sym, subst, refl, rules}
+use Rattle.std.proofs.Common.{◌∷◌, [], subst, rules}
 use Rattle.xdr_fields.specs.Wants.{a_byte}
 use Rattle.xdr_decode.proofs.Valued.{byte_held, byte_token}
 use Rattle.xdr_decode.specs.inner.Taken.{IsTaken, Stops}

@@ -1,4 +1,4 @@
-use Rattle.std.proofs.Common.{◌∷◌, [], length, ◌∙◌, sym, subst, arith, refl, rules}
+use Rattle.std.proofs.Common.{◌∷◌, [], sym, subst, rules}
 use Rattle.xdr_fields.specs.Wants.{a_padding, a_text}
 use Rattle.xdr_decode.proofs.Valued.{string_read, string_short, string_stop}
 use Rattle.xdr_decode.specs.inner.Taken.{Stops}

@@ -1,4 +1,4 @@
-use Rattle.std.proofs.Common.{◌∷◌, [], ◌∙◌, sym, subst, refl, rules}
+use Rattle.std.proofs.Common.{◌∷◌, [], subst, refl, rules}
 use Rattle.xdr_fields.specs.Wants.{a_value}
 use Rattle.xdr_decode.proofs.Valued.{double_taken, single_taken, text_of_size, text_read, text_stop, value_none, value_token, whole_held}
 use Rattle.xdr_decode.specs.inner.Taken.{IsTaken, Stops}

@@ -1,4 +1,4 @@
-use Rattle.std.proofs.Common.{◌≡◌, arith, refl, subst, length}
+use Rattle.std.proofs.Common.{◌≡◌, refl, subst, length}
 use Rattle.std.proofs.lemmas.Option.{slice_get_read}
 use Rattle.dap_model.specs.Fits.{IsOf}
 use Rattle.csv_source.specs.Lent.{lent_value}

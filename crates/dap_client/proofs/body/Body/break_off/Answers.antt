@@ -1,4 +1,4 @@
-use Rattle.std.proofs.Common.{◌≡◌, ℕ, List, sym}
+use Rattle.std.proofs.Common.{sym}
 use Rattle.dap_client.specs.After.{StandsAfter, form_in}
 use Rattle.dap_client.proofs.body.Body.break_off.Goals as goal
 

@@ -1,4 +1,3 @@
-use Rattle.std.proofs.Common.{◌≡◌, ℕ, List}
 use Rattle.dap_client.proofs.Wrapped.{leaves}
 use Rattle.dap_client.specs.After.{StandsAfter}
 use Rattle.dap_client.proofs.body.Body.leave.Goals as goal

@@ -1,4 +1,4 @@
-use Rattle.std.proofs.Common.{◌≡◌, ◌+◌, ◌<◌, ◌^◌, ℕ, List, ◌++◌, Some, length, length-append, refl, ap, sym, subst, ◌∙◌, arith}
+use Rattle.std.proofs.Common.{◌+◌, length, length-append, ap, sym, subst, ◌∙◌}
 use Rattle.dap_client.proofs.Wrapped.{err_some}
 use Rattle.dap_client.specs.After.{IsPart, StandsAfter, form_in}
 use Rattle.dap_client.proofs.body.Body.push.Goals as goal

@@ -1,4 +1,4 @@
-use Rattle.std.proofs.Common.{List, [], subst, append-nil}
+use Rattle.std.proofs.Common.{[], subst, append-nil}
 use Rattle.dap_client.specs.Verdict.{JudgesDasText, bad}
 use Rattle.dap_client.proofs.das_body.DasBody.finish.Goals as goal
 

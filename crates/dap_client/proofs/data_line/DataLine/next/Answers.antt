@@ -1,4 +1,4 @@
-use Rattle.std.proofs.Common.{◌≡◌, ℕ, List, ◌<◌, ◌≤◌, arith, sym, ◌∙◌}
+use Rattle.std.proofs.Common.{arith, sym, ◌∙◌}
 use Rattle.dap_client.proofs.DataLines.{differs, line_ends}
 use Rattle.dap_client.proofs.data_line.DataLine.next.Goals as goal
 use Rattle.dap_client.proofs.data_line.DataLine.next.Goals.{else-self-eq0-via-then-self-eq0+else-is_white, else-self-eq0-via-else-self-eq0, else-self-ge5-via-then-self-ge5+else-byte-eq10, else-self-ge5-via-else-self-ge5, else-self-lt6-via-then-self-lt6+else-byte-self, else-self-lt6-via-else-self-lt6}

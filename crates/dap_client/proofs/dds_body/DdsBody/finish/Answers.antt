@@ -1,4 +1,4 @@
-use Rattle.std.proofs.Common.{List, [], subst, append-nil}
+use Rattle.std.proofs.Common.{[], subst, append-nil}
 use Rattle.dap_client.specs.Verdict.{JudgesDds, bad}
 use Rattle.dap_client.proofs.dds_body.DdsBody.finish.Goals as goal
 

@@ -1,4 +1,4 @@
-use Rattle.std.proofs.Common.{ℕ, List, ◌++◌, sym, subst, append_assoc}
+use Rattle.std.proofs.Common.{◌++◌, sym, subst, append_assoc}
 use Rattle.dap_client.specs.Verdict.{JudgesDds, bad}
 use Rattle.dap_client.proofs.dds_body.DdsBody.read.Goals as goal
 

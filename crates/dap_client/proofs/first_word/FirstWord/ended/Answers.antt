@@ -1,6 +1,4 @@
-use Rattle.std.proofs.Common.{◌≡◌, ℕ, List, false}
-use Rattle.dap_model.specs.Tokens.{is_plain}
-use Rattle.dap_client.specs.inner.FirstWords.{IsOpenWord}
+use Rattle.std.proofs.Common.{false}
 use Rattle.dap_client.proofs.FirstWords.{ends_other}
 use Rattle.dap_client.proofs.first_word.FirstWord.ended.Goals as goal
 

@@ -1,6 +1,4 @@
-use Rattle.std.proofs.Common.{◌≡◌, ℕ, List, false, codes, get_or, ◌<◌, arith, ap, sym, ◌∙◌}
-use Rattle.dap_model.specs.Tokens.{is_plain}
-use Rattle.dap_client.specs.inner.FirstWords.{IsOpenWord}
+use Rattle.std.proofs.Common.{false, arith, ◌∙◌}
 use Rattle.dap_client.proofs.FirstWords.{other_letter}
 use Rattle.dap_client.proofs.first_word.FirstWord.letter.Goals as goal
 use Rattle.dap_client.proofs.first_word.FirstWord.letter.Goals.{else-self-lt5-via-then-self-lt5+else-to_ascii_lowercase-self, else-self-lt5-via-else-self-lt5}

@@ -1,4 +1,4 @@
-use Rattle.std.proofs.Common.{ℕ, List, ◌++◌, length, sym, subst, append_assoc}
+use Rattle.std.proofs.Common.{◌++◌, sym, subst, append_assoc}
 use Rattle.dap_errors.specs.Reading.{IsBad}
 use Rattle.dap_client.proofs.object.Object.read.Goals as goal
 

@@ -1,4 +1,4 @@
-use Rattle.std.proofs.Common.{◌≡◌, ℕ, List, ◌∙◌, sym}
+use Rattle.std.proofs.Common.{◌∙◌, sym}
 use Rattle.dap_client.proofs.FirstWords.{plain_byte}
 use Rattle.dap_client.proofs.Openings.{sign_whole, white_on, word_begins}
 use Rattle.dap_client.proofs.opening.Opening.first.Goals as goal

@@ -1,4 +1,4 @@
-use Rattle.std.proofs.Common.{◌≡◌, ℕ, List, ◌∙◌, sym}
+use Rattle.std.proofs.Common.{◌∙◌, sym}
 use Rattle.dap_client.proofs.FirstWords.{plain_byte}
 use Rattle.dap_client.proofs.Openings.{word_on, word_sign, word_white}
 use Rattle.dap_client.proofs.opening.Opening.later.Goals as goal

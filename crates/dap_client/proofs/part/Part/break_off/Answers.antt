@@ -1,4 +1,4 @@
-use Rattle.std.proofs.Common.{◌≡◌, ◌<◌, ℕ, List, [], sym, subst}
+use Rattle.std.proofs.Common.{sym, subst}
 use Rattle.dap_client.proofs.TextBodies.{broken_text}
 use Rattle.dap_client.proofs.Wrapped.{no_head, no_write_fault, open_shows}
 use Rattle.dap_client.specs.After.{IsBrokenOff}

@@ -1,4 +1,4 @@
-use Rattle.std.proofs.Common.{◌≡◌, ◌<◌, ◌++◌, ℕ, List, refl, ap, sym, subst, ◌∙◌, ◌⊎◌, ⊎_elim}
+use Rattle.std.proofs.Common.{◌++◌, sym, subst}
 use Rattle.dap_client.proofs.Wrapped.{data_fault, data_finished}
 use Rattle.dap_client.specs.After.{IsFinished}
 use Rattle.dap_client.specs.Shows.{Gains}

@@ -1,9 +1,9 @@
-use Rattle.std.proofs.Common.{◌≡◌, ℕ, ◌++◌, List, [], length, append-nil, true, false, refl, sym, ap, subst, ◌∙◌}
+use Rattle.std.proofs.Common.{[], append-nil, sym, ap, subst, ◌∙◌}
 use Rattle.std.proofs.lemmas.Bool.{false≢true}
 use Rattle.dap_client.proofs.Ending.{faulty_other, cut_here, never_fault, refused_verdict}
 use Rattle.dap_client.proofs.Filling.{in_line_cut, text_cut}
 use Rattle.dap_client.specs.Verdict.{IsVerdict, bad, dods_form}
-use Rattle.dap_client.specs.inner.Readers.{HasFailed, IsEnded, StaysBad, WhereWriteFault}
+use Rattle.dap_client.specs.inner.Readers.{IsEnded, WhereWriteFault}
 use Rattle.dap_client.specs.inner.Stages.{is_open_stage}
 use Rattle.dap_client.proofs.reader.BodyReader.ended.Goals as goal
 

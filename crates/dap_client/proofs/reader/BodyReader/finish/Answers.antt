@@ -1,6 +1,5 @@
-use Rattle.std.proofs.Common.{append-nil, inl, ◌≡◌, ℕ, ◌++◌, List, [], take, codes, refl, sym, ap, subst, ◌∙◌}
+use Rattle.std.proofs.Common.{append-nil, inl, [], refl, sym, subst}
 use Rattle.std.proofs.KnownBytes.{Appends-nil}
-use Rattle.std.specs.Fmt.{decimal}
 use Rattle.dap_client.proofs.Ending.{broken_off, whole_finished}
 use Rattle.dap_client.specs.Shows.{StopsWithin}
 use Rattle.dap_client.specs.inner.Readers.{IsFinished}

@@ -1,4 +1,4 @@
-use Rattle.std.proofs.Common.{arith, ◌≡◌, ℕ, ◌≤◌, List, [], length, take, refl, sym, ◌∙◌}
+use Rattle.std.proofs.Common.{arith, [], refl, sym, ◌∙◌}
 use Rattle.std.proofs.lemmas.List.{take_all}
 use Rattle.dap_client.proofs.Filling.{nothing_most, nothing_within}
 use Rattle.dap_client.proofs.reader.BodyReader.new.Goals as goal

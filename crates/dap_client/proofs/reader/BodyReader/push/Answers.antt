@@ -1,4 +1,4 @@
-use Rattle.std.proofs.Common.{arith, ◌≡◌, ℕ, ◌+◌, ◌≤◌, ◌<◌, ◌++◌, List, [], length, length-append, refl, sym, ap, subst, ◌∙◌}
+use Rattle.std.proofs.Common.{arith, ◌≡◌, ◌+◌, ◌<◌, ◌++◌, length, length-append, sym, ap, subst, ◌∙◌}
 use Rattle.dap_outside.specs.Causes.{Rose}
 use Rattle.xdr_decode.specs.Verdict.{budget}
 use Rattle.dap_client.proofs.Filling.{most_at}

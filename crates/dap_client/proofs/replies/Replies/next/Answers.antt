@@ -1,4 +1,4 @@
-use Rattle.std.proofs.Common.{◌≡◌, ◌++◌, ℕ, List, sym, ap, subst, ◌∙◌, append_assoc}
+use Rattle.std.proofs.Common.{◌++◌, ℕ, List, sym, ap, subst, ◌∙◌, append_assoc}
 use Rattle.dap_http.specs.Delivered.{HasCoding}
 use Rattle.dap_http.specs.Reading.{rest_of}
 use Rattle.dap_client.proofs.Only.{left_over, nothing_over, only_told}

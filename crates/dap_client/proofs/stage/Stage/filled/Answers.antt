@@ -1,5 +1,4 @@
-use Rattle.std.proofs.Common.{◌≡◌, ℕ, ◌++◌, List, [], length, true, false, refl, sym, ap, subst, ◌∙◌}
-use Rattle.dap_types.specs.View.{dataset_view}
+use Rattle.std.proofs.Common.{sym, ap, subst}
 use Rattle.dap_client.proofs.Filling.{full_in_line, full_values, unfinished_not_full}
 use Rattle.dap_client.proofs.Waiting.{where_never}
 use Rattle.dap_client.specs.inner.Stages.{IsFull, IsStage, WhereFailed, is_open_stage}

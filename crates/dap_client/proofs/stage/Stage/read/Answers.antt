@@ -1,11 +1,10 @@
-use Rattle.std.proofs.Common.{◌≡◌, ℕ, ◌++◌, List, [], length, true, false, refl, sym, ap, subst, ◌∙◌}
+use Rattle.std.proofs.Common.{◌++◌, [], sym, subst}
 use Rattle.std.proofs.KnownBytes.{Appends-nil}
 use Rattle.std.proofs.lemmas.Bool.{false≢true}
 use Rattle.dap_outside.specs.Causes.{Rose}
-use Rattle.dap_types.specs.View.{dataset_view}
 use Rattle.dap_client.proofs.Texts.{unfinished_no_head}
 use Rattle.dap_client.proofs.Waiting.{error_on, no_error_on, where_never}
-use Rattle.dap_client.specs.inner.Stages.{IsStage, Moves}
+use Rattle.dap_client.specs.inner.Stages.{Moves}
 use Rattle.dap_client.proofs.stage.Stage.read.Goals as goal
 
 pub returns-in-First-clause-stage : goal.returns-in-First-clause-stage

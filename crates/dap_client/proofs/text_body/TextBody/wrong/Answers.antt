@@ -1,4 +1,4 @@
-use Rattle.std.proofs.Common.{◌≡◌, ℕ, List, ap, ◌∙◌, subst, sym}
+use Rattle.std.proofs.Common.{subst, sym}
 use Rattle.dap_client.proofs.TextBodies.{dds_wrong, match_on}
 use Rattle.dap_client.specs.Verdict.{Form}
 use Rattle.dap_client.specs.inner.DdsBodies.{IsDdsBody}

@@ -1,4 +1,4 @@
-use Rattle.std.proofs.Common.{◌≡◌, ℕ, List, [], append-nil, subst}
+use Rattle.std.proofs.Common.{[], append-nil, subst}
 use Rattle.dap_client.proofs.Filling.{no_error, no_error_here}
 use Rattle.dap_client.specs.Verdict.{Judges, bad}
 use Rattle.dap_client.proofs.text_stage.TextStage.ended.Goals as goal

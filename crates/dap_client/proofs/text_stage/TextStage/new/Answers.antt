@@ -1,4 +1,4 @@
-use Rattle.std.proofs.Common.{◌≤◌, [], arith, ◌∙◌, sym}
+use Rattle.std.proofs.Common.{[], arith, ◌∙◌, sym}
 use Rattle.std.proofs.lemmas.List.{take_all}
 use Rattle.dap_client.proofs.text_stage.TextStage.new.Goals as goal
 

@@ -1,4 +1,3 @@
-use Rattle.std.proofs.Common.{◌≡◌, ℕ, List, ◌++◌}
 use Rattle.dap_client.proofs.TextBodies.{wrong_on}
 use Rattle.dap_client.proofs.Waiting.{error_on, no_error_on}
 use Rattle.dap_client.proofs.text_stage.TextStage.read.Goals as goal

@@ -1,4 +1,4 @@
-use Rattle.std.proofs.Common.{List, ℕ, sym, ap, subst, ◌∙◌, map}
+use Rattle.std.proofs.Common.{List, sym, ap, subst, ◌∙◌, map}
 use Rattle.dap_types.specs.Model.{Member, name_of}
 use Rattle.dap_types.specs.NameSet.{HasAlso}
 use Rattle.dap_types.specs.View.{member_view}

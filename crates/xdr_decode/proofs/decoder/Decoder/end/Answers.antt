@@ -1,4 +1,4 @@
-use Rattle.std.proofs.Common.{◌≡◌, refl, sym, subst}
+use Rattle.std.proofs.Common.{refl, sym, subst}
 use Rattle.xdr_decode.proofs.Pushing.{has_failed, in_state, pushed_all, pushed_some}
 use Rattle.xdr_decode.proofs.decoder.Decoder.end.Goals as goal
 use Rattle.xdr_decode.specs.inner.Pushing.{IsPushed}

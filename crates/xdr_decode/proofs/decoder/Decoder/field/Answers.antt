@@ -1,4 +1,4 @@
-use Rattle.std.proofs.Common.{◌≡◌, ℕ, ◌+◌, ◌∙◌, List, [], ◌++◌, length, length-append, take, ap, refl, sym, subst, arith, append-nil}
+use Rattle.std.proofs.Common.{◌≡◌, ◌+◌, ◌∙◌, [], ◌++◌, length, length-append, take, ap, refl, sym, arith, append-nil}
 use Rattle.std.proofs.lemmas.List.{length-take}
 use Rattle.xdr_fields.specs.Wants.{says}
 use Rattle.xdr_decode.proofs.Passing.{passes_kept}

@@ -1,10 +1,10 @@
-use Rattle.std.proofs.Common.{◌≡◌, refl, sym, ◌∙◌, subst, ap, inl, inr}
+use Rattle.std.proofs.Common.{subst, ap, inl}
 use Rattle.std.specs.Prelude.{Err}
 use Rattle.xdr_decode.proofs.Pushing.{failed_of, not_failed}
 use Rattle.xdr_decode.proofs.Standing.{bad_never, cut_only, ends_only, reads_of, refuses, stopped, stopped_same, stopped_not_open, stopped_not_ended}
 use Rattle.xdr_decode.proofs.decoder.Decoder.finish.Goals as goal
 use Rattle.xdr_decode.specs.declared.decoder.State.TheVariants as state
-use Rattle.xdr_decode.specs.After.{Reads, Stands, StandsAfter, dataset_of, start_of}
+use Rattle.xdr_decode.specs.After.{Stands, StandsAfter, dataset_of, start_of}
 
 pub returns-in-Refused-clause-refused : goal.returns-in-Refused-clause-refused
 unfolding StandsAfter

@@ -1,4 +1,4 @@
-use Rattle.std.proofs.Common.{◌≡◌, ◌+◌, ◌<◌, ◌^◌, ◌++◌, List, ℕ, [], arith, length, refl}
+use Rattle.std.proofs.Common.{◌<◌, arith, refl}
 use Rattle.std.proofs.lemmas.List.Elements.{All-append}
 use Rattle.xdr_decode.proofs.Pushing.{front_bytes, has_failed, in_state, pushed_broken}
 use Rattle.xdr_decode.proofs.Turning.{reads_stays}

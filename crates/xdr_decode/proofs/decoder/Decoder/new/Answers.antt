@@ -1,8 +1,7 @@
-use Rattle.std.proofs.Common.{refl, sym, subst, ap, ◌∙◌}
-use Rattle.dap_types.specs.View.{dataset_view, members_view}
+use Rattle.std.proofs.Common.{refl}
+use Rattle.dap_types.specs.View.{dataset_view}
 use Rattle.xdr_decode.proofs.Beginning.{begins}
 use Rattle.xdr_decode.proofs.Roomy.{roomy}
-use Rattle.xdr_decode.specs.inner.Places.{HaveRoom}
 use Rattle.xdr_decode.specs.declared.decoder.State.TheVariants as state
 use Rattle.xdr_decode.proofs.decoder.Decoder.new.Goals as goal
 

@@ -1,7 +1,7 @@
-use Rattle.std.proofs.Common.{◌≡◌, ◌++◌, List, ℕ, [], refl, sym, subst, inl, inr}
+use Rattle.std.proofs.Common.{◌++◌, inl, inr}
 use Rattle.xdr_decode.proofs.Pushing.{failed_of, front_bytes, has_failed, not_failed, only_bad, only_ended, only_open, reading_of, refused_again, says_done, says_more, says_refused, some_pushed, stands_again, stands_pushed, where_more}
 use Rattle.xdr_decode.proofs.decoder.Decoder.push.Goals as goal
-use Rattle.xdr_decode.specs.After.{HasFailed, dataset_of, start_of}
+use Rattle.xdr_decode.specs.After.{dataset_of, start_of}
 use Rattle.xdr_decode.specs.declared.decoder.State.TheVariants as state
 use Rattle.xdr_decode.specs.declared.decoder.Pushed.TheVariants as pushed
 

@@ -1,9 +1,6 @@
-use Rattle.std.proofs.Common.{◌≡◌, ap, refl, sym, subst, ◌∙◌}
-use Rattle.dap_types.specs.View.{members_view}
+use Rattle.std.proofs.Common.{ap, refl, ◌∙◌}
 use Rattle.xdr_decode.specs.declared.bad.Bad.TheVariants.{Cut}
-use Rattle.xdr_decode.specs.declared.bad.BadField.{BadField}
 use Rattle.xdr_decode.proofs.Standing.{cut_place, ends_next, opens_next}
-use Rattle.xdr_decode.specs.inner.Places.{IsNext, IsPlaced, wants_left}
 use Rattle.xdr_decode.proofs.decoder.Decoder.reached.Goals as goal
 
 pub returns-in-Nothing-clause-ended : goal.returns-in-Nothing-clause-ended

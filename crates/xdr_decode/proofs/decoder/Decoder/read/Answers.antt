@@ -1,8 +1,8 @@
-use Rattle.std.proofs.Common.{◌≡◌, ◌<◌, ◌+◌, ◌-◌, ◌∙◌, List, ℕ, [], ◌++◌, length, length-drop, take, drop, refl, ap, sym, subst, arith}
+use Rattle.std.proofs.Common.{◌≡◌, ◌<◌, ◌+◌, ◌-◌, ◌∙◌, List, ℕ, length, length-drop, take, drop, refl, ap, arith}
 use Rattle.xdr_decode.proofs.Reading.{comes_first, comes_on, gone_bad, gone_ended, gone_failed, gone_short}
 use Rattle.xdr_decode.proofs.Texts.{part-rest}
 use Rattle.xdr_decode.proofs.decoder.Decoder.read.Goals as goal
-use Rattle.xdr_decode.specs.After.{dataset_of, place_of, start_of}
+use Rattle.xdr_decode.specs.After.{place_of}
 
 pub turns-init : goal.turns-init
 turns-init g c =

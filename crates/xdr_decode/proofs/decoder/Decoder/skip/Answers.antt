@@ -1,4 +1,4 @@
-use Rattle.std.proofs.Common.{◌≡◌, refl, arith}
+use Rattle.std.proofs.Common.{refl, arith}
 use Rattle.xdr_decode.proofs.Turning.{stays_string}
 use Rattle.xdr_decode.proofs.decoder.Decoder.skip.Goals as goal
 use Rattle.xdr_decode.specs.declared.decoder.Decoder.{Decoder}

@@ -1,4 +1,4 @@
-use Rattle.std.proofs.Common.{◌≡◌, refl}
+use Rattle.std.proofs.Common.{refl}
 use Rattle.xdr_decode.proofs.Turning.{stays_on}
 use Rattle.xdr_decode.proofs.decoder.Decoder.step.Goals as goal
 use Rattle.xdr_decode.specs.declared.decoder.Decoder.{Decoder}

@@ -1,4 +1,3 @@
-use Rattle.std.proofs.Common.{◌≡◌, refl, sym, subst}
 use Rattle.xdr_decode.proofs.Turning.{asked_want}
 use Rattle.xdr_decode.proofs.decoder.Decoder.turn.Goals as goal
 use Rattle.xdr_decode.specs.After.{dataset_of}

@@ -1,5 +1,4 @@
 use Rattle.std.proofs.Common.{refl, sym, subst}
-use Rattle.dap_types.specs.Model.{array, sequence}
 use Rattle.xdr_decode.proofs.Asking.{leaf_array}
 use Rattle.xdr_decode.proofs.Moving.{leaf_sequence}
 use Rattle.xdr_decode.specs.inner.Moving.{Moves}

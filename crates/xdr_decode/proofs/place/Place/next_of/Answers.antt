@@ -1,5 +1,5 @@
-use Rattle.std.proofs.Common.{sym, subst, ap, arith, ◌∙◌}
-use Rattle.xdr_decode.proofs.Asking.{element_asked, element_wide, leaf_array, value_wide}
+use Rattle.std.proofs.Common.{sym, subst, ap, arith}
+use Rattle.xdr_decode.proofs.Asking.{element_asked, element_wide, leaf_array}
 use Rattle.xdr_decode.proofs.place.Place.next_of.Goals as goal
 use Rattle.xdr_decode.specs.inner.Asked.{width_of}
 use Rattle.xdr_decode.specs.inner.Places.{AsksFirst, stage_wants}

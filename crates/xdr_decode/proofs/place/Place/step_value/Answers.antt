@@ -1,4 +1,4 @@
-use Rattle.std.proofs.Common.{refl, sym, subst, ◌≡◌, List, ℕ, [], None}
+use Rattle.std.proofs.Common.{subst, ◌≡◌, List, ℕ, [], None}
 use Rattle.dap_types.specs.View.{members_view}
 use Rattle.xdr_decode.proofs.Asking.{next_some, some_spot}
 use Rattle.xdr_decode.proofs.Moving.{stepped, stepped_nowhere}
