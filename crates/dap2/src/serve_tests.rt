@@ -8,7 +8,9 @@ use crate::serve::serve;
 use crate::status::Status;
 use crate::tcp::{TcpDial, TcpDoor};
 use crate::ver::ver;
-use dap_outside::{Dial, Door, MemDoor, MemFile, MemLink, MemShelf, MemSink, put_all, take_some};
+use dap_outside::{
+    Dial, Door, MemDoor, MemFile, MemLink, MemShelf, MemSink, Source, put_all, take_some,
+};
 use dap_server::{Ending, Served, serve_connection};
 use dap_types::{Bytes, List, Memory, Name};
 use std::alloc::Global;
@@ -206,5 +208,30 @@ fn a_silent_peer_is_a_fault_of_its_link(rt: HostRuntime) -> Result<(), Fail> {
     assert_eq!(rt; reply.bytes(), b"".as_slice());
     assert_eq!(rt; served.replies, 0);
     assert!(rt; matches!(served.ending, Ending::ReadFault));
+    Ok(())
+}
+
+// A stream that is closed over bytes that came is reset; then the peer reads no end behind the reply.
+#[test]
+fn a_link_that_is_done_ends_behind_what_was_put(rt: HostRuntime) -> Result<(), Fail> {
+    let mut door = TcpDoor::new(&rt);
+    let mut dial = TcpDial::new(rt.alloc(), &rt)?;
+    let Some(port) = port_of(&mut door) else {
+        return Err(Fail::from("no port"));
+    };
+    let Ok(mut peer) = dial.connect("127.0.0.1", port) else {
+        return Err(Fail::from("not connected"));
+    };
+    let Ok(mut link) = door.accept() else {
+        return Err(Fail::from("not accepted"));
+    };
+    if put_all(&mut peer, GET).is_err() || put_all(&mut link, b"reply").is_err() {
+        return Err(Fail::from("not sent"));
+    }
+    door.done(link);
+    let mut reply = [0u8; 8];
+    assert!(rt; matches!(peer.take(&mut reply), Ok(5)));
+    assert!(rt; matches!(peer.take(&mut reply), Ok(0)));
+    dial.done(peer);
     Ok(())
 }

@@ -10,6 +10,9 @@ use std::io::{ErrorKind, Read, Write};
 use std::net::{Ipv4Addr, Net, OpenListener, OpenStream, Shutdown, TcpListener, TcpStream};
 use std::time::Duration;
 
+#[cfg(test)]
+mod tests;
+
 /// For how many seconds a peer that is served may be silent.
 const SERVED_READ: u64 = 2;
 
