@@ -1,7 +1,7 @@
 -- Attributes that stand one behind the other and are read one at a time.
 use Rattle.std.specs.Prelude.{ℕ, zero, suc, List, [], ◌∷◌, Result, Ok, Err}
 use Rattle.netcdf_source.specs.Attribute.{Attribute}
-use Rattle.netcdf_source.specs.inner.Reading.{attribute_at}
+use Rattle.netcdf_source.specs.inner.Reading.{◌>>=◌, attribute_at}
 use Rattle.netcdf_source.specs.declared.stop.Failure.{Failure}
 use Rattle.netcdf_source.specs.declared.version.Version.{Version}
 
