@@ -1,18 +1,17 @@
 //! The answer to a target.
 
-ghost use Rattle.std.specs.Prelude.{◌≡◌, ◌≢◌, ◌+◌, ◌<◌, ◌≤◌, ◌⊎◌, ℕ, List, [], IsSome, IsTrue, Some, false, Result, Ok, Err};
+ghost use Rattle.std.specs.Prelude.{◌≡◌, ◌≢◌, ◌+◌, ◌<◌, ◌≤◌, ℕ, List, IsSome, Some, false, Result, Ok, Err};
 ghost use Rattle.std.specs.Io.KnownBytes.{Appends};
-ghost use Rattle.dap_errors.specs.Causes.{message_text};
 ghost use Rattle.dap_errors.specs.declared.cause.Cause.{Cause};
 ghost use Rattle.dap_http.specs.Targets.{target_of};
 ghost use Rattle.dap_outside.specs.Causes.{Rose};
 ghost use Rattle.dap_outside.specs.Streams.{AppendsFront};
 ghost use Rattle.dap_server.specs.Prepared.{asked_of};
-ghost use Rattle.dap_server.specs.Results.{Text, error_object};
+ghost use Rattle.dap_server.specs.Results.{Text};
 ghost use Rattle.xdr_encode.specs.Bodies.{FitsFile, HasNoFile, MayAsk, cost_in, text_in};
 ghost use Rattle.xdr_encode.specs.Streamed.{Stops};
-ghost use Rattle.dap2.specs.Answer.{AnswerSays, MayAskFor, MayHaveAsked, MayResult, MustResult, looks_up, status_for, status_of};
-ghost use Rattle.dap2.specs.Lines.{IsSaid, cause_line};
+ghost use Rattle.dap2.specs.Answer.{AnswerSays, MayAskFor, MayHaveAsked, MustResult, looks_up, status_for, status_of};
+ghost use Rattle.dap2.specs.Lines.{IsSaid};
 ghost use Rattle.dap2.specs.inner.Puts.{BodyPut, IsPut, RefusalPut, TextPut, status_start};
 
 use crate::lines::say_cause;

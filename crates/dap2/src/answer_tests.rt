@@ -7,10 +7,10 @@ mod samples;
 mod texts;
 
 use crate::folder_shelf::FolderShelf;
-use crate::run::run;
+use crate::running::{Said, numbers, said_alone};
 use crate::status::Status;
 use causes::{CLAUSES, Cause, DAMAGED, HEADERS, ITEMS, TARGETS};
-use dap_outside::{MemDial, MemDoor, MemFile, MemShelf, MemSink, MemSource, Shelf};
+use dap_outside::{MemFile, MemShelf, MemSink, MemSource, Shelf};
 use dap_types::{Bytes, List, Memory, Name};
 use samples::{V, alone, bytes_of, coads, file, files};
 use std::alloc::Global;
@@ -23,14 +23,6 @@ use texts::{
     ATTRIBUTES, COADS_TARGET, DECLARATIONS, GRIDS, HYPERSLABS, Row, TABLES, VERSIONS, WHOLE_FILES,
     coads_body,
 };
-
-/// What a run wrote, and how it ended.
-#[derive(Drop)]
-struct Said {
-    status: Status,
-    out: Bytes,
-    err: Bytes,
-}
 
 /// The numbers of the calls of the shelf and of the output that fail, and how much is put at once.
 #[derive(Clone, Copy)]
@@ -45,14 +37,6 @@ const SURE: Faults<'static> = Faults {
     out: &[],
     piece: 100000,
 };
-
-fn numbers(alloc: Global, all: &[u64]) -> Result<List<u64>, Memory> {
-    let mut list = List::new(alloc);
-    for number in all {
-        list.push(*number)?;
-    }
-    Ok(list)
-}
 
 fn answered<R: Threads + AllocGlobal + Sync>(
     rt: &R,
@@ -71,25 +55,10 @@ fn answered_by<R: Threads + AllocGlobal + Sync, S: Shelf>(
     faults: Faults<'_>,
 ) -> Result<Said, Memory> {
     let alloc = rt.alloc();
-    let mut named = List::new(alloc);
-    for word in words {
-        named.push(Name::new(alloc, *word)?)?;
-    }
     let mut input = MemSource::new(Bytes::new(alloc, b"")?, 1, numbers(alloc, &[])?);
     let piece = faults.piece.max(1);
-    let mut out = MemSink::new(alloc, 100000, piece, numbers(alloc, faults.out)?)?;
-    let mut err = MemSink::new(alloc, 100, 7, numbers(alloc, &[])?)?;
-    let words = named.items();
-    let mut door = MemDoor::new(alloc, List::new(alloc), numbers(alloc, &[])?)?;
-    let mut dial = MemDial::new(alloc, List::new(alloc), numbers(alloc, &[])?)?;
-    let status = run(
-        rt, alloc, words, shelf, &mut input, &mut out, &mut err, &mut door, &mut dial,
-    );
-    Ok(Said {
-        status,
-        out: Bytes::new(alloc, out.bytes())?,
-        err: Bytes::new(alloc, err.bytes())?,
-    })
+    let out = MemSink::new(alloc, 100000, piece, numbers(alloc, faults.out)?)?;
+    said_alone(rt, words, shelf, &mut input, out)
 }
 
 /// Each target has its text, by 1 and by 7 workers, put whole and a byte at a time.

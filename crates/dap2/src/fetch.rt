@@ -1,6 +1,6 @@
 //! Replies of another server, shown.
 
-ghost use Rattle.std.specs.Prelude.{◌≡◌, ◌≢◌, ◌↔◌, ◌≤◌, ℕ, List, Some, None, IfOk, length};
+ghost use Rattle.std.specs.Prelude.{◌≡◌, ◌≢◌, ◌↔◌, ◌≤◌, List, Some, None, IfOk, length};
 ghost use Rattle.dap_outside.specs.Causes.{Rose};
 ghost use Rattle.dap_http.specs.Urls.{UrlParts, url_of};
 ghost use Rattle.dap_http.specs.declared.kind.Kind.TheVariants.{Ver};

@@ -3,10 +3,10 @@
 ghost use Rattle.std.specs.Prelude.{All, IfOk};
 ghost use Rattle.dap_outside.specs.MemLinks.{IsNew};
 
-use crate::run::run;
+use crate::running::{Said, numbers, said_over};
 use crate::status::Status;
-use dap_outside::{MemDial, MemDoor, MemLink, MemSink, SureShelf, SureSource};
-use dap_types::{Bytes, List, Memory, Name};
+use dap_outside::{MemDial, MemLink, MemSink, SureShelf, SureSource};
+use dap_types::{Bytes, List, Memory};
 use std::alloc::Global;
 use std::test::Fail;
 use std::thread::Threads;
@@ -28,9 +28,7 @@ const TWO_ASKED: &[u8] =
 /// How a run ended, what it wrote, and what the link gained, if it came back.
 #[derive(Drop)]
 struct Done {
-    status: Status,
-    out: Bytes,
-    err: Bytes,
+    said: Said,
     sent: Bytes,
 }
 
@@ -52,39 +50,17 @@ fn fetched<R: Threads + AllocGlobal + Sync>(
     fails: &[u64],
 ) -> Result<Done, Memory> {
     let alloc = rt.alloc();
-    let mut named = List::new(alloc);
-    for word in words {
-        named.push(Name::new(alloc, *word)?)?;
-    }
-    let mut connects = List::new(alloc);
-    for number in fails {
-        connects.push(*number)?;
-    }
     let mut shelf = SureShelf::new(List::new(alloc));
     let mut source = SureSource::new(Bytes::new(alloc, b"")?, 7);
-    let mut out = MemSink::new(alloc, 1_000, 7, List::new(alloc))?;
-    let mut err = MemSink::new(alloc, 200, 7, List::new(alloc))?;
-    let mut door = MemDoor::new(alloc, List::new(alloc), List::new(alloc))?;
-    let mut dial = MemDial::new(alloc, links(alloc, input)?, connects)?;
-    let status = run(
-        rt,
-        alloc,
-        named.items(),
-        &mut shelf,
-        &mut source,
-        &mut out,
-        &mut err,
-        &mut door,
-        &mut dial,
-    );
+    let out = MemSink::new(alloc, 1_000, 7, List::new(alloc))?;
+    let mut dial = MemDial::new(alloc, links(alloc, input)?, numbers(alloc, fails)?)?;
+    let said = said_over(rt, words, &mut shelf, &mut source, out, &mut dial)?;
     let sent = match dial.back() {
         [link, ..] => link.written(),
         [] => b"",
     };
     Ok(Done {
-        status,
-        out: Bytes::new(alloc, out.bytes())?,
-        err: Bytes::new(alloc, err.bytes())?,
+        said,
         sent: Bytes::new(alloc, sent)?,
     })
 }
@@ -168,9 +144,9 @@ const MANY: &[&str] = &[
 fn what_is_fetched_is_told(rt: HostRuntime) -> Result<(), Fail> {
     for (words, input, fails, status, out, err, sent) in ROWS {
         let done = fetched(&rt, words, input, fails)?;
-        assert_eq!(rt; done.status, *status);
-        assert_eq!(rt; done.out.bytes(), *out);
-        assert_eq!(rt; done.err.bytes(), *err);
+        assert_eq!(rt; done.said.status, *status);
+        assert_eq!(rt; done.said.out.bytes(), *out);
+        assert_eq!(rt; done.said.err.bytes(), *err);
         assert_eq!(rt; done.sent.bytes(), *sent);
     }
     Ok(())
@@ -188,7 +164,7 @@ fn words_that_fetch_nothing(rt: HostRuntime) -> Result<(), Fail> {
         &["fetch", "http://h/v.nc", "DDS", ""],
     ] {
         let done = fetched(&rt, words, GZIP, &[])?;
-        assert_eq!(rt; done.status, Status::Words);
+        assert_eq!(rt; done.said.status, Status::Words);
     }
     Ok(())
 }

@@ -15,6 +15,8 @@ mod laws;
 mod lines;
 mod numbers;
 mod run;
+#[cfg(test)]
+mod running;
 mod serve;
 #[cfg(test)]
 mod serve_tests;

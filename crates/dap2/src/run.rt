@@ -1,4 +1,4 @@
-ghost use Rattle.std.specs.Prelude.{◌≡◌, ◌≢◌, ◌+◌, ◌≤◌, ◌⊎◌, ◌↔◌, ℕ, List, [], IfSome, IsSome, IsTrue, Some, false, length, Result};
+ghost use Rattle.std.specs.Prelude.{◌≡◌, ◌≢◌, ◌+◌, ◌≤◌, ◌↔◌, ℕ, List, [], IfSome, IsSome, IsTrue, Some, false, length, Result};
 ghost use Rattle.std.specs.Io.KnownBytes.{Appends, IsAtEnd};
 ghost use Rattle.dap_client.specs.Shows.{Takes};
 ghost use Rattle.dap_client.specs.Verdict.{Verdict, IsVerdict, dods_form};

@@ -1,12 +1,13 @@
 //! `serve` over links in memory, a link over the real door, and `ver`; the lines and the replies are worked
 //! out by hand.
 
-ghost use Rattle.std.specs.Prelude.{◌≡◌, ◌<◌, ◌≤◌, IfOk, IfSome, Some};
+ghost use Rattle.std.specs.Prelude.{◌≡◌, ◌<◌, IfOk, IfSome, Some};
 ghost use Rattle.dap_outside.specs.MemLinks.{IsNew};
 
+use crate::running::numbers;
 use crate::serve::serve;
 use crate::status::Status;
-use crate::tcp::{TcpDial, TcpDoor};
+use crate::tcp::{TcpDial, TcpDoor, TcpLink};
 use crate::ver::ver;
 use dap_outside::{
     Dial, Door, MemDoor, MemFile, MemLink, MemShelf, MemSink, Source, put_all, take_some,
@@ -36,14 +37,6 @@ struct Done {
     status: Status,
     out: Bytes,
     gained: List<Bytes>,
-}
-
-fn numbers(alloc: Global, all: &[u64]) -> Result<List<u64>, Memory> {
-    let mut list = List::new(alloc);
-    for number in all {
-        list.push(*number)?;
-    }
-    Ok(list)
 }
 
 /// A link that gives this, and whose calls of `take` with these numbers fail.
@@ -161,6 +154,23 @@ fn port_of<D: Door>(door: &mut D) -> Option<u16>
     None
 }
 
+/// A peer that is connected to the door at some free port, and the door's link to it.
+fn joined<N: Net>(
+    dial: &mut TcpDial<'_, N>,
+    door: &mut TcpDoor<'_, N>,
+) -> Result<(TcpLink<N::Stream>, TcpLink<N::Stream>), Fail> {
+    let Some(port) = port_of(door) else {
+        return Err(Fail::from("no port"));
+    };
+    let Ok(peer) = dial.connect("127.0.0.1", port) else {
+        return Err(Fail::from("not connected"));
+    };
+    let Ok(link) = door.accept() else {
+        return Err(Fail::from("not accepted"));
+    };
+    Ok((peer, link))
+}
+
 /// How a link over the real door is served whose peer sends this, and the reply that the peer gets.
 fn served_over_the_door<R: Threads + Net + AllocGlobal + Sync>(
     rt: &R,
@@ -170,15 +180,7 @@ fn served_over_the_door<R: Threads + Net + AllocGlobal + Sync>(
     let mut shelf = MemShelf::new(List::new(alloc), numbers(alloc, &[])?);
     let mut door = TcpDoor::new(rt);
     let mut dial = TcpDial::new(alloc, rt)?;
-    let Some(port) = port_of(&mut door) else {
-        return Err(Fail::from("no port"));
-    };
-    let Ok(mut peer) = dial.connect("127.0.0.1", port) else {
-        return Err(Fail::from("not connected"));
-    };
-    let Ok(mut link) = door.accept() else {
-        return Err(Fail::from("not accepted"));
-    };
+    let (mut peer, mut link) = joined(&mut dial, &mut door)?;
     if put_all(&mut peer, request).is_err() {
         return Err(Fail::from("not sent"));
     }
@@ -216,15 +218,7 @@ fn a_silent_peer_is_a_fault_of_its_link(rt: HostRuntime) -> Result<(), Fail> {
 fn a_link_that_is_done_ends_behind_what_was_put(rt: HostRuntime) -> Result<(), Fail> {
     let mut door = TcpDoor::new(&rt);
     let mut dial = TcpDial::new(rt.alloc(), &rt)?;
-    let Some(port) = port_of(&mut door) else {
-        return Err(Fail::from("no port"));
-    };
-    let Ok(mut peer) = dial.connect("127.0.0.1", port) else {
-        return Err(Fail::from("not connected"));
-    };
-    let Ok(mut link) = door.accept() else {
-        return Err(Fail::from("not accepted"));
-    };
+    let (mut peer, mut link) = joined(&mut dial, &mut door)?;
     if put_all(&mut peer, GET).is_err() || put_all(&mut link, b"reply").is_err() {
         return Err(Fail::from("not sent"));
     }

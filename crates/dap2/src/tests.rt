@@ -1,10 +1,10 @@
 ghost use Rattle.std.specs.Prelude.{◌≤◌};
 
 use crate::folder_shelf::FolderShelf;
-use crate::run::run;
+use crate::running::{Said, numbers, run_words, said_alone};
 use crate::status::Status;
 use crate::std_streams::{StdSink, StdSource};
-use dap_outside::{MemDial, MemDoor, MemFile, MemShelf, MemSink, MemSource, Shelf, Sink, Source};
+use dap_outside::{MemDial, MemFile, MemShelf, MemSink, MemSource, Shelf, Sink, Source};
 use dap_types::{Bytes, List, Memory, Name};
 use std::alloc::Global;
 use std::fs;
@@ -49,14 +49,6 @@ const RAGGED: &[u8] =
 const TWICE: &[u8] =
     b"Error {\n    code = 19;\n    message = \"damaged file: repeated column 2\";\n};\n";
 
-/// What a run wrote, and how it ended.
-#[derive(Drop)]
-struct Written {
-    status: Status,
-    out: Bytes,
-    err: Bytes,
-}
-
 /// The outside of a run: what comes in, the calls that fail, and how much moves at once.
 #[derive(Clone, Copy)]
 struct Outside<'a> {
@@ -78,14 +70,6 @@ const SURE: Outside<'static> = Outside {
     room: 1000,
     piece: 64,
 };
-
-fn numbers(alloc: Global, all: &[u64]) -> Result<List<u64>, Memory> {
-    let mut list = List::new(alloc);
-    for number in all {
-        list.push(*number)?;
-    }
-    Ok(list)
-}
 
 fn file(alloc: Global, name: &str, bytes: &[u8]) -> Result<MemFile, Memory> {
     Ok(MemFile {
@@ -110,31 +94,16 @@ fn ran<R: Threads + AllocGlobal + Sync>(
     rt: &R,
     words: &[&str],
     outside: Outside<'_>,
-) -> Result<Written, Memory> {
+) -> Result<Said, Memory> {
     let alloc = rt.alloc();
-    let mut named = List::new(alloc);
-    for word in words {
-        named.push(Name::new(alloc, *word)?)?;
-    }
     let piece = outside.piece.max(1);
     let mut shelf = MemShelf::new(files(alloc)?, numbers(alloc, outside.shelf_fails)?);
     let take_piece = outside.take_piece.max(1);
     let take_fails = numbers(alloc, outside.take_fails)?;
     let mut input = MemSource::new(Bytes::new(alloc, outside.input)?, take_piece, take_fails);
     let out_fails = numbers(alloc, outside.out_fails)?;
-    let mut out = MemSink::new(alloc, outside.room, piece, out_fails)?;
-    let mut err = MemSink::new(alloc, 200, 7, numbers(alloc, &[])?)?;
-    let words = named.items();
-    let mut door = MemDoor::new(alloc, List::new(alloc), numbers(alloc, &[])?)?;
-    let mut dial = MemDial::new(alloc, List::new(alloc), numbers(alloc, &[])?)?;
-    let status = run(
-        rt, alloc, words, &mut shelf, &mut input, &mut out, &mut err, &mut door, &mut dial,
-    );
-    Ok(Written {
-        status,
-        out: Bytes::new(alloc, out.bytes())?,
-        err: Bytes::new(alloc, err.bytes())?,
-    })
+    let out = MemSink::new(alloc, outside.room, piece, out_fails)?;
+    said_alone(rt, words, &mut shelf, &mut input, out)
 }
 
 #[test]
@@ -490,36 +459,22 @@ fn the_standard_streams_tell_what_fails(rt: HostRuntime) -> Result<(), Fail> {
 
 #[test]
 fn a_run_over_broken_streams_is_a_fault(rt: HostRuntime) -> Result<(), Fail> {
-    let mut shelf = MemShelf::new(files(rt.alloc())?, numbers(rt.alloc(), &[])?);
+    let alloc = rt.alloc();
+    let mut shelf = MemShelf::new(files(alloc)?, numbers(alloc, &[])?);
     let mut input = StdSource::new(Broken);
     let mut out = StdSink::new(Broken);
     let mut err = StdSink::new(Broken);
-    for (words, status) in [
-        (["show", ""], Status::ReadFault),
-        (["answer", "buoys.csv.dods"], Status::WriteFault),
-        (["answer", "none.csv.dods"], Status::WriteFault),
-        (["answer", "buoys.csv.dds"], Status::WriteFault),
-    ] {
-        let mut named = List::new(rt.alloc());
-        for word in words {
-            if !word.is_empty() {
-                named.push(Name::new(rt.alloc(), word)?)?;
-            }
-        }
-        let alloc = rt.alloc();
-        let mut door = MemDoor::new(alloc, List::new(alloc), numbers(alloc, &[])?)?;
-        let mut dial = MemDial::new(alloc, List::new(alloc), numbers(alloc, &[])?)?;
-        let ended = run(
-            &rt,
-            alloc,
-            named.items(),
-            &mut shelf,
-            &mut input,
-            &mut out,
-            &mut err,
-            &mut door,
-            &mut dial,
-        );
+    let mut dial = MemDial::new(alloc, List::new(alloc), List::new(alloc))?;
+    let rows: [(&[&str], Status); 4] = [
+        (&["show"], Status::ReadFault),
+        (&["answer", "buoys.csv.dods"], Status::WriteFault),
+        (&["answer", "none.csv.dods"], Status::WriteFault),
+        (&["answer", "buoys.csv.dds"], Status::WriteFault),
+    ];
+    for (words, status) in rows {
+        let ended = run_words(
+            &rt, words, &mut shelf, &mut input, &mut out, &mut err, &mut dial,
+        )?;
         assert_eq!(rt; ended, status);
     }
     Ok(())

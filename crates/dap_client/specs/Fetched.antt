@@ -116,7 +116,7 @@ AreGood form zero bytes = ⊤
 AreGood form (suc n) bytes =
     (m : ℕ) × (v : Verdict) × (rest : List ℕ) × IsFirst form bytes v m rest × IsTrue (is_complete (outcome_of m v)) × AreGood form n rest
 
--- ---- The link.
+-- ---- The link and the sink.
 
 -- what a sink has, and how often it failed
 pub record SinkState : Type 0 where

@@ -1,8 +1,8 @@
 //! Connections of which each call of the shelf fails in turn.
 
-use super::numbers;
 use super::samples::{alone, bytes_of, coads, file, files};
 use super::texts::{EACH_SECOND, coads_body};
+use crate::running::numbers;
 use dap_outside::{MemFile, MemLink, MemShelf};
 use dap_server::{Ending, serve_connection};
 use dap_types::{Bytes, List, Memory};
