@@ -68,7 +68,7 @@ pub trait Sink {
 }
 
 /// Appends all bytes. Fails only where the count of faults rose, and then some of them, from the
-/// front, are appended.
+/// front, are appended, and at least one is not.
 pub fn put_all<O: Sink>(out: &mut O, bytes: &[u8]) -> Result<(), Failed>
     ensures ok { OnOk result (Appends (O.written out.old) (O.written out.new) bytes.now) }
     ensures err { OnErr result (AppendsFront (O.written out.old) (O.written out.new) bytes.now) }

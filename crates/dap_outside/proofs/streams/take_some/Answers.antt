@@ -14,6 +14,6 @@ loop-taken-preserved g c =
       whole = c.take.ensures.whole ∙ kept.whole;
       bytes = Consumes-more _ _ _ c.loop-taken.into c.take.new.into c.loop-taken.taken _ c.in_ok-count.count kept.within part kept.bytes c.in_ok-count.ensures.bytes;
       stays = λ e. c.take.ensures.stays (kept.stays e);
-      count = omega (arith, c.take.ensures.cause.later, kept.count);
+      count = c.in_ok-count.ensures.cause.kept ∙ kept.count;
       beside = c.take.ensures.beside ∙ kept.beside;
     }

@@ -10,7 +10,7 @@ invariant-loop-taken g l =
       whole : source.whole l.source ≡ source.whole l.fn.source;
       bytes : Consumes (source.left l.fn.source) (source.left l.source) (take l.taken l.into);
       stays : IsTrue (source.ended l.fn.source) → IsTrue (source.ended l.source);
-      count : source.take_faults l.fn.source ≤ source.take_faults l.source;
+      count : source.take_faults l.source ≡ source.take_faults l.fn.source;
       beside : source.beside_reading l.source ≡ source.beside_reading l.fn.source;
     }
 
