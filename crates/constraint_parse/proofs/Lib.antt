@@ -4,6 +4,7 @@ pub mod Calls
 pub mod Complete
 pub mod Decimals
 pub mod Ends
+pub mod Judged
 pub mod Lists
 pub mod Marks
 pub mod Moves

@@ -80,7 +80,7 @@ quoted_faults {text} {at} {s} st to p h b a left next =
     completed (inl d) = finished p [] (34 ∷ []) a.each d (λ l. simp (append-nil, append_assoc)) refl
     completed (inr d) = finished (p ++ escaped 34 ∷ []) (92 ∷ []) (34 ∷ 34 ∷ []) (rw (list_all-append is_piece p (escaped 34 ∷ []), a.each) refl) d (λ l. simp (flat_map-append, append_assoc)) refl
 
-value_next : (s : State) → ReadsValue s → (q : List Piece) → (next : State) × (step s (quoted q) ≡ Some next)
+pub value_next : (s : State) → ReadsValue s → (q : List Piece) → (next : State) × (step s (quoted q) ≡ Some next)
 value_next (Compared items clauses labels n o) k q = (Clausal items (clauses ++ compare labels n o (language.text q) ∷ []), refl)
 value_next (Bracing items clauses labels n o values) k q = (Braced items clauses labels n o values (language.text q), refl)
 value_next _ k q = absurd k
