@@ -5,9 +5,9 @@ use Rattle.std.specs.Fmt.{decimal}
 use Rattle.dap_errors.specs.declared.spot.Spot.{Spot}
 use Rattle.dap_errors.specs.declared.spot.Spot.TheVariants.{Item, Clause}
 use Rattle.dap_errors.specs.declared.file_cause.FileCause.{FileCause}
-use Rattle.dap_errors.specs.declared.file_cause.FileCause.TheVariants.{NotCdf, Streaming, BadField, HeaderCut, HeaderTooLong, PastEnd, TooLong, NoHeader, TooWide, RepeatedColumn, Ragged, BadCell}
+use Rattle.dap_errors.specs.declared.file_cause.FileCause.TheVariants.{NotCdf, Streaming, BadField, HeaderCut, HeaderTooLong, PastEnd, TooLong, NoHeader, TooWide, RepeatedColumn, Ragged, BadCell, SavedTooLong, BadBody, RepeatedName, JoinTooLong, BadLine, NoMember, BadMember, NoRecord, Differs, TooManyRecords}
 use Rattle.dap_errors.specs.declared.cause.Cause.{Cause}
-use Rattle.dap_errors.specs.declared.cause.Cause.TheVariants.{Syntax, UnknownName, NotArray, SlabCount, BadSlab, TwoSlabs, TooMany, NotColumn, TypeMismatch, FloatCompared, Unsupported, BigNumber, TooLarge, BadTarget, NoFile, BadMethod, BadRequest, HeadTooLong, Damaged, ReadFailed, OutOfMemory}
+use Rattle.dap_errors.specs.declared.cause.Cause.TheVariants.{Syntax, UnknownName, NotArray, SlabCount, BadSlab, TwoSlabs, TooMany, NotColumn, TypeMismatch, FloatCompared, Unsupported, BigNumber, TooLarge, BadTarget, NoFile, BadMethod, BadRequest, HeadTooLong, Damaged, ReadFailed, OutOfMemory, UpstreamBad, UpstreamFault, UpstreamLarge}
 
 abbrev pub spot_text : Spot → List ℕ
 spot_text (Item n) = codes "item " ++ decimal n
@@ -26,6 +26,16 @@ file_cause_text TooWide = codes "too many columns"
 file_cause_text (RepeatedColumn column) = codes "repeated column " ++ decimal column
 file_cause_text (Ragged row) = codes "ragged row " ++ decimal row
 file_cause_text (BadCell row column) = codes "bad cell in row " ++ decimal row ++ codes " column " ++ decimal column
+file_cause_text SavedTooLong = codes "saved response too long"
+file_cause_text (BadBody place) = codes "bad body at " ++ decimal place
+file_cause_text (RepeatedName member) = codes "repeated name in member " ++ decimal member
+file_cause_text JoinTooLong = codes "join too long"
+file_cause_text (BadLine line) = codes "bad line " ++ decimal line
+file_cause_text (NoMember line) = codes "no member in line " ++ decimal line
+file_cause_text (BadMember line) = codes "bad member in line " ++ decimal line
+file_cause_text NoRecord = codes "no record dimension"
+file_cause_text (Differs line) = codes "member " ++ decimal line ++ codes " differs"
+file_cause_text TooManyRecords = codes "too many records"
 
 abbrev pub error_code : Cause → ℕ
 error_code (Syntax place) = 1
@@ -49,6 +59,9 @@ error_code HeadTooLong = 18
 error_code (Damaged cause) = 19
 error_code ReadFailed = 20
 error_code OutOfMemory = 21
+error_code (UpstreamBad place) = 22
+error_code UpstreamFault = 23
+error_code UpstreamLarge = 24
 
 abbrev pub message_text : Cause → List ℕ
 message_text (Syntax place) = codes "syntax at " ++ decimal place
@@ -72,6 +85,9 @@ message_text HeadTooLong = codes "head too long"
 message_text (Damaged cause) = codes "damaged file: " ++ file_cause_text cause
 message_text ReadFailed = codes "read failed"
 message_text OutOfMemory = codes "out of memory"
+message_text (UpstreamBad place) = codes "bad upstream reply at " ++ decimal place
+message_text UpstreamFault = codes "upstream fault"
+message_text UpstreamLarge = codes "upstream reply too large"
 
 -- 400 but for what the client is not to blame for, or what has a status of its own (RFC 9110, RFC 6585)
 abbrev pub http_status : Cause → ℕ
@@ -96,3 +112,6 @@ http_status HeadTooLong = 431
 http_status (Damaged cause) = 500
 http_status ReadFailed = 500
 http_status OutOfMemory = 503
+http_status (UpstreamBad place) = 502
+http_status UpstreamFault = 502
+http_status UpstreamLarge = 502

@@ -51,6 +51,12 @@ pub enum Cause {
     ReadFailed,
     /// Memory was wanted.
     OutOfMemory,
+    /// What another server answered is bad at this place.
+    UpstreamBad { place: u64 },
+    /// The connection to another server failed.
+    UpstreamFault,
+    /// What another server answered is longer than what is handed on, this project's limit.
+    UpstreamLarge,
 }
 
 impl fmt::Display for Cause {
@@ -82,11 +88,14 @@ impl fmt::Display for Cause {
             Cause::Damaged(cause) => write!(f, "damaged file: {cause}"),
             Cause::ReadFailed => f.write_str("read failed"),
             Cause::OutOfMemory => f.write_str("out of memory"),
+            Cause::UpstreamBad { place } => write!(f, "bad upstream reply at {place}"),
+            Cause::UpstreamFault => f.write_str("upstream fault"),
+            Cause::UpstreamLarge => f.write_str("upstream reply too large"),
         }
     }
 }
 
-/// The code of an Error object with this cause, 1 to 21.
+/// The code of an Error object with this cause, 1 to 24.
 pub fn code(cause: &Cause) -> u32
     ensures { result ≡ error_code cause.now }
 {
@@ -112,6 +121,9 @@ pub fn code(cause: &Cause) -> u32
         Cause::Damaged(_) => 19,
         Cause::ReadFailed => 20,
         Cause::OutOfMemory => 21,
+        Cause::UpstreamBad { .. } => 22,
+        Cause::UpstreamFault => 23,
+        Cause::UpstreamLarge => 24,
     }
 }
 
@@ -124,6 +136,7 @@ pub fn status(cause: &Cause) -> u16
         Cause::BadMethod => 405,
         Cause::HeadTooLong => 431,
         Cause::Damaged(_) | Cause::ReadFailed => 500,
+        Cause::UpstreamBad { .. } | Cause::UpstreamFault | Cause::UpstreamLarge => 502,
         Cause::OutOfMemory => 503,
         _ => 400,
     }

@@ -1,7 +1,7 @@
 use std::fmt;
 
 /// Why a stored file has no dataset. Places are bytes from the front of the file, from 0; variables,
-/// columns and rows are counted from 1.
+/// columns and rows are counted from 1, members each before its parts.
 #[derive(Clone, Copy, Debug, PartialEq, Eq)]
 pub enum FileCause {
     /// No `CDF` with version 1, 2 or 5 at the front (netCDF classic format, magic).
@@ -28,6 +28,26 @@ pub enum FileCause {
     Ragged { row: u32 },
     /// This cell is no value of its column's type.
     BadCell { row: u32, column: u32 },
+    /// A saved data response of more than 67,108,864 bytes, this project's limit.
+    SavedTooLong,
+    /// What was saved is no data response (DAP 2.0, DODS): here stands what is wrong first.
+    BadBody { place: u64 },
+    /// This member of a saved data response has the name of an earlier one of its level.
+    RepeatedName { member: u32 },
+    /// A list of more than 65,536 bytes, this project's limit.
+    JoinTooLong,
+    /// This line of a list, from 1, is no name of a netCDF file, is line 65, or is line 1 of an empty list.
+    BadLine { line: u32 },
+    /// There is no file of the name in this line of a list.
+    NoMember { line: u32 },
+    /// The file of the name in this line of a list has no dataset.
+    BadMember { line: u32 },
+    /// The first file of a list has no record dimension (netCDF classic format).
+    NoRecord,
+    /// The file in this line of a list has other dimensions or variables than the first.
+    Differs { line: u32 },
+    /// The files of a list have more than 2,147,483,647 records.
+    TooManyRecords,
 }
 
 impl fmt::Display for FileCause {
@@ -52,6 +72,16 @@ impl fmt::Display for FileCause {
             FileCause::BadCell { row, column } => {
                 write!(f, "bad cell in row {row} column {column}")
             }
+            FileCause::SavedTooLong => f.write_str("saved response too long"),
+            FileCause::BadBody { place } => write!(f, "bad body at {place}"),
+            FileCause::RepeatedName { member } => write!(f, "repeated name in member {member}"),
+            FileCause::JoinTooLong => f.write_str("join too long"),
+            FileCause::BadLine { line } => write!(f, "bad line {line}"),
+            FileCause::NoMember { line } => write!(f, "no member in line {line}"),
+            FileCause::BadMember { line } => write!(f, "bad member in line {line}"),
+            FileCause::NoRecord => f.write_str("no record dimension"),
+            FileCause::Differs { line } => write!(f, "member {line} differs"),
+            FileCause::TooManyRecords => f.write_str("too many records"),
         }
     }
 }
