@@ -21,3 +21,5 @@ mod Tabled
 mod Wholes
 mod Within
 pub mod Wide
+mod Marks
+mod Widths

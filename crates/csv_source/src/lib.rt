@@ -13,6 +13,7 @@ mod read;
 mod records;
 mod refusal;
 mod table;
+mod width;
 
 pub use cell::Cell;
 pub use read::read_table;

@@ -11,6 +11,7 @@ use crate::cell::may_be_cell;
 use crate::fields::Fields;
 use crate::header::{first_repeated, header_columns};
 use crate::records::{next_record, open};
+use crate::width::is_too_wide;
 use crate::{Table, TableRefusal};
 use csv::{ByteRecord, Reader};
 use dap_types::{Bytes, Column};
@@ -18,8 +19,6 @@ use std::alloc::Global;
 
 /// The most bytes of a file.
 const MOST_BYTES: usize = 67_108_864;
-/// The most columns of a table.
-const MOST_COLUMNS: usize = 1_024;
 
 /// The table of the bytes of a file, as `table_of` has it: the first record names the columns, the
 /// others are the rows (RFC 4180; the typed header and the limits are this project's).
@@ -34,13 +33,13 @@ pub fn read_table(alloc: Global, bytes: &[u8], file_name: &[u8]) -> Result<Table
     if bytes.len() > MOST_BYTES {
         return Err(TableRefusal::TooLong);
     }
+    if is_too_wide(bytes) {
+        return Err(TableRefusal::TooWide);
+    }
     let mut reader = open(alloc, bytes);
     let mut header = ByteRecord::new(alloc);
     if !next_record(&mut reader, &mut header)? {
         return Err(TableRefusal::NoHeader);
-    }
-    if header.len() > MOST_COLUMNS {
-        return Err(TableRefusal::TooWide);
     }
     let columns = header_columns(alloc, &header)?;
     if let Some(column) = first_repeated(alloc, columns.items())? {
@@ -74,16 +73,14 @@ fn read_rows(
     ensures first_cause { IfErr result (λ e. e ≢ Memory → HasBadRow columns.now (fields_of header) e (csv_records bytes.now)) }
 {
     let mut cells = Fields::with_room(alloc, bytes.len())?;
-    let mut rows = 0u32;
     let mut row = header;
-    'records: for _ in 0..u64::MAX {
+    'records: for rows in 0..u32::MAX {
         if !next_record(&mut reader, &mut row)? {
             return Ok((cells, rows));
         }
         push_row(&mut cells, rows + 1, &row, columns)?;
-        rows += 1;
     }
-    Err(TableRefusal::Memory)
+    unreachable!()
 }
 
 /// Adds the fields of the row of this number.

@@ -6,6 +6,7 @@ pub mod Counted
 pub mod EveryReading
 pub mod LevelFacts
 pub mod Live
+pub mod Measured
 pub mod Named
 pub mod OneReading
 pub mod OpenLevels

@@ -1,3 +1,4 @@
 pub mod After
+pub mod Length
 pub mod Reading
 pub mod inner

@@ -1,9 +1,13 @@
-ghost use Rattle.std.specs.Prelude.{◌≡◌, ◌<◌, ◌≤◌, ◌^◌, ◌++◌, IfOk, MatchResult, OnOk};
+ghost use Rattle.std.specs.Prelude.{◌≡◌, ◌<◌, ◌≤◌, ◌^◌, ◌++◌, Err, IfOk, MatchResult, OnOk, length};
 ghost use Rattle.dap_types.specs.View.{dataset_view, member_view, members_view};
 ghost use Rattle.dap_model.specs.Dds.{dds, member_text, members_text};
+ghost use Rattle.dds_text.specs.declared.refusal.PrintRefusal.TheVariants as PrintRefusal;
 
 use crate::declarations::{put_array, put_arrays, put_column, put_columns};
+use crate::front::LIMIT;
 use crate::lines::put_closing;
+use crate::measure::length_within;
+use crate::refusal::PrintRefusal;
 use dap_types::{Bytes, Dataset, Decl, Memory};
 use std::alloc::Global;
 use text_lines::put_line;
@@ -22,16 +26,38 @@ fn check_depth(depth: u32) -> Result<(), Memory>
     Ok(())
 }
 
+/// Appends the DDS of the dataset.
+#[tactic(auto, unfolding(dap_model::specs::Dds::dds))]
+fn put_dataset(out: &mut Vec<u8>, dataset: &Dataset) -> Result<(), Memory>
+    ensures { OnOk result (out.new.items ≡ out.old.items ++ dds (dataset_view dataset.now)) }
+{
+    put_line(out, 0, b"Dataset {")?;
+    put_members(out, 1, dataset.members.items())?;
+    put_closing(out, 0, &dataset.name)
+}
+
 /// The DDS of the dataset (DAP 2.0, Dataset Descriptor Structure, in this project's layout). Fails
 /// where memory is wanted.
-#[tactic(auto, unfolding(dap_model::specs::Dds::dds))]
 pub fn print(alloc: Global, dataset: &Dataset) -> Result<Bytes, Memory>
     ensures text { IfOk result (λ text. text ≡ dds (dataset_view dataset.now)) }
 {
     let mut out = Vec::new(alloc);
-    put_line(&mut out, 0, b"Dataset {")?;
-    put_members(&mut out, 1, dataset.members.items())?;
-    put_closing(&mut out, 0, &dataset.name)?;
+    put_dataset(&mut out, dataset)?;
+    Ok(Bytes::from_vec(out))
+}
+
+/// The DDS of the dataset, where a reader takes one of its length. `TooLong` comes exactly where it has
+/// more than 16,777,216 bytes, and nothing of it is printed then; `Memory` comes where memory is wanted.
+pub fn print_short(alloc: Global, dataset: &Dataset) -> Result<Bytes, PrintRefusal>
+    ensures text { IfOk result (λ text. text ≡ dds (dataset_view dataset.now)) }
+    ensures short { IfOk result (λ text. length text ≤ 16777216) }
+    ensures too_long { result ≡ Err PrintRefusal.TooLong → 16777216 < length (dds (dataset_view dataset.now)) }
+{
+    let Some(length) = length_within(dataset, LIMIT as u32) else {
+        return Err(PrintRefusal::TooLong);
+    };
+    let mut out = Vec::with_capacity(alloc, length as usize)?;
+    put_dataset(&mut out, dataset)?;
     Ok(Bytes::from_vec(out))
 }
 

@@ -1,3 +1,6 @@
+mod ByKind
+mod Distinct
+mod Ends
 mod RowFacts
 mod Orders
 mod Owned

@@ -14,9 +14,10 @@ use Rattle.dap_types.specs.declared.values.Value.{Value}
 use Rattle.csv_source.specs.Dataset.{row_tree}
 use Rattle.csv_source.specs.Table.{CsvTable, value_at}
 use Rattle.sequence_select.specs.Selections.{relation_of, row_of}
-use Rattle.sequence_select.specs.Tests.{operand_value, selection_of}
+use Rattle.sequence_select.specs.Operands.{operand_value}
+use Rattle.sequence_select.specs.Tests.{selection_of}
 use Rattle.sequence_select.specs.declared.constants.Operand.{Operand}
-use Rattle.sequence_select.specs.declared.clauses.Test.{Test}
+use Rattle.sequence_select.specs.declared.comparison.Test.{Test}
 
 any-mapped : {X Y : Type 0} (p : Y → Bool) (f : X → Y) (xs : List X) → list_any p (map f xs) ≡ list_any (λ x. p (f x)) xs
 any-mapped p f [] = refl

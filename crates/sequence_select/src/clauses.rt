@@ -9,20 +9,14 @@ ghost use Rattle.grid_projection.specs.Resolved.{cause};
 ghost use Rattle.sequence_select.specs.Selections.{selection_in, selections};
 ghost use Rattle.sequence_select.specs.Tests.{selection_of, tested};
 
-use crate::constants::{Operand, operands, stands};
-use constraint_parse::{Clause, Constraint, Op};
+use crate::comparison::Test;
+use crate::constants::operands;
+use crate::numbers::Numbers;
+use crate::texts::Texts;
+use constraint_parse::{Clause, Constraint};
 use csv_source::{Cell, Table};
 use dap_types::{Dataset, Index, List, Memory};
 use std::alloc::Global;
-
-/// A clause: it holds where a value of the column stands in the relation to one of the constants.
-#[derive(Debug, Drop)]
-pub struct Test {
-    /// The column's number as a member of the dataset.
-    pub column: u32,
-    pub op: Op,
-    pub operands: List<Operand>,
-}
 
 /// The clauses of a constraint. Contracts speak of them as its selections, `tested`.
 #[derive(Debug, Drop)]
@@ -41,6 +35,21 @@ impl Tests {
         constraint: &Constraint,
     ) -> Result<Tests, Memory>
         requires table { dataset_view _dataset.now ≡ table_dataset _table.now }
+        requires indexed { (path : List (List ℕ)) → number_in index.now path ≡ number_of (dataset_view _dataset.now) path }
+        requires accepted { cause (dataset_view _dataset.now) constraint.now ≡ None }
+        ensures { IfOk result (λ tests. tested tests ≡ selections (dataset_view _dataset.now) constraint.now) }
+    {
+        Tests::of_dataset(alloc, _dataset, index, constraint)
+    }
+
+    /// The clauses of a constraint for which `resolve` has no cause, on any dataset. Fails where memory
+    /// is wanted.
+    pub fn of_dataset(
+        alloc: Global,
+        _dataset: &Dataset,
+        index: &Index,
+        constraint: &Constraint,
+    ) -> Result<Tests, Memory>
         requires indexed { (path : List (List ℕ)) → number_in index.now path ≡ number_of (dataset_view _dataset.now) path }
         requires accepted { cause (dataset_view _dataset.now) constraint.now ≡ None }
         ensures { IfOk result (λ tests. tested tests ≡ selections (dataset_view _dataset.now) constraint.now) }
@@ -68,22 +77,27 @@ fn push_test(
     let Some(column) = index.member(path.items()) else {
         return Ok(());
     };
+    let operands = operands(alloc, values.items())?;
+    let numbers = Numbers::of(alloc, operands.items())?;
+    let texts = Texts::of(alloc, operands.items())?;
     tests.push(Test {
         column,
         op: *op,
-        operands: operands(alloc, values.items())?,
+        operands,
+        numbers,
+        texts,
     })?;
     Ok(())
 }
 
-/// Whether a clause holds of a cell.
-pub(crate) fn holds(cell: Cell<'_>, test: &Test) -> bool
+/// Whether a clause holds of a cell. Takes no memory.
+pub fn holds(cell: Cell<'_>, test: &Test) -> bool
     ensures { result ≡ holds (selection_of test.now) (lent_value cell.entry) }
 {
-    for operand in test.operands.items() {
-        if stands(cell, test.op, operand) {
-            return true;
-        }
+    match cell {
+        Cell::Whole(number) => test.numbers.relates(test.op, number),
+        Cell::Text(text) => test.texts.relates(test.op, text),
+        Cell::Bits32(_) => false,
+        Cell::Bits64(_) => false,
     }
-    false
 }

@@ -4,11 +4,16 @@
 #![tactic(auto)]
 
 mod clauses;
+mod comparison;
 mod constants;
 pub mod laws;
+mod numbers;
+mod relation;
 mod rows;
+mod texts;
 mod workers;
 
-pub use clauses::Tests;
+pub use clauses::{Tests, holds};
+pub use comparison::Test;
 pub use rows::keep;
 pub use workers::mask;

@@ -4,7 +4,8 @@ ghost use Rattle.csv_source.specs.Dataset.{row_tree};
 ghost use Rattle.sequence_select.specs.Selections.{row_of};
 ghost use Rattle.sequence_select.specs.Tests.{selection_of, tested};
 
-use crate::clauses::{Test, Tests, holds};
+use crate::clauses::{Tests, holds};
+use crate::comparison::Test;
 use csv_source::Table;
 
 /// Whether one clause keeps a row. One on what is no column of the table keeps each.

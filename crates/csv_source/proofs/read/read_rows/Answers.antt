@@ -4,6 +4,7 @@ use Rattle.csv.specs.Records.{fields_of}
 use Rattle.csv_source.specs.inner.Held.{AreEnds, fields_from, fields_in, rows_of, total_all}
 use Rattle.csv_source.proofs.Reading.{row-bad, row-more, row-room}
 use Rattle.csv_source.proofs.Rows.{rows_of-length}
+use Rattle.csv_source.proofs.Standings.{stands-count}
 use Rattle.csv_source.proofs.read.read_rows.Goals as goal
 
 pub records-init : goal.records-init
@@ -33,14 +34,6 @@ overflow_add-rows c =
     let room = row-room c.args.bytes.now (fields_of c.args.header) (length c.args.columns.now) c.records.rows (fields_in c.records.cells.ends.items c.records.cells.text.items) (fields_of c.next_record.new.into) c.next_record.new.reader c.requires.short stands in
     omega (arith, room.0)
 
-pub overflow_add-rows-in-records : goal.overflow_add-rows-in-records
-overflow_add-rows-in-records c =
-    let found : c.in_ok-next_record.field-0 ≡ true = search (rules, c.if-not-branch.false) in
-    let held = fields_of c.args.header ∷ rows_of (length c.args.columns.now) c.records.rows (fields_in c.records.cells.ends.items c.records.cells.text.items) in
-    let stands = rw found at (c.in_ok-next_record.ensures.reads c.args.bytes.now held c.records.invariant.stands) in
-    let room = row-room c.args.bytes.now (fields_of c.args.header) (length c.args.columns.now) c.records.rows (fields_in c.records.cells.ends.items c.records.cells.text.items) (fields_of c.next_record.new.into) c.next_record.new.reader c.requires.short stands in
-    omega (arith, room.0)
-
 pub push_row-requires-clause-short : goal.push_row-requires-clause-short
 push_row-requires-clause-short c =
     let found : c.in_ok-next_record.field-0 ≡ true = search (rules, c.if-not-branch.false) in
@@ -48,6 +41,14 @@ push_row-requires-clause-short c =
     let stands = rw found at (c.in_ok-next_record.ensures.reads c.args.bytes.now held c.records.invariant.stands) in
     let room = row-room c.args.bytes.now (fields_of c.args.header) (length c.args.columns.now) c.records.rows (fields_in c.records.cells.ends.items c.records.cells.text.items) (fields_of c.next_record.new.into) c.next_record.new.reader c.requires.short stands in
     omega (arith, room.1, c.records.invariant.long)
+
+-- no file has so many rows
+pub unreachable-requires : goal.unreachable-requires
+unreachable-requires c =
+    let fields = fields_in c.records.cells.ends.items c.records.cells.text.items in
+    let held = fields_of c.args.header ∷ rows_of (length c.args.columns.now) c.records.rows fields in
+    let count = stands-count c.args.bytes.now held c.records.reader c.records.invariant.stands in
+    omega (arith, count, rows_of-length (length c.args.columns.now) c.records.rows fields, c.requires.short, c.records-test.false)
 
 pub returns-in_err-push_row-clause-first_cause : goal.returns-in_err-push_row-clause-first_cause
 returns-in_err-push_row-clause-first_cause c =
