@@ -69,7 +69,7 @@ sizes_positive c (i ∷ ids) h = head (length_at c.dimensions i) h.0 (sizes_posi
     head : (n : ℕ) → n ≢ 0 → map (size_at c) ids ≡ lengths c.dimensions ids → cond (eqb n 0) c.records n ∷ map (size_at c) ids ≡ n ∷ lengths c.dimensions ids
     head n ne e = rw (ne_eqb n 0 ne, e) refl
 
-plain_sizes : (c : Contents) (ids : List ℕ) → begins_with_records (lengths c.dimensions ids) ≡ false → ArePositive (inner (lengths c.dimensions ids))
+pub plain_sizes : (c : Contents) (ids : List ℕ) → begins_with_records (lengths c.dimensions ids) ≡ false → ArePositive (inner (lengths c.dimensions ids))
     → (map (size_at c) ids ≡ lengths c.dimensions ids) × (inner (lengths c.dimensions ids) ≡ lengths c.dimensions ids)
 plain_sizes c [] e h = (refl, refl)
 plain_sizes c (i ∷ ids) e h =
@@ -77,7 +77,7 @@ plain_sizes c (i ∷ ids) e h =
     (sizes_positive c (i ∷ ids) (subst ArePositive whole h), whole)
 
 -- a record variable's elements: records, and the lengths inside a record
-record_sizes : (c : Contents) (ids : List ℕ) → begins_with_records (lengths c.dimensions ids) ≡ true → ArePositive (inner (lengths c.dimensions ids))
+pub record_sizes : (c : Contents) (ids : List ℕ) → begins_with_records (lengths c.dimensions ids) ≡ true → ArePositive (inner (lengths c.dimensions ids))
     → map (size_at c) ids ≡ c.records ∷ inner (lengths c.dimensions ids)
 record_sizes c [] e h = absurd cc
 record_sizes c (i ∷ ids) e h =
@@ -93,7 +93,7 @@ texts_record (n ∷ m ∷ ns) e =
     let last : suc (suc (length ns)) - 1 ≡ suc (length ns) = omega arith in
     ap (λ (k : ℕ). begins_with_records (take k (n ∷ m ∷ ns))) last
 
-element_record : (c : Contents) (v : Variable) → is_record c.dimensions (element_dimensions c v) ≡ is_record c.dimensions v.dimensions
+pub element_record : (c : Contents) (v : Variable) → is_record c.dimensions (element_dimensions c v) ≡ is_record c.dimensions v.dimensions
 unfolding has_texts
 element_record c v = ap begins_with_records (element_lengths c v) ∙ go (has_texts c v) refl
   where
@@ -214,7 +214,7 @@ none_past {X} p k (y ∷ ys) zero x none at = subst (λ z. p z ≡ false) (some_
     some_is y x q = cc
 none_past p k (y ∷ ys) (suc i) x none at = none_past p (k + 1) ys i x (first_no (p y) k (position_from p (k + 1) ys) none).1 at
 
-turn_positive : (c : Contents) (before vs : List Variable) (i : ℕ) (v : Variable) → InTurn (IsVariable c.dimensions) before vs → slice_get vs i ≡ Some v
+pub turn_positive : (c : Contents) (before vs : List Variable) (i : ℕ) (v : Variable) → InTurn (IsVariable c.dimensions) before vs → slice_get vs i ≡ Some v
     → ArePositive (inner (lengths c.dimensions (element_dimensions c v)))
 unfolding InTurn
 turn_positive c before [] i v h at = absurd cc

@@ -1,12 +1,12 @@
 -- Where the elements of a variable stand (netCDF classic format, "Computing file offsets"): the bytes
 -- of a variable chopped into equal pieces, and the steps that lead to the same places.
-use Rattle.std.specs.Prelude.{◌≡◌, ℕ, ◌+◌, ◌*◌, ◌/◌, ◌^◌, ◌<◌, ◌≤◌, false, List, [], ◌∷◌, ◌++◌, length, map, take, drop, if◌then◌else◌, Option, Some, MatchOption}
+use Rattle.std.specs.Prelude.{◌≡◌, ℕ, ◌+◌, ◌*◌, ◌/◌, ◌^◌, ◌<◌, ◌≤◌, false, true, List, [], ◌∷◌, ◌++◌, length, map, take, drop, if◌then◌else◌, Option, Some, MatchOption}
 use Rattle.std.specs.List.{AllByRecursion}
 use Rattle.dap_types.specs.Limits.{most_piece}
 use Rattle.dap_types.specs.Model.{product}
 use Rattle.dap_types.specs.declared.slabs.Layout.{Layout}
 use Rattle.dap_model.specs.Indexing.{AreIndexes, distance}
-use Rattle.netcdf_source.specs.Mapping.{is_char, leaf_variable, size_at, element_dimensions, element_size}
+use Rattle.netcdf_source.specs.Mapping.{is_char, is_over_records, leaf_variable, size_at, element_dimensions, element_size, with_records}
 use Rattle.netcdf_source.specs.Parts.{lengths, inner, is_record, part, record_size}
 use Rattle.netcdf_source.specs.Types.{size_of}
 use Rattle.netcdf_source.specs.declared.header.Contents.{Contents}
@@ -100,3 +100,12 @@ pub record IsShaped (c : Contents) (v : Variable) (l : Layout) : Type 0 where
 
 unfoldable pub LeafIsShaped : Contents → ℕ → Option Layout → Type 0
 LeafIsShaped c leaf found = MatchOption found (Unit {0}) (λ l. (v : Variable) × (leaf_variable c leaf ≡ Some v) × IsShaped c v l)
+
+-- The record dimension stands first alone: with any number of records these are the sizes of the elements of a record
+-- variable, and of any other one.
+pub record HasSizes (c : Contents) (v : Variable) : Type 0 where
+  pub over_records : is_over_records c v ≡ true → (records : ℕ) → element_sizes (with_records records c) v ≡ records ∷ inner (lengths c.dimensions (element_dimensions c v))
+  pub fixed : is_over_records c v ≡ false → (records : ℕ) → element_sizes (with_records records c) v ≡ lengths c.dimensions (element_dimensions c v)
+
+unfoldable pub LeafHasSizes : Contents → ℕ → Type 0
+LeafHasSizes c leaf = (v : Variable) → leaf_variable c leaf ≡ Some v → HasSizes c v

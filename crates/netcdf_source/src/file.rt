@@ -5,7 +5,7 @@ ghost use Rattle.dap_types.specs.View.{dataset_view};
 ghost use Rattle.dap_types.specs.WellFormed.{IsWellFormed};
 ghost use Rattle.das_text.specs.View.{attributes_view};
 ghost use Rattle.netcdf_source.specs.Attributes.{attributes_of};
-ghost use Rattle.netcdf_source.specs.Layouts.{layout_of, LeafIsPlaced, LeafIsShaped};
+ghost use Rattle.netcdf_source.specs.Layouts.{layout_of, LeafHasSizes, LeafIsPlaced, LeafIsShaped};
 ghost use Rattle.netcdf_source.specs.Mapping.{base_of, dataset_of, is_char, is_over_records, leaf_variable, leaves_from, records_of, with_records, HaveSameShape};
 ghost use Rattle.netcdf_source.specs.Parts.{past_end, record_size};
 ghost use Rattle.netcdf_source.specs.inner.Sound.{IsSound};
@@ -189,7 +189,8 @@ impl Header {
     /// Whether the first dimension of a leaf is the record dimension, `leaf` being its number as a
     /// member of the dataset.
     pub fn is_record(&self, leaf: u32) -> bool
-        ensures { result ≡ option_map_or (is_over_records self.now.contents) (leaf_variable self.now.contents leaf) false }
+        ensures sizes { LeafHasSizes self.now.contents leaf }
+        ensures over_records { result ≡ option_map_or (is_over_records self.now.contents) (leaf_variable self.now.contents leaf) false }
     {
         match leaf_in(&self.leaves, leaf) {
             Some(number) => is_record_at(&self.contents, number),
