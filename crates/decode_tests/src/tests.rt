@@ -1,5 +1,6 @@
 mod bodies;
 mod cases;
+mod counted;
 mod faults;
 mod feeding;
 mod many;

@@ -157,7 +157,7 @@ pub small_good : (body : List ℕ) (r : Result Filled AllRefusal) → IsSmall bo
 small_good body (Ok f) small good = good_body body (dataset_view f.dataset) (map tree_view f.values) good (small_budget body small)
 small_good body (Err e) small good = good
 
-small_refusal : (body : List ℕ) (e : AllRefusal) → IsSmall body → IsRefusalIn body e → IsRefusal body e
+pub small_refusal : (body : List ℕ) (e : AllRefusal) → IsSmall body → IsRefusalIn body e → IsRefusal body e
 small_refusal body (Refused b) small wrong = inl (subst (λ l. IsWrongIn l b.kind b.place) (sym (small_first body (small_budget body small))) wrong, inl (small_budget body small))
 small_refusal body Memory small wrong = tt
 

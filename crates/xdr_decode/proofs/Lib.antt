@@ -27,3 +27,4 @@ pub mod Decoded
 pub mod Lined
 pub mod Elements
 pub mod Arrays
+pub mod Checks

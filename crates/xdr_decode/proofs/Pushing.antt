@@ -1,5 +1,5 @@
 -- What a push says of the bytes that came.
-use Rattle.std.proofs.Common.{◌≡◌, ℕ, zero, suc, ◌+◌, ◌-◌, ◌^◌, ◌<◌, ◌≤◌, ◌⊎◌, List, [], ◌++◌, length, length-append, get_or, take, drop, take-append-drop, All, Option, Some, None, inl, inr, ⊎_elim, refl, ap, ◌∙◌, sym, subst, arith, append_assoc, append-nil}
+use Rattle.std.proofs.Common.{◌≡◌, ℕ, zero, suc, ◌+◌, ◌-◌, ◌^◌, ◌<◌, ◌≤◌, ◌⊎◌, List, [], ◌++◌, length, length-append, get_or, take, drop, take-append-drop, All, Option, Some, None, inl, inr, ⊎_elim, refl, ap, ◌∙◌, sym, subst, arith, append_assoc, append-nil, min}
 use Rattle.std.proofs.Math.Seq.{take-add}
 use Rattle.std.proofs.lemmas.List.{take-append-le, length-take, length-drop}
 use Rattle.std.proofs.lemmas.List.Elements.{All-append, All-from_get_or, All-take}
@@ -11,9 +11,10 @@ use Rattle.dap_model.specs.Received.{Fault, IsBadField, IsOpen}
 use Rattle.dap_model.specs.Xdr.{Spells}
 use Rattle.xdr_fields.proofs.Growing.{prefix_trans}
 use Rattle.xdr_decode.specs.Verdict.{kind_of}
+use Rattle.xdr_decode.specs.declared.bad.Bad.TheVariants.{Cut}
 use Rattle.xdr_decode.specs.declared.bad.BadField.{BadField}
 use Rattle.xdr_decode.proofs.Standing.{ends, opens, puts, stopped}
-use Rattle.xdr_decode.specs.After.{EndsBehind, HasFailed, IsFirstBad, IsStopped, Reads, Stands, StandsAfter, UnlessFault, WhereDone, WhereFault, WhereMore, WhereRefused, dataset_of, start_of, used_of}
+use Rattle.xdr_decode.specs.After.{EndsBehind, HasFailed, HasFailedBehind, IsFirstBad, IsStopped, Reads, Stands, StandsAfter, UnlessFault, WhereDone, WhereFault, WhereMore, WhereRefused, dataset_of, start_of, used_of}
 use Rattle.xdr_decode.specs.inner.Places.{wants_left}
 use Rattle.std.proofs.Common.{Ok, Err}
 use Rattle.std.proofs.Math.Seq.{take-length}
@@ -198,23 +199,28 @@ some_said q piece bytes put t (pushed.Refused bad) answer all read front =
     record { good = shown.good; whole = shown.whole; more = shown.more; has_good = inl shown.has_good; is_front = shown.is_front; within = prefix_trans t put (shown.whole ++ shown.more) front shown.within }
 some_said q piece bytes put t pushed.WriteFault answer all read front = absurd answer
 
-pub pushed_some : (q : Decoder) (before mid now : Option (List ℕ)) (held left piece bytes put : List ℕ) (p : Pushed) → held ≡ [] → IsAnswer p → AreBytes (bytes ++ piece) → IsGoneThrough before held mid left q piece bytes put (Ok p) → AppendsFront mid now left
-    → IsPushed before now (in_state q state.Failed) piece bytes put pushed.WriteFault
-pushed_some q before mid now held left piece bytes put p none answer all gone sent =
+-- another decoder of the same dataset says it
+some_as : (q s : Decoder) (bytes t : List ℕ) → dataset_of s ≡ dataset_of q → ShowsSome (dataset_of q) bytes t → ShowsSome (dataset_of s) bytes t
+some_as q s bytes t same shows = subst (λ d. ShowsSome d bytes t) (sym same) shows
+
+pub pushed_some : (q s : Decoder) (before mid now : Option (List ℕ)) (held left piece bytes put : List ℕ) (p : Pushed) → dataset_of s ≡ dataset_of q → s.state ≡ state.Failed → held ≡ [] → IsAnswer p → AreBytes (bytes ++ piece)
+    → IsGoneThrough before held mid left q piece bytes put (Ok p) → AppendsFront mid now left → IsPushed before now s piece bytes put pushed.WriteFault
+pushed_some q s before mid now held left piece bytes put p same failed none answer all gone sent =
     let (k, le, front) = passed_and_stopped before mid now held left gone.gained none gone.puts sent in
     record {
       gained = take k gone.gained;
-      is_said = (some_said q piece bytes (put ++ gone.gained) (put ++ take k gone.gained) p answer all gone.is_read (front_of put gone.gained k), refl);
+      is_said = (some_as q s (bytes ++ piece) (put ++ take k gone.gained) same (some_said q piece bytes (put ++ gone.gained) (put ++ take k gone.gained) p answer all gone.is_read (front_of put gone.gained k)), failed);
       sent = front;
     }
 
 -- and where it failed before
-pub pushed_broken : (q : Decoder) (before now : Option (List ℕ)) (held left piece bytes put : List ℕ) (e : Failed) → held ≡ [] → AreBytes (bytes ++ piece) → IsGoneThrough before held now left q piece bytes put (Err e) → IsPushed before now (in_state q state.Failed) piece bytes put pushed.WriteFault
-pushed_broken q before now held left piece bytes put e none all gone =
+pub pushed_broken : (q s : Decoder) (before now : Option (List ℕ)) (held left piece bytes put : List ℕ) (e : Failed) → dataset_of s ≡ dataset_of q → s.state ≡ state.Failed → held ≡ [] → AreBytes (bytes ++ piece)
+    → IsGoneThrough before held now left q piece bytes put (Err e) → IsPushed before now s piece bytes put pushed.WriteFault
+pushed_broken q s before now held left piece bytes put e same failed none all gone =
     let (k, le, front) = stopped_before before now held gone.gained none gone.puts in
     record {
       gained = take k gone.gained;
-      is_said = (some_shown (dataset_of q) bytes piece (put ++ gone.gained) (put ++ take k gone.gained) gone.is_read all (front_of put gone.gained k), refl);
+      is_said = (some_as q s (bytes ++ piece) (put ++ take k gone.gained) same (some_shown (dataset_of q) bytes piece (put ++ gone.gained) (put ++ take k gone.gained) gone.is_read all (front_of put gone.gained k)), failed);
       sent = front;
     }
 
@@ -286,3 +292,42 @@ some_pushed q d before now piece bytes put pushed.WriteFault same is = (is.gaine
 
 pub front_bytes : (piece : List ℕ) → ((i : ℕ) → i < length piece → get_or piece i 0 < 256) → AreBytes piece
 front_bytes piece small = All-from_get_or (λ b. b < 256) piece 0 small
+
+-- by the answer, again
+pub where_both : (p : Pushed) (P Q : Type 0) → WhereFault P p → WhereFault Q p → WhereFault (P × Q) p
+where_both (pushed.Done used) P Q one two = tt
+where_both (pushed.Refused bad) P Q one two = tt
+where_both pushed.More P Q one two = tt
+where_both pushed.WriteFault P Q one two = (one, two)
+
+pub where_never : (p : Pushed) (P : Type 0) → IsAnswer p → WhereFault P p
+where_never (pushed.Done used) P answer = tt
+where_never (pushed.Refused bad) P answer = tt
+where_never pushed.More P answer = tt
+where_never pushed.WriteFault P answer = absurd answer
+
+pub unless_any : (p : Pushed) (P : Type 0) → P → UnlessFault P p
+unless_any (pushed.Done used) P holds = holds
+unless_any (pushed.Refused bad) P holds = holds
+unless_any pushed.More P holds = holds
+unless_any pushed.WriteFault P holds = tt
+
+pub either_way : (p : Pushed) (P Q R : Type 0) → (P → R) → (Q → R) → WhereFault P p → UnlessFault Q p → R
+either_way (pushed.Done used) P Q R f g one two = g two
+either_way (pushed.Refused bad) P Q R f g one two = g two
+either_way pushed.More P Q R f g one two = g two
+either_way pushed.WriteFault P Q R f g one two = f one
+
+-- the bytes that were pushed are counted
+pub failed_behind : (r q : Decoder) (bytes put piece : List ℕ) (p : Pushed) → Reads r bytes put → place_of r + length piece < 2 ^ 63 → start_of q ≡ start_of r → WhereFault (HasFailed q) p → WhereFault (place_of q ≡ place_of r + length piece) p
+    → WhereFault (HasFailedBehind q (length (bytes ++ piece))) p
+failed_behind r q bytes put piece p reads small from failed place =
+    where_more p _ _ (λ both. record {
+      failed = both.0;
+      place = omega (arith, both.1, reads.is_place, from, length-append bytes piece);
+      small = omega (arith, both.1, small);
+    }) (where_both p _ _ failed place)
+
+-- where the sink failed the bytes end behind all that was pushed
+pub cut_behind : (r : Decoder) (n : ℕ) (bad : BadField) → bad ≡ record { kind = Cut; place = min (place_of r) (2 ^ 64 - 1) } → HasFailedBehind r n → bad ≡ record { kind = Cut; place = start_of r + n }
+cut_behind r n bad is f = is ∙ ap (λ p. record { kind = Cut; place = p }) (omega (arith, f.place, f.small))

@@ -1,5 +1,5 @@
 -- What was read and what was not, joined.
-use Rattle.std.proofs.Common.{◌≡◌, ℕ, ◌+◌, ◌<◌, List, [], ◌∷◌, ◌++◌, length, inl, inr, refl, ap, ◌∙◌, sym, subst, append_assoc, append-nil}
+use Rattle.std.proofs.Common.{◌≡◌, ℕ, ◌<◌, List, [], ◌∷◌, ◌++◌, length, inl, inr, refl, ap, ◌∙◌, sym, subst, append_assoc, append-nil}
 use Rattle.dap_model.specs.Xdr.{Field, SpellsField, SpellsFields}
 use Rattle.xdr_fields.proofs.Judged.{leads_nowhere, steps_join}
 use Rattle.xdr_fields.specs.Wants.{Want, Goes, Steps, becomes, room}

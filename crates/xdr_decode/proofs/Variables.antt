@@ -2,7 +2,7 @@
 use Rattle.std.proofs.Common.{◌≡◌, ℕ, List, [], ◌∷◌, ◌++◌, map, All, codes, ap, ◌∙◌, sym, subst, append-nil}
 use Rattle.std.specs.List.{AllZip, flat_map}
 use Rattle.dap_types.proofs.Views.{kids-Many, view-Many, view-One}
-use Rattle.dap_types.specs.Model.{Member, Members, scalar, structure, grid, sequence, Tree, sizes}
+use Rattle.dap_types.specs.Model.{Member, Members, scalar, structure, grid, sequence, sizes}
 use Rattle.dap_types.specs.View.{tree_view}
 use Rattle.dap_types.specs.declared.declarations.ArrayDecl.{ArrayDecl}
 use Rattle.dap_types.specs.declared.declarations.Column.{Column}

@@ -64,6 +64,12 @@ StandsAfter r bytes put = Stands r r.state bytes put
 unfoldable pub HasFailed : Decoder → Type 0
 HasFailed r = r.state ≡ state.Failed
 
+-- the sink failed before, and so many bytes were pushed, before that and behind it
+pub record HasFailedBehind (r : Decoder) (n : ℕ) : Type 0 where
+  pub failed : HasFailed r
+  pub place : place_of r ≡ start_of r + n
+  pub small : place_of r < 2 ^ 64
+
 -- the bytes of a piece that an answer uses
 abbrev pub used_of : Pushed → List ℕ → List ℕ
 used_of (Done used) piece = take used piece

@@ -1,5 +1,6 @@
 pub mod After
 pub mod Bads
+pub mod Checking
 pub mod Shown
 pub mod Verdict
 pub mod inner

@@ -22,7 +22,7 @@ use std::alloc::Global;
 const BUDGET: usize = 1 << 40;
 
 /// This is wrong, at a place.
-fn refused(kind: Bad, place: usize) -> AllRefusal
+pub(crate) fn refused(kind: Bad, place: usize) -> AllRefusal
     ensures { result ≡ Refused (record { kind = kind; place = place }) }
 {
     AllRefusal::Refused(BadField {
@@ -32,7 +32,7 @@ fn refused(kind: Bad, place: usize) -> AllRefusal
 }
 
 /// The dataset whose text begins a body, and how many bytes the text has.
-fn dataset(alloc: Global, body: &[u8]) -> Result<(Dataset, usize), AllRefusal>
+pub(crate) fn dataset(alloc: Global, body: &[u8]) -> Result<(Dataset, usize), AllRefusal>
     ensures within { IfOk result (λ r. r.1 ≤ length body.now) }
     ensures read { IfOk result (λ r. IsDone body.now r.1 (dataset_view r.0)) }
     ensures refused { IfErr result (IsRefusalIn body.now) }

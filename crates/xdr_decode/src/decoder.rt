@@ -6,7 +6,7 @@ ghost use Rattle.dap_types.specs.View.{dataset_view};
 ghost use Rattle.dap_types.specs.WellFormed.{IsWellFormed};
 ghost use Rattle.xdr_decode.specs.Verdict.{kind_of};
 ghost use Rattle.xdr_decode.specs.declared.bad.Bad.TheVariants.{Cut};
-ghost use Rattle.xdr_decode.specs.After.{EndsBehind, HasFailed, IsFirstBad, Reads, StandsAfter, UnlessFault, WhereDone, WhereFault, WhereMore, WhereRefused, dataset_of, place_of, start_of, used_of};
+ghost use Rattle.xdr_decode.specs.After.{EndsBehind, HasFailed, HasFailedBehind, IsFirstBad, Reads, StandsAfter, UnlessFault, WhereDone, WhereFault, WhereMore, WhereRefused, dataset_of, place_of, start_of, used_of};
 ghost use Rattle.xdr_decode.specs.inner.Pushing.{IsAnswer, IsPushed, state_behind as behind};
 ghost use Rattle.xdr_decode.specs.inner.Turning.{IsGoneThrough, Stays};
 ghost use Rattle.xdr_decode.specs.Shown.{ShowsFront, ShowsSome};
@@ -128,17 +128,37 @@ impl Decoder {
         }
     }
 
-    /// Sends what is left of the text of a piece, and keeps what was said of it.
-    fn end<O: Sink>(&mut self, buffer: &mut Buffer, out: &mut O, pushed: Pushed) -> Pushed
+    /// The sink failed, and so many bytes were pushed.
+    fn fail(&mut self, place: u64)
+        ensures failed { self.new.state ≡ State.Failed }
+        ensures place { place_of self.new ≡ place }
+        ensures dataset { dataset_of self.new ≡ dataset_of self.old }
+        ensures start { start_of self.new ≡ start_of self.old }
+    {
+        self.state = State::Failed;
+        self.taken = place;
+        self.held.clear();
+    }
+
+    /// Sends what is left of the text of a piece that ends at a place, and keeps what was said of it.
+    fn end<O: Sink>(
+        &mut self,
+        buffer: &mut Buffer,
+        out: &mut O,
+        pushed: Pushed,
+        behind: u64,
+    ) -> Pushed
         requires { IsAnswer pushed }
         ensures pushes { (before : Option (List ℕ)) (held piece bytes put : List ℕ) → held ≡ [] → All (λ b. b < 256) (bytes ++ piece) → place_of self.old < 2 ^ 64 →
             IsGoneThrough before held (O.written out.old) buffer.old.bytes.items self.old piece bytes put (Ok pushed) → IsPushed before (O.written out.new) self.new piece bytes put result }
         ensures fails { WhereFault (HasFailed self.new) result }
+        ensures behind { WhereFault (place_of self.new ≡ behind) result }
         ensures cause { WhereFault (Rose (O.put_faults out.old) (O.put_faults out.new)) result }
         ensures counts { O.put_faults out.old ≤ O.put_faults out.new }
+        ensures kept { UnlessFault (O.put_faults out.new ≡ O.put_faults out.old) result }
         ensures dataset { dataset_of self.new ≡ dataset_of self.old }
         ensures start { start_of self.new ≡ start_of self.old }
-        ensures place { place_of self.new ≡ place_of self.old }
+        ensures place { UnlessFault (place_of self.new ≡ place_of self.old) result }
         ensures beside { O.beside_writing out.new ≡ O.beside_writing out.old }
     {
         match buffer.flush(out) {
@@ -147,7 +167,7 @@ impl Decoder {
                 pushed
             }
             Err(Failed) => {
-                self.state = State::Failed;
+                self.fail(behind);
                 Pushed::WriteFault
             }
         }
@@ -158,21 +178,33 @@ impl Decoder {
         requires { place_of self.old + length piece.now < 2 ^ 63 }
         ensures pushes { (bytes put : List ℕ) → Reads self.old bytes put → All (λ b. b < 256) bytes → IsPushed (O.written out.old) (O.written out.new) self.new piece.now bytes put result }
         ensures fails { WhereFault (HasFailed self.new) result }
+        ensures behind { WhereFault (place_of self.new ≡ place_of self.old + length piece.now) result }
         ensures cause { WhereFault (Rose (O.put_faults out.old) (O.put_faults out.new)) result }
         ensures counts { O.put_faults out.old ≤ O.put_faults out.new }
+        ensures kept { UnlessFault (O.put_faults out.new ≡ O.put_faults out.old) result }
         ensures dataset { dataset_of self.new ≡ dataset_of self.old }
         ensures start { start_of self.new ≡ start_of self.old }
         ensures place { place_of self.new ≤ place_of self.old + length piece.now }
         ensures beside { O.beside_writing out.new ≡ O.beside_writing out.old }
     {
+        let behind = self.behind(piece);
         let mut buffer = Buffer::new();
         match self.read(piece, &mut buffer, out) {
-            Ok(pushed) => self.end(&mut buffer, out, pushed),
+            Ok(pushed) => self.end(&mut buffer, out, pushed, behind),
             Err(Failed) => {
-                self.state = State::Failed;
+                self.fail(behind);
                 Pushed::WriteFault
             }
         }
+    }
+
+    /// The place behind a piece.
+    fn behind(&self, piece: &[u8]) -> u64
+        ensures { result ≡ min (place_of self.now + length piece.now) (2 ^ 64 - 1) }
+    {
+        self.taken
+            .saturating_add(self.held.len() as u64)
+            .saturating_add(piece.len() as u64)
     }
 
     /// Reads one more piece, and puts the lines of its elements. Behind the end of the values it uses no
@@ -203,18 +235,26 @@ impl Decoder {
         ensures start { start_of self.new ≡ start_of self.old }
         ensures place { place_of self.new ≤ place_of self.old + length piece.now }
 
-        // Where the sink failed, some front of that was put. It fails ever after, and puts nothing.
+        // Where the sink failed, some front of that was put. It fails ever after, and puts nothing. The
+        // bytes that are pushed are counted all the same.
         ensures fails { WhereFault (HasFailed self.new) result }
         ensures cause { WhereFault (HasFailed self.old ⊎ Rose (O.put_faults out.old) (O.put_faults out.new)) result }
         ensures some { (bytes put : List ℕ) → StandsAfter self.old bytes put → WhereFault ((gained : List ℕ) ×
             ShowsSome (dataset_of self.old) (bytes ++ piece.now) (put ++ gained) × Appends (O.written out.old) (O.written out.new) gained) result }
-        ensures failed { HasFailed self.old → (result ≡ Pushed.WriteFault) × (O.written out.new ≡ O.written out.old) }
+        ensures behind { (bytes put : List ℕ) → StandsAfter self.old bytes put → WhereFault (HasFailedBehind self.new (length (bytes ++ piece.now))) result }
+        ensures failed { HasFailed self.old → (result ≡ Pushed.WriteFault) × (O.written out.new ≡ O.written out.old) × (O.put_faults out.new ≡ O.put_faults out.old) }
+        ensures counted { (n : ℕ) → HasFailedBehind self.old n → HasFailedBehind self.new (n + length piece.now) }
         ensures counts { O.put_faults out.old ≤ O.put_faults out.new }
+        ensures kept { UnlessFault (O.put_faults out.new ≡ O.put_faults out.old) result }
         ensures beside { O.beside_writing out.new ≡ O.beside_writing out.old }
     {
         match self.state {
             State::Refused(bad) => Pushed::Refused(bad),
-            State::Failed => Pushed::WriteFault,
+            State::Failed => {
+                let behind = self.behind(piece);
+                self.fail(behind);
+                Pushed::WriteFault
+            }
             State::Reading => self.go_on(piece, out),
         }
     }
@@ -231,14 +271,32 @@ impl Decoder {
         ensures cut { (bytes put : List ℕ) → StandsAfter self.now bytes put → IsOpen (dataset_of self.now) bytes →
             result ≡ Err (record { kind = Cut; place = start_of self.now + length bytes }) }
 
-        // Where the sink failed it never says that they are ended.
+        // Where the sink failed it never says that they are ended, but that they end behind all that was pushed.
         ensures failed { HasFailed self.now → result ≡ Err (record { kind = Cut; place = min (place_of self.now) (2 ^ 64 - 1) }) }
+        ensures behind { (n : ℕ) → HasFailedBehind self.now n → result ≡ Err (record { kind = Cut; place = start_of self.now + n }) }
     {
         match self.state {
             State::Reading => self.reached(),
             State::Refused(bad) => Err(bad),
             State::Failed => Err(self.cut()),
         }
+    }
+
+    /// The dataset whose values it reads.
+    pub(crate) fn into_dataset(self) -> Dataset
+        ensures { dataset_view result ≡ dataset_of self }
+    {
+        let Decoder {
+            start: _,
+            dataset,
+            place,
+            held,
+            taken: _,
+            state: _,
+        } = self;
+        drop(place);
+        drop(held);
+        dataset
     }
 
     /// The bytes end where the decoder stands.

@@ -7,6 +7,7 @@
 
 mod bad;
 mod buffer;
+mod check;
 mod data_line;
 mod decode;
 mod decoder;
@@ -21,6 +22,7 @@ mod value_text;
 mod values;
 
 pub use bad::{Bad, BadField};
+pub use check::{Checked, check_all};
 pub use decode::decode_all;
 pub use decoder::{Decoder, Pushed};
 pub use filled::{AllRefusal, Filled};

@@ -56,7 +56,7 @@ unfolding bytes_of field_bytes
 texts base vs same =
     ap (λ bs. word (length vs) ++ bs) (ap bytes_of (sym (same-flat (element_fields base) (value_fields base) same vs)) ∙ sym (append-nil (bytes_of (flat_map (element_fields base) vs))))
 
-parts : (base : BaseType) (vs : List Value) → bytes_of (array_fields base vs) ≡ counts_of base (length vs) ++ (bytes_of (flat_map (element_fields base) vs) ++ filler_of base (length vs))
+pub parts : (base : BaseType) (vs : List Value) → bytes_of (array_fields base vs) ≡ counts_of base (length vs) ++ (bytes_of (flat_map (element_fields base) vs) ++ filler_of base (length vs))
 unfolding filler_of counts_of
 parts Byte vs = packed-array vs
 parts Int16 vs = plain Int16 vs (λ v. refl)
@@ -105,7 +105,7 @@ module _ (plan : Plan) (file : List ℕ) (w0 w w' : Option (List ℕ)) (asked as
   stops-before (k, le, front) same =
       let all : array_xdr plan file ≡ counts_of plan.base plan.total ++ (forms_from plan file 0 plan.total ++ filler_of plan.base plan.total) = array-parts plan file in
       let cut : take k (array_xdr plan file) ≡ take k (counts_of plan.base plan.total)
-      = ap (take k) all ∙ take-append-le k (counts_of plan.base plan.total) (forms_from plan file 0 plan.total ++ filler_of plan.base plan.total) le in
+      = ap (take k) all ∙ take-append-le k (counts_of plan.base plan.total) (forms_from plan file 0 plan.total ++ filler_of plan.base plan.total) (omega (arith, le)) in
       record {
         batches = [];
         upto = 0;
@@ -124,7 +124,7 @@ module _ (plan : Plan) (file : List ℕ) (w0 w w' : Option (List ℕ)) (asked as
       let cut : take (length (counts_of plan.base plan.total) + s.put) (array_xdr plan file) ≡ counts_of plan.base plan.total ++ take s.put (forms_from plan file 0 plan.total)
       = ap (take (length (counts_of plan.base plan.total) + s.put)) all
       ∙ take-append-add (counts_of plan.base plan.total) (forms_from plan file 0 plan.total ++ filler_of plan.base plan.total) s.put
-      ∙ ap (λ xs. counts_of plan.base plan.total ++ xs) (take-append-le s.put (forms_from plan file 0 plan.total) (filler_of plan.base plan.total) s.within) in
+      ∙ ap (λ xs. counts_of plan.base plan.total ++ xs) (take-append-le s.put (forms_from plan file 0 plan.total) (filler_of plan.base plan.total) (omega (arith, s.within))) in
       record {
         batches = s.before ++ s.batch ∷ [];
         upto = s.batch.first + s.batch.count;

@@ -48,7 +48,7 @@ begins-there c file n v slabs leaf h is within of_leaf p le =
     ∙ ap (λ base. begins_among (is_empty (element_dimensions c v)) base (values_from leaf.plan file 0 leaf.plan.total) p) of_leaf.plan.base
     ∙ ap (λ vs. begins_among (is_empty (element_dimensions c v)) (base_of v.external_type) vs p) (plans_cut c file n v slabs leaf.plan h is within of_leaf.plan)
 
-batch-inside : (plan : Plan) (bs : List Batch) (from upto : ℕ) → InTurn plan bs from upto → (k : ℕ) (d : Batch) → k < length bs → (get_or bs k d).first < plan.total
+pub batch-inside : (plan : Plan) (bs : List Batch) (from upto : ℕ) → InTurn plan bs from upto → (k : ℕ) (d : Batch) → k < length bs → (get_or bs k d).first < plan.total
 batch-inside plan [] from upto turn k d lt = absurd (omega (arith, lt))
 batch-inside plan (b ∷ bs) from upto turn zero d lt = turn.0.inside
 batch-inside plan (b ∷ bs) from upto turn (suc k) d lt = batch-inside plan bs (from + b.count) upto turn.2 k d (omega (arith, lt))

@@ -106,7 +106,7 @@ module _ (head : List ℕ) (leaves : List Leaf) (file : List ℕ) (w0 w w' : Opt
   stops-in-front (k, le, front) same = record {
     put = k;
     within = omega (arith, le, length-append head (leaves_xdr leaves file));
-    front = subst (Appends w0 w') (sym (take-append-le k head (leaves_xdr leaves file) le)) front;
+    front = subst (Appends w0 w') (sym (take-append-le k head (leaves_xdr leaves file) (omega (arith, le)))) front;
     most = 0;
     may = nothing-begun leaves file (length head) k;
     few = omega (arith, same);
@@ -126,7 +126,7 @@ module _ (head : List ℕ) (leaves : List Leaf) (file : List ℕ) (w0 w w' : Opt
       record {
         put = length done + s.stops.put;
         within = omega (arith, s.stops.within, ap length text, length-append done (leaf_xdr s.leaf file ++ leaves_xdr s.behind file), length-append (leaf_xdr s.leaf file) (leaves_xdr s.behind file));
-        front = subst (Appends w0 w') (sym (cut s.stops.put s.stops.within))
+        front = subst (Appends w0 w') (sym (cut s.stops.put (omega (arith, s.stops.within))))
             (Appends-trans w0 s.then_written w' done (take s.stops.put (leaf_xdr s.leaf file)) (Appends-trans w0 w s.then_written head (leaves_xdr s.before file) gone s.gone) s.stops.front);
         most = n + read_by s.leaf.plan s.stops.batches;
         may = begun;

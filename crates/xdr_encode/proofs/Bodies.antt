@@ -55,7 +55,7 @@ pub write-fault-alone : (text : List ℕ) (w0 w : Option (List ℕ)) → Appends
 write-fault-alone text w0 w front = (front, λ e. cc)
 
 pub stream-causes : (r : Result (Unit {0}) Fault) (reads reads' puts puts' : ℕ) → HasCauses reads reads' puts puts' r → RoseFor (streamed_of r) reads reads' puts puts'
-stream-causes (Ok x) reads reads' puts puts' c = tt
+stream-causes (Ok x) reads reads' puts puts' c = c.kept
 stream-causes (Err Shelf) reads reads' puts puts' c = c.failed
 stream-causes (Err Sink) reads reads' puts puts' c = c.failed
 

@@ -97,24 +97,30 @@ pub wanted_within : (c : Contents) (file_len : ℕ) (marks : Marks) (n : ℕ) (l
 unfolding AreSuited
 wanted_within c file_len marks n layout base slabs w suited = suited n w.variable w.marked_by w.is w.marked
 
+-- hyperslabs within a variable, of a layout and type that are its own
+pub ready : (c : Contents) (file_len : ℕ) (v : Variable) (layout : Layout) (base : BaseType) (slabs : List Slab) → layout ≡ layout_of c v → base ≡ base_of v.external_type → IsPlaced c file_len v layout → IsShaped c v layout
+    → file_len < 2 ^ 63 → AreWithin slabs (element_sizes c v) → Ready layout base slabs
+ready c file_len v layout base slabs layout_is base_is placed shaped short within =
+    let one_each : length slabs ≡ length (steps_of c v) = slab_steps c v slabs within in
+    let all : AllWithin (element_sizes c v) (steps_of c v) v.begin (element_size c v) file_len = all_within c file_len v (subst (IsPlaced c file_len v) layout_is placed) in
+    let some : 0 < element_size c v = subst (λ l. 0 < l.size) layout_is shaped.some in
+    let below : file_len ≤ 2 ^ 63 = omega (arith, short) in
+    record {
+      one_each = one_each ∙ sym (ap (λ l. length l.steps) layout_is);
+      strided = strides slabs (element_sizes c v) within;
+      below = subst (λ l. All (λ place. place < 2 ^ 63) (picked slabs l.steps l.base)) (sym layout_is)
+          (picked_are_below slabs (element_sizes c v) (steps_of c v) v.begin (element_size c v) file_len within one_each all some below);
+      sized = shaped.some;
+      small = shaped.few;
+      typed = λ e.
+          let number : is_number (base_of v.external_type) ≡ true = sym (ap is_number base_is) ∙ e in
+          shaped.typed (not-char v number) ∙ sym (number-size v.external_type number) ∙ ap number_size (sym base_is);
+    }
+
 pub wanted_ready : (c : Contents) (file_len : ℕ) (marks : Marks) (n : ℕ) (layout : Layout) (base : BaseType) (slabs : List Slab) → IsWanted c file_len marks n layout base slabs → AreSuited c marks → Ready layout base slabs
 wanted_ready c file_len marks n layout base slabs w suited =
-    let within : AreWithin slabs (element_sizes c w.variable) = subst (λ ss. AreWithin ss (element_sizes c w.variable)) (sym w.slabs_are) (wanted_within c file_len marks n layout base slabs w suited) in
-    let one_each : length slabs ≡ length (steps_of c w.variable) = slab_steps c w.variable slabs within in
-    let all : AllWithin (element_sizes c w.variable) (steps_of c w.variable) w.variable.begin (element_size c w.variable) file_len = all_within c file_len w.variable (subst (IsPlaced c file_len w.variable) w.layout_is w.placed) in
-    let some : 0 < element_size c w.variable = subst (λ l. 0 < l.size) w.layout_is w.shaped.some in
-    let short : file_len ≤ 2 ^ 63 = omega (arith, w.below) in
-    record {
-      one_each = one_each ∙ sym (ap (λ l. length l.steps) w.layout_is);
-      strided = strides slabs (element_sizes c w.variable) within;
-      below = subst (λ l. All (λ place. place < 2 ^ 63) (picked slabs l.steps l.base)) (sym w.layout_is)
-          (picked_are_below slabs (element_sizes c w.variable) (steps_of c w.variable) w.variable.begin (element_size c w.variable) file_len within one_each all some short);
-      sized = w.shaped.some;
-      small = w.shaped.few;
-      typed = λ e.
-          let number : is_number (base_of w.variable.external_type) ≡ true = sym (ap is_number w.base_is) ∙ e in
-          w.shaped.typed (not-char w.variable number) ∙ sym (number-size w.variable.external_type number) ∙ ap number_size (sym w.base_is);
-    }
+    ready c file_len w.variable layout base slabs w.layout_is w.base_is w.placed w.shaped w.below
+    (subst (λ ss. AreWithin ss (element_sizes c w.variable)) (sym w.slabs_are) (wanted_within c file_len marks n layout base slabs w suited))
 
 -- ---- a member that was asked for
 
@@ -254,21 +260,21 @@ own-count c v slabs within = go (is_empty (element_dimensions c v)) within
         let dims : length (map (dim_of c) (element_dimensions c v)) ≡ length (element_dimensions c v) = length-map (element_dimensions c v) (dim_of c) in
         counts-product (map (dim_of c) (element_dimensions c v)) slabs (omega arith)
 
-counts-of : (c : Contents) (marks : Marks) (n : ℕ) (v : Variable) (slabs : List Slab) → leaf_variable c n ≡ Some v → marks n ≡ Some slabs → AreWithin (own_slabs c v slabs) (element_sizes c v)
+pub counts-of : (c : Contents) (marks : Marks) (n : ℕ) (v : Variable) (slabs : List Slab) → leaf_variable c n ≡ Some v → marks n ≡ Some slabs → AreWithin (own_slabs c v slabs) (element_sizes c v)
     → option_map_or (variable_counts c marks n) (leaf_variable c n) [] ≡ count_of (own_slabs c v slabs) ∷ []
 counts-of c marks n v slabs is marked within =
     ap (λ o. option_map_or (variable_counts c marks n) o []) is
     ∙ ap (λ o. option_map_or (λ ss. cond (is_empty (element_dimensions c v)) 1 (product (sizes (counted ss (array_of c v)))) ∷ []) o []) marked
     ∙ ap (λ x. x ∷ []) (own-count c v slabs within)
 
-not-large : (n m : ℕ) (counts : List ℕ) → n ≤ 2147483647 → first_large m (n ∷ counts) ≡ first_large (m + 1) counts
+pub not-large : (n m : ℕ) (counts : List ℕ) → n ≤ 2147483647 → first_large m (n ∷ counts) ≡ first_large (m + 1) counts
 not-large n m counts few = go (nat_lt 2147483647 n) refl
   where
     go : (b : Bool) → nat_lt 2147483647 n ≡ b → cond b (Some m) (first_large (m + 1) counts) ≡ first_large (m + 1) counts
     go true e = absurd (omega (arith, ltb-true 2147483647 n e))
     go false e = refl
 
-large-first : (n m : ℕ) (counts : List ℕ) → 2147483647 < n → first_large m (n ∷ counts) ≡ Some m
+pub large-first : (n m : ℕ) (counts : List ℕ) → 2147483647 < n → first_large m (n ∷ counts) ≡ Some m
 large-first n m counts many = go (nat_lt 2147483647 n) refl
   where
     go : (b : Bool) → nat_lt 2147483647 n ≡ b → cond b (Some m) (first_large (m + 1) counts) ≡ Some m

@@ -1,5 +1,5 @@
 -- What an answer says of a body that was to be put.
-use Rattle.std.specs.Prelude.{◌≢◌, ℕ, ⊤, ◌+◌, ◌≤◌, List, Option, Result, Ok, Err, length, take}
+use Rattle.std.specs.Prelude.{◌≡◌, ◌≢◌, ℕ, ⊤, ◌+◌, ◌<◌, ◌≤◌, List, Option, Result, Ok, Err, length, take}
 use Rattle.std.specs.Io.KnownBytes.{Appends}
 use Rattle.dap_outside.specs.Causes.{Rose}
 use Rattle.dap_outside.specs.Streams.{AppendsFront}
@@ -16,17 +16,17 @@ abbrev pub streamed_of : {T : Type 0} → Result T Fault → Streamed
 streamed_of (Ok x) = Sent
 streamed_of (Err fault) = streamed_at fault
 
--- the text went out whole, or a front of it
+-- the text went out whole, or a front of it that is not all
 abbrev pub Streams : Streamed → Option (List ℕ) → Option (List ℕ) → List ℕ → Type 0
 Streams Sent old new text = Appends old new text
 Streams ShelfFault old new text = AppendsFront old new text
 Streams WriteFault old new text = AppendsFront old new text
 
--- a fault comes only where the count of that object rose
+-- a fault comes only where the count of that object rose, and a count rises only with its own fault
 abbrev pub RoseFor : Streamed → ℕ → ℕ → ℕ → ℕ → Type 0
-RoseFor Sent reads reads' puts puts' = ⊤
-RoseFor ShelfFault reads reads' puts puts' = Rose reads reads'
-RoseFor WriteFault reads reads' puts puts' = Rose puts puts'
+RoseFor Sent reads reads' puts puts' = (reads' ≡ reads) × (puts' ≡ puts)
+RoseFor ShelfFault reads reads' puts puts' = Rose reads reads' × (puts' ≡ puts)
+RoseFor WriteFault reads reads' puts puts' = Rose puts puts' × (reads' ≡ reads)
 
 -- no count falls
 pub record HasStreamCauses (answer : Streamed) (reads reads' puts puts' : ℕ) : Type 0 where
@@ -34,10 +34,10 @@ pub record HasStreamCauses (answer : Streamed) (reads reads' puts puts' : ℕ) :
   pub puts_later : puts ≤ puts'
   pub failed : RoseFor answer reads reads' puts puts'
 
--- a front of a text was put, and no more was asked than may be with so many of its bytes put
+-- a front of a text was put, not all of it, and no more was asked than may be with so many of its bytes put
 pub record Stops (text : List ℕ) (may_ask : ℕ → ℕ → Type 0) (old new : Option (List ℕ)) (asked asked' : ℕ) : Type 0 where
   pub put : ℕ
-  pub within : put ≤ length text
+  pub within : put < length text
   pub front : Appends old new (take put text)
   pub most : ℕ
   pub may : may_ask put most

@@ -38,6 +38,8 @@ pub fn send_elements<R: Threads + Sync, S: Shelf, O: Sink, G: Gate>(
     ensures same_file { S.content shelf.new file.new ≡ S.content shelf.old file.old }
     ensures same_size { S.size_of shelf.new file.new ≡ S.size_of shelf.old file.old }
     ensures files { S.files shelf.new ≡ S.files shelf.old }
+    ensures content { S.content shelf.new ≡ S.content shelf.old }
+    ensures sizes { S.size_of shelf.new ≡ S.size_of shelf.old }
     ensures read { OnOk result (AsksUpTo plan.now (total_of plan.now) (S.asked shelf.old) (S.asked shelf.new)) }
     ensures asked { S.asked shelf.new ≤ S.asked shelf.old + spent plan.now (total_of plan.now) }
     ensures greatest { S.greatest shelf.new ≤ max (S.greatest shelf.old) 65536 }

@@ -26,6 +26,9 @@ mod texts;
 mod wanted;
 
 pub use body::Body;
-pub use put::{put_string, put_word};
+pub use elements::send_elements;
+pub use fault::Fault;
+pub use make::{head_of, left_dds, room};
+pub use put::{padding, put_string, put_word};
 pub use refusal::BodyRefusal;
-pub use streamed::Streamed;
+pub use streamed::{Streamed, streamed_of};

@@ -27,54 +27,32 @@ use crate::wanted::marked_leaves;
 use csv_source::Table;
 use dap_outside::Buffer;
 use dap_types::{Bytes, Dataset, List, Memory};
-use dds_text::print;
+use dds_text::{PrintRefusal, print_short};
 use grid_projection::Marks;
 use netcdf_source::Header;
 use std::alloc::Global;
 
-/// The most bytes of a DDS.
-const DDS_MAX: usize = 16777216;
 /// The bytes of a batch.
 const ROOM: usize = 65536;
 
-/// The DDS of what the marks leave of a dataset, of any length.
-fn left_text(alloc: Global, dataset: &Dataset, marks: &Marks) -> Result<Bytes, Memory>
-    requires { IsWellFormed (dataset_view dataset.now) }
-    ensures { IfOk result (λ text. text ≡ dds (constrained (marks_in marks.now) (dataset_view dataset.now))) }
-{
-    let left = marks.constrained(alloc, dataset)?;
-    print(alloc, &left)
-}
-
-/// Whether a DDS is short enough. Nothing else is a reason to refuse it.
-fn check_dds(text: &[u8]) -> Result<(), BodyRefusal>
-    ensures { MatchResult result (λ _. length text.now ≤ 16777216) (λ refusal. (refusal ≡ BodyRefusal.TooLarge 0) × (16777216 < length text.now)) }
-{
-    if text.len() > DDS_MAX {
-        return Err(BodyRefusal::TooLarge { leaf: 0 });
-    }
-    Ok(())
-}
-
-/// The DDS of what the marks leave of a dataset.
-fn left_dds(alloc: Global, dataset: &Dataset, marks: &Marks) -> Result<Bytes, BodyRefusal>
+/// The DDS of what the marks leave of a dataset. `TooLarge` comes exactly where it has more than
+/// 16,777,216 bytes, and nothing of it is printed then.
+pub fn left_dds(alloc: Global, dataset: &Dataset, marks: &Marks) -> Result<Bytes, BodyRefusal>
     requires { IsWellFormed (dataset_view dataset.now) }
     ensures text { IfOk result (λ text. text ≡ dds (constrained (marks_in marks.now) (dataset_view dataset.now))) }
     ensures short { IfOk result (λ text. length text ≤ 16777216) }
     ensures refused { (leaf : ℕ) → result ≡ Err (BodyRefusal.TooLarge leaf) → (leaf ≡ 0) × (16777216 < length (dds (constrained (marks_in marks.now) (dataset_view dataset.now)))) }
 {
-    let text = match left_text(alloc, dataset, marks) {
-        Ok(text) => text,
-        Err(Memory) => return Err(BodyRefusal::Memory),
-    };
-    match check_dds(text.bytes()) {
-        Ok(()) => Ok(text),
-        Err(refusal) => Err(refusal),
+    let left = marks.constrained(alloc, dataset)?;
+    match print_short(alloc, &left) {
+        Ok(text) => Ok(text),
+        Err(PrintRefusal::TooLong) => Err(BodyRefusal::TooLarge { leaf: 0 }),
+        Err(PrintRefusal::Memory) => Err(BodyRefusal::Memory),
     }
 }
 
 /// The DDS and the line `Data:`.
-fn head_of(alloc: Global, text: &[u8]) -> Result<Bytes, Memory>
+pub fn head_of(alloc: Global, text: &[u8]) -> Result<Bytes, Memory>
     ensures { IfOk result (λ head. head ≡ text.now ++ codes "Data:\n") }
 {
     let mut head = Vec::with_capacity(alloc, text.len().saturating_add(6))?;
@@ -84,7 +62,7 @@ fn head_of(alloc: Global, text: &[u8]) -> Result<Bytes, Memory>
 }
 
 /// A room of 65,536 bytes.
-fn room(alloc: Global) -> Result<Vec<u8>, Memory>
+pub fn room(alloc: Global) -> Result<Vec<u8>, Memory>
     ensures { IfOk result (λ room. vec_len room ≡ 65536) }
 {
     Ok(vec![in alloc; 0u8; ROOM]?)

@@ -82,6 +82,8 @@ fn send_text_batch<S: Shelf, O: Sink>(
     ensures same_file { S.content shelf.new file.new ≡ S.content shelf.old file.old }
     ensures same_size { S.size_of shelf.new file.new ≡ S.size_of shelf.old file.old }
     ensures files { S.files shelf.new ≡ S.files shelf.old }
+    ensures content { S.content shelf.new ≡ S.content shelf.old }
+    ensures sizes { S.size_of shelf.new ≡ S.size_of shelf.old }
     ensures asked { S.asked shelf.new ≤ S.asked shelf.old + batch.now.raw_len }
     ensures greatest { S.greatest shelf.new ≤ max (S.greatest shelf.old) 65536 }
     ensures cause { HasCauses (S.faults shelf.old) (S.faults shelf.new) (O.put_faults out.old) (O.put_faults out.new) result }
@@ -114,6 +116,8 @@ pub fn send_texts<S: Shelf, O: Sink>(
     ensures same_file { S.content shelf.new file.new ≡ S.content shelf.old file.old }
     ensures same_size { S.size_of shelf.new file.new ≡ S.size_of shelf.old file.old }
     ensures files { S.files shelf.new ≡ S.files shelf.old }
+    ensures content { S.content shelf.new ≡ S.content shelf.old }
+    ensures sizes { S.size_of shelf.new ≡ S.size_of shelf.old }
     ensures read { OnOk result (AsksUpTo plan.now (total_of plan.now) (S.asked shelf.old) (S.asked shelf.new)) }
     ensures asked { S.asked shelf.new ≤ S.asked shelf.old + spent plan.now (total_of plan.now) }
     ensures greatest { S.greatest shelf.new ≤ max (S.greatest shelf.old) 65536 }

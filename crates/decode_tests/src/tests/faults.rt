@@ -1,27 +1,44 @@
 use crate::tests::cases::{TABLE, TABLE_SHOWN, TABLE_VALUES};
-use crate::tests::feeding::{decoder, feed};
+use crate::tests::counted::Counted;
+use crate::tests::feeding::{decoder, push_all};
 use dap_outside::MemSink;
 use dap_types::List;
+use std::alloc::Global;
 use std::test::Fail;
-use xdr_decode::Pushed;
+use xdr_decode::{Bad, BadField, Pushed};
 
-/// Each call of the sink fails in turn, until none does.
+/// A sink that takes 3 bytes at most at once, and of which a call fails. No call has the number 0.
+fn sink(alloc: Global, failing: u64) -> Result<Counted<MemSink>, Fail> {
+    let mut fails = List::new(alloc);
+    fails.push(failing)?;
+    Ok(Counted {
+        inner: MemSink::new(alloc, 4096, 3, fails)?,
+        calls: 0,
+    })
+}
+
+/// Each call of the sink fails in turn, of as many as a run without a fault makes. The bytes behind the
+/// failure are counted, and nothing more is put.
 #[test]
 fn each_put_fails(rt: HostRuntime) -> Result<(), Fail> {
-    for failing in 1..1000 {
+    let mut decoder_of_all = decoder(rt.alloc(), TABLE, 0)?;
+    let mut out = sink(rt.alloc(), 0)?;
+    let answer = push_all(&mut decoder_of_all, TABLE_VALUES, 1, &mut out);
+    assert_eq!(rt; answer, Pushed::Done { used: 1 });
+    assert_eq!(rt; out.inner.bytes(), TABLE_SHOWN);
+    assert!(rt; out.calls > 20);
+    let cut = BadField {
+        kind: Bad::Cut,
+        place: TABLE_VALUES.len() as u64,
+    };
+    for failing in 1..out.calls.saturating_add(1) {
         let mut decoder = decoder(rt.alloc(), TABLE, 0)?;
-        let mut fails = List::new(rt.alloc());
-        fails.push(failing)?;
-        let mut out = MemSink::new(rt.alloc(), 4096, 3, fails)?;
-        if feed(&mut decoder, TABLE_VALUES, 1, &mut out) == (Pushed::Done { used: 1 }) {
-            assert_eq!(rt; out.bytes(), TABLE_SHOWN);
-            assert!(rt; failing > 20);
-            return Ok(());
-        }
-        assert!(rt; TABLE_SHOWN.starts_with(out.bytes()));
-        let put = out.bytes().len();
-        assert_eq!(rt; decoder.push(b"\0", &mut out), Pushed::WriteFault);
-        assert_eq!(rt; out.bytes().len(), put);
+        let mut broken = sink(rt.alloc(), failing)?;
+        let answer = push_all(&mut decoder, TABLE_VALUES, 1, &mut broken);
+        assert_eq!(rt; answer, Pushed::WriteFault);
+        assert_eq!(rt; broken.calls, failing);
+        assert!(rt; TABLE_SHOWN.starts_with(broken.inner.bytes()));
+        assert_eq!(rt; decoder.finish(), Err(cut));
     }
-    Err(Fail::new("no run without a fault"))
+    Ok(())
 }

@@ -1,7 +1,7 @@
 ghost use Rattle.std.specs.Prelude.{◌≡◌, ◌≤◌, ◌+◌, ◌-◌, ◌^◌, length, IfOk};
 ghost use Rattle.xdr_decode.specs.After.{place_of};
 
-use dap_outside::MemSink;
+use dap_outside::{MemSink, Sink};
 use dap_types::{List, check};
 use dds_text::{DdsReader, DdsStep};
 use std::alloc::Global;
@@ -48,6 +48,19 @@ pub fn feed(decoder: &mut Decoder, values: &[u8], size: usize, out: &mut MemSink
         Pushed::More => feed(decoder, behind, size, out),
         answer => answer,
     }
+}
+
+/// Hands on all of the bytes in pieces of a size, whatever is answered, and gives the last answer.
+pub fn push_all<O: Sink>(decoder: &mut Decoder, values: &[u8], size: usize, out: &mut O) -> Pushed
+    requires { place_of decoder.old + length values.now ≤ 2 ^ 63 - 1 }
+    ensures { place_of decoder.new ≤ place_of decoder.old + length values.now }
+{
+    if values.len() <= size.max(1) {
+        return decoder.push(values, out);
+    }
+    let (front, behind) = values.split_at(middle(values.len(), size));
+    push_all(decoder, front, size, out);
+    push_all(decoder, behind, size, out)
 }
 
 /// An empty sink, of which no call fails.

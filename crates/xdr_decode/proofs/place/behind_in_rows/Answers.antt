@@ -3,7 +3,6 @@ use Rattle.dap_types.specs.Model.{sequence}
 use Rattle.xdr_decode.proofs.Moving.{moves_cell, moves_start}
 use Rattle.xdr_decode.specs.inner.Moving.{Moves}
 use Rattle.xdr_decode.specs.inner.Places.{IsEarly, IsStage}
-use Rattle.xdr_decode.specs.declared.place.Stage.TheVariants as stage
 use Rattle.xdr_decode.proofs.place.behind_in_rows.Goals as goal
 
 pub returns-in-Cells-clause-moves : goal.returns-in-Cells-clause-moves

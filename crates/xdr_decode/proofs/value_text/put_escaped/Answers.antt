@@ -1,4 +1,4 @@
-use Rattle.std.proofs.Common.{arith, sym, ◌∙◌}
+use Rattle.std.proofs.Common.{sym, ◌∙◌}
 use Rattle.dap_outside.proofs.Transfers.{part_within}
 use Rattle.xdr_decode.proofs.Passing.{front_as, front_second, passes_as, passes_two, puts_failed}
 use Rattle.xdr_decode.proofs.Texts.{part-rest, shown-more, shown-parts}
@@ -20,6 +20,6 @@ loop-at-preserved g c =
     record {
       within = part_within at _ _ text kept.within given.most;
       passed = passes_as _ _ _ _ _ _ (shown-more at c.in_ok-at.field-0 text) (passes_two _ _ _ _ _ _ _ _ kept.passed (rw (part-rest at text) at given.puts));
-      count = omega (arith, c.put_front.ensures.cause.later, kept.count);
+      count = given.cause.kept ∙ kept.count;
       beside = c.put_front.ensures.beside ∙ kept.beside;
     }

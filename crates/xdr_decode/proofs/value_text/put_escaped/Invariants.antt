@@ -10,7 +10,7 @@ invariant-loop-at g l =
     record {
       within : l.at ≤ length l.text;
       passed : Passes (sink.written l.fn.out) l.fn.buffer.bytes.items (sink.written l.out) l.buffer.bytes.items (flat_map shown_byte (take l.at l.text));
-      count : sink.put_faults l.fn.out ≤ sink.put_faults l.out;
+      count : sink.put_faults l.out ≡ sink.put_faults l.fn.out;
       beside : sink.beside_writing l.out ≡ sink.beside_writing l.fn.out;
     }
 

@@ -14,8 +14,8 @@ loop-leaf-init g c = record {
   same_size = refl;
   files = refl;
   greatest = omega arith;
-  reads_later = omega arith;
-  puts_later = omega arith;
+  reads = refl;
+  puts = refl;
   beside = refl;
   alone = λ e. (refl, refl);
 }
@@ -52,8 +52,8 @@ loop-leaf-preserved g c =
       same_size = sent.same_size ∙ kept.same_size;
       files = sent.files ∙ kept.files;
       greatest = omega (arith, sent.greatest, kept.greatest);
-      reads_later = omega (arith, sent.cause.reads_later, kept.reads_later);
-      puts_later = omega (arith, sent.cause.puts_later, kept.puts_later);
+      reads = c.in_ok-send_leaf.ensures.cause.kept.0 ∙ kept.reads;
+      puts = c.in_ok-send_leaf.ensures.cause.kept.1 ∙ kept.puts;
       beside = sent.beside ∙ kept.beside;
       alone = λ e. absurd (omega (arith, c.loop-leaf-test.true, ap length e));
     }

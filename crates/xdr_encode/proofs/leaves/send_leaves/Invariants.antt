@@ -14,8 +14,8 @@ invariant-loop-leaf g l =
       same_size : shelf.size_of l.shelf l.file ≡ shelf.size_of l.fn.shelf l.fn.file;
       files : shelf.files l.shelf ≡ shelf.files l.fn.shelf;
       greatest : shelf.greatest l.shelf ≤ max (shelf.greatest l.fn.shelf) 65536;
-      reads_later : shelf.faults l.fn.shelf ≤ shelf.faults l.shelf;
-      puts_later : sink.put_faults l.fn.out ≤ sink.put_faults l.out;
+      reads : shelf.faults l.shelf ≡ shelf.faults l.fn.shelf;
+      puts : sink.put_faults l.out ≡ sink.put_faults l.fn.out;
       beside : sink.beside_writing l.out ≡ sink.beside_writing l.fn.out;
       alone : l.leaves ≡ [] → (l.shelf ≡ l.fn.shelf) × (l.out ≡ l.fn.out);
     }

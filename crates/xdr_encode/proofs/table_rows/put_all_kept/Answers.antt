@@ -18,7 +18,7 @@ loop-row-preserved g c =
     let step : rows_from c.args.rows.now c.loop-row.row ≡ row_sent c.args.rows.now c.loop-row.row ++ rows_from c.args.rows.now (c.loop-row.row + 1) = rows_step c.args.rows.now c.loop-row.row lt in
     record {
       way = way_more _ _ _ _ _ _ _ _ _ _ step kept.way c.in_ok-put_kept.ensures.puts;
-      count = omega (arith, c.put_kept.ensures.cause.later, kept.count);
+      count = c.in_ok-put_kept.ensures.cause.kept ∙ kept.count;
       beside = c.put_kept.ensures.beside ∙ kept.beside;
     }
 

@@ -8,6 +8,6 @@ invariant-loop-row g l =
     let sink = g.O.Sink in
     record {
       way : IsOnItsWay (sink.written l.fn.out) l.fn.buffer.bytes.items (sink.written l.out) l.buffer.bytes.items (rows_from l.rows l.row) (rows_from l.rows 0);
-      count : sink.put_faults l.fn.out ≤ sink.put_faults l.out;
+      count : sink.put_faults l.out ≡ sink.put_faults l.fn.out;
       beside : sink.beside_writing l.out ≡ sink.beside_writing l.fn.out;
     }

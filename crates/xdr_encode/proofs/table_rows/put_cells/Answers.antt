@@ -20,7 +20,7 @@ loop-column-preserved g c =
     = cells_step c.args.rows.now c.args.row c.loop-column.column c.requires.row c.columns-column-end.ensures.each_row lt in
     record {
       way = way_more _ _ _ _ _ _ _ _ _ _ step kept.way c.in_ok-put_chosen.ensures.puts;
-      count = omega (arith, c.put_chosen.ensures.cause.later, kept.count);
+      count = c.in_ok-put_chosen.ensures.cause.kept ∙ kept.count;
       beside = c.put_chosen.ensures.beside ∙ kept.beside;
     }
 

@@ -7,7 +7,7 @@ use Rattle.xdr_encode.proofs.texts.put_texts.Goals as goal
 pub loop-j-init : goal.loop-j-init
 loop-j-init g c = record {
   way = λ bytes got. texts-begin c.args.plan.now bytes c.args.batch.now.first c.args.batch.now.count (g.O.Sink.written c.args.out.now) c.args.buffer.now.bytes.items;
-  count = omega arith;
+  count = refl;
   beside = refl;
 }
 
@@ -24,7 +24,7 @@ loop-j-preserved g c = record {
       let here = text-here c.args.plan.now bytes c.args.raw.now (c.args.batch.now.first + c.loop-j.j) c.place-at.result c.size-size.result c.without_zeros.result.now c.requires.text c.size-size.ensures.size
       (c.place-at.ensures.bytes bytes c.args.raw.now got) c.without_zeros.ensures.same in
       way_more _ _ _ _ _ _ _ _ _ _ (texts-step c.args.plan.now bytes c.args.batch.now.first c.args.batch.now.count c.loop-j.j (bytes_of (string_fields c.without_zeros.result.now)) here c.loop-j-test.true) (c.loop-j.invariant.way bytes got) c.in_ok-put_text.ensures.puts;
-  count = omega (arith, c.put_text.ensures.cause.later, c.loop-j.invariant.count);
+  count = c.in_ok-put_text.ensures.cause.kept ∙ c.loop-j.invariant.count;
   beside = c.put_text.ensures.beside ∙ c.loop-j.invariant.beside;
 }
 

@@ -10,6 +10,6 @@ invariant-loop-j g l =
     record {
       way : (bytes : List ℕ) → Fetched l.plan l.batch bytes l.raw →
           IsOnItsWay (sink.written l.fn.out) l.fn.buffer.bytes.items (sink.written l.out) l.buffer.bytes.items (forms_from l.plan bytes (l.batch.first + l.j) (l.batch.count - l.j)) (forms_from l.plan bytes l.batch.first l.batch.count);
-      count : sink.put_faults l.fn.out ≤ sink.put_faults l.out;
+      count : sink.put_faults l.out ≡ sink.put_faults l.fn.out;
       beside : sink.beside_writing l.out ≡ sink.beside_writing l.fn.out;
     }

@@ -1,6 +1,6 @@
 use Rattle.std.proofs.Common.{subst, ap, inl}
 use Rattle.std.specs.Prelude.{Err}
-use Rattle.xdr_decode.proofs.Pushing.{failed_of, not_failed}
+use Rattle.xdr_decode.proofs.Pushing.{cut_behind, failed_of, not_failed}
 use Rattle.xdr_decode.proofs.Standing.{bad_never, cut_only, ends_only, reads_of, refuses, stopped, stopped_same, stopped_not_open, stopped_not_ended}
 use Rattle.xdr_decode.proofs.decoder.Decoder.finish.Goals as goal
 use Rattle.xdr_decode.specs.declared.decoder.State.TheVariants as state
@@ -36,6 +36,7 @@ returns-in-Reading c =
           let read = reads_of r bytes put (inl c.in-Reading.is) stands in
           cut_only (dataset_of r) (start_of r) bytes c.reached.result (c.reached.ensures.ended bytes put read) (c.reached.ensures.cut bytes put read) is;
       failed = λ failed. absurd (not_failed r state.Reading c.in-Reading.is (λ same. cc) failed);
+      behind = λ n failed. absurd (not_failed r state.Reading c.in-Reading.is (λ same. cc) failed.failed);
     }
 
 pub returns-in-Refused-clause-failed : goal.returns-in-Refused-clause-failed
@@ -52,3 +53,9 @@ returns-in-Failed-clause-stays c = λ bytes put fault place stands is. absurd (f
 
 pub returns-in-Failed-clause-cut : goal.returns-in-Failed-clause-cut
 returns-in-Failed-clause-cut c = λ bytes put stands is. absurd (failed_of c.args.self.now bytes put c.in-Failed.is stands)
+
+pub returns-in-Refused-clause-behind : goal.returns-in-Refused-clause-behind
+returns-in-Refused-clause-behind c = λ n failed. absurd (not_failed c.args.self.now (state.Refused c.in-Refused.bad) c.in-Refused.is (λ same. cc) failed.failed)
+
+pub returns-in-Failed-clause-behind : goal.returns-in-Failed-clause-behind
+returns-in-Failed-clause-behind c = λ n failed. ap Err (cut_behind c.args.self.now n c.cut.result c.cut.ensures failed)

@@ -1,5 +1,5 @@
-use Rattle.std.proofs.Common.{◌++◌, inl, inr}
-use Rattle.xdr_decode.proofs.Pushing.{failed_of, front_bytes, has_failed, not_failed, only_bad, only_ended, only_open, reading_of, refused_again, says_done, says_more, says_refused, some_pushed, stands_again, stands_pushed, where_more}
+use Rattle.std.proofs.Common.{◌++◌, arith, inl, inr}
+use Rattle.xdr_decode.proofs.Pushing.{failed_behind, failed_of, front_bytes, has_failed, not_failed, only_bad, only_ended, only_open, reading_of, refused_again, says_done, says_more, says_refused, some_pushed, stands_again, stands_pushed, where_more}
 use Rattle.xdr_decode.proofs.decoder.Decoder.push.Goals as goal
 use Rattle.xdr_decode.specs.After.{dataset_of, start_of}
 use Rattle.xdr_decode.specs.declared.decoder.State.TheVariants as state
@@ -35,8 +35,22 @@ returns-in-Refused-clause-stands g c = λ bytes put stands. stands_again c.args.
 pub returns-in-Refused-clause-failed : goal.returns-in-Refused-clause-failed
 returns-in-Refused-clause-failed g c = λ failed. absurd (not_failed c.args.self.now (state.Refused c.in-Refused.bad) c.in-Refused.is (λ same. cc) failed)
 
+pub returns-in-Refused-clause-counted : goal.returns-in-Refused-clause-counted
+returns-in-Refused-clause-counted g c = λ n failed. absurd (not_failed c.args.self.now (state.Refused c.in-Refused.bad) c.in-Refused.is (λ same. cc) failed.failed)
+
 pub returns-in-Failed-clause-fails : goal.returns-in-Failed-clause-fails
-returns-in-Failed-clause-fails g c = has_failed c.args.self.now c.in-Failed.is
+returns-in-Failed-clause-fails g c = has_failed c.fail.new.self c.fail.ensures.failed
+
+pub returns-in-Failed-clause-behind : goal.returns-in-Failed-clause-behind
+returns-in-Failed-clause-behind g c = λ bytes put stands. absurd (failed_of c.args.self.now bytes put c.in-Failed.is stands)
+
+pub returns-in-Failed-clause-counted : goal.returns-in-Failed-clause-counted
+returns-in-Failed-clause-counted g c = λ n failed.
+    record {
+      failed = has_failed c.fail.new.self c.fail.ensures.failed;
+      place = omega (arith, c.fail.ensures.place, c.fail.ensures.start, c.behind-behind.ensures, c.requires, failed.place);
+      small = omega (arith, c.fail.ensures.place, c.behind-behind.ensures, c.requires);
+    }
 
 pub returns-in-Failed-clause-cause : goal.returns-in-Failed-clause-cause
 returns-in-Failed-clause-cause g c = inl (has_failed c.args.self.now c.in-Failed.is)
@@ -117,3 +131,12 @@ returns-in-Reading-clause-some g c = λ bytes put stands.
 
 pub returns-in-Reading-clause-failed : goal.returns-in-Reading-clause-failed
 returns-in-Reading-clause-failed g c = λ failed. absurd (not_failed c.args.self.now state.Reading c.in-Reading.is (λ same. cc) failed)
+
+pub returns-in-Reading-clause-behind : goal.returns-in-Reading-clause-behind
+returns-in-Reading-clause-behind g c = λ bytes put stands.
+    let r = c.args.self.now in
+    let (reads, all) = reading_of r bytes put c.in-Reading.is stands in
+    failed_behind r c.go_on.new.self bytes put c.args.piece.now c.go_on.result reads (omega (arith, c.requires)) c.go_on.ensures.start c.go_on.ensures.fails c.go_on.ensures.behind
+
+pub returns-in-Reading-clause-counted : goal.returns-in-Reading-clause-counted
+returns-in-Reading-clause-counted g c = λ n failed. absurd (not_failed c.args.self.now state.Reading c.in-Reading.is (λ same. cc) failed.failed)

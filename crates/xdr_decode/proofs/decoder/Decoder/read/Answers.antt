@@ -12,7 +12,7 @@ turns-init g c =
       start = refl;
       place = omega arith;
       comes = comes_first c.args.self.now c.args.self.now (g.O.Sink.written c.args.out.now) (g.O.Sink.written c.args.out.now) c.args.buffer.now.bytes.items c.args.buffer.now.bytes.items c.args.piece.now refl refl refl;
-      count = omega arith;
+      count = refl;
       beside = refl;
     }
 
@@ -36,7 +36,7 @@ turns-preserved g c =
       start = c.turn.ensures.start ∙ kept.start;
       place = omega (arith, kept.place, falls.2);
       comes = comes_on r0 r q (g.O.Sink.written c.args.out.now) (g.O.Sink.written c.turns.out) (g.O.Sink.written c.turn.new.out) c.args.buffer.now.bytes.items c.turns.buffer.bytes.items c.turn.new.buffer.bytes.items piece rest at n is kept.comes (λ bs ps s. turns bs ps s bound);
-      count = omega (arith, kept.count, c.turn.ensures.cause.later);
+      count = c.in_ok-count.ensures.cause.kept ∙ kept.count;
       beside = c.turn.ensures.beside ∙ kept.beside;
     }
 

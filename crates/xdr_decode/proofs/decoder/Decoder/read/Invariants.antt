@@ -13,7 +13,7 @@ invariant-turns g l =
       start : start_of l.self ≡ start_of l.fn.self;
       place : place_of l.self ≤ place_of l.fn.self + l.at;
       comes : Comes l.fn.self l.self (sink.written l.fn.out) l.fn.buffer.bytes.items (sink.written l.out) l.buffer.bytes.items l.piece l.at;
-      count : sink.put_faults l.fn.out ≤ sink.put_faults l.out;
+      count : sink.put_faults l.out ≡ sink.put_faults l.fn.out;
       beside : sink.beside_writing l.out ≡ sink.beside_writing l.fn.out;
     }
 
