@@ -239,7 +239,8 @@ told status (inr (inr (inl e))) = subst IsTold (sym e) (record { digits = by-bit
 told status (inr (inr (inr (inl e)))) = subst IsTold (sym e) (record { digits = by-bits is_ascii_digit (code_digits 405) refl; phrase = by-bits is_value_byte (codes "Method Not Allowed") refl; final = refl })
 told status (inr (inr (inr (inr (inl e))))) = subst IsTold (sym e) (record { digits = by-bits is_ascii_digit (code_digits 431) refl; phrase = by-bits is_value_byte (codes "Request Header Fields Too Large") refl; final = refl })
 told status (inr (inr (inr (inr (inr (inl e)))))) = subst IsTold (sym e) (record { digits = by-bits is_ascii_digit (code_digits 500) refl; phrase = by-bits is_value_byte (codes "Internal Server Error") refl; final = refl })
-told status (inr (inr (inr (inr (inr (inr e)))))) = subst IsTold (sym e) (record { digits = by-bits is_ascii_digit (code_digits 503) refl; phrase = by-bits is_value_byte (codes "Service Unavailable") refl; final = refl })
+told status (inr (inr (inr (inr (inr (inr (inl e))))))) = subst IsTold (sym e) (record { digits = by-bits is_ascii_digit (code_digits 502) refl; phrase = by-bits is_value_byte (codes "Bad Gateway") refl; final = refl })
+told status (inr (inr (inr (inr (inr (inr (inr e))))))) = subst IsTold (sym e) (record { digits = by-bits is_ascii_digit (code_digits 503) refl; phrase = by-bits is_value_byte (codes "Service Unavailable") refl; final = refl })
 
 fields-ok : (o : Bool) (d t : List ℕ) (len : Option ℕ) (b close : Bool) → AllPass is_value_byte d → AllPass is_value_byte t → ((n : ℕ) → len ≡ Some n → n < 10 ^ 18) → All IsField (fields_of o d t len b close)
 fields-ok o d t len b close dv tv small =

@@ -6,6 +6,7 @@ use Rattle.xdr_decode.specs.declared.bad.Bad.{Bad}
 use Rattle.xdr_decode.specs.declared.bad.Bad.TheVariants.{Cut}
 use Rattle.dap_http.specs.Codings.{Ends, Fails, Goes}
 use Rattle.dap_http.specs.Delivered.{BreaksOff, Delivers, HasBadHead, HasCoding, IsBrokenBody, IsWholeBody}
+use Rattle.dap_http.specs.Reading.{GivesFinal}
 use Rattle.dap_http.specs.Replies.{AreCut}
 use Rattle.dap_http.specs.declared.coding.Coding.{Coding}
 use Rattle.dap_http.specs.declared.coding.Coding.TheVariants.{ToEnd}
@@ -110,3 +111,26 @@ pub break-more : (reply more : List ℕ) (ended : Bool) (body : List ℕ) (bad :
 break-more reply more ended body bad none (inl (head, empty)) = inl (head-more reply more ended bad none head, empty)
 break-more reply more ended body bad none (inr (c, behind, has, broken)) =
     inr (c, behind ++ more, gives-more reply more behind (inr c) has, broken-more c behind more ended body bad none broken)
+
+-- ---- a final head that says wrongly how the body is coded
+
+pub head-breaks : (reply behind more : List ℕ) (ended : Bool) (kind : Bad) → GivesFinal reply behind (inl kind) → BreaksOff (reply ++ more) ended [] (record { kind = kind; place = 0 })
+head-breaks reply behind more ended kind gives = inl ((refl, inr (inr (inr (behind ++ more, gives-more reply more behind (inl kind) gives)))), refl)
+
+one-head : (reply behind : List ℕ) (ended : Bool) (kind : Bad) (bad : BadField) → GivesFinal reply behind (inl kind) → HasBadHead reply ended bad → bad ≡ record { kind = kind; place = 0 }
+one-head reply behind ended kind bad (head, final, within, is) (place, inl (named, none)) = absurd (no-reply-final reply behind head none final)
+one-head reply behind ended kind bad (head, final, within, is) (place, inr (inl (named, long))) = absurd (omega (arith, within, long.none head behind final))
+one-head reply behind ended kind bad (head, final, within, is) (place, inr (inr (inl (named, end, cut)))) = absurd (cut.none head behind final)
+one-head reply behind ended kind bad own (place, inr (inr (inr (rest, gives)))) =
+    let (rests, answers) = one-gives reply rest behind (inl bad.kind) (inl kind) gives own in
+    let same : bad.kind ≡ kind = cc in
+    same-bad bad (record { kind = kind; place = 0 }) same place
+
+pub head-only : (reply behind body : List ℕ) (ended : Bool) (kind : Bad) (bad : BadField) → GivesFinal reply behind (inl kind) → BreaksOff reply ended body bad → (body ≡ []) × (bad ≡ record { kind = kind; place = 0 })
+head-only reply behind body ended kind bad own (inl (head, none)) = (none, one-head reply behind ended kind bad own head)
+head-only reply behind body ended kind bad own (inr (coding, rest, has, broken)) =
+    let (rests, answers) = one-gives reply rest behind (inr coding) (inl kind) has own in absurd (cc)
+
+pub head-nothing : (reply behind body rest : List ℕ) (ended : Bool) (kind : Bad) → GivesFinal reply behind (inl kind) → Delivers reply ended body rest → ⊥
+head-nothing reply behind body rest ended kind own d =
+    let (rests, answers) = one-gives reply d.behind behind (inr d.coding) (inl kind) d.has_coding own in cc

@@ -1,18 +1,18 @@
 -- How a framed body ends.
-use Rattle.std.proofs.Common.{◌≡◌, ℕ, zero, suc, eqb, ◌+◌, ◌/◌, ◌<◌, Bool, true, false, List, [], ◌∷◌, ◌++◌, length, take, drop, Option, Decides, OnOk, OnErr, Result, Ok, Err, refl, sym, ap, ◌∙◌, arith, append_assoc, append-nil, subst}
+use Rattle.std.proofs.Common.{◌≡◌, ℕ, zero, suc, eqb, ◌+◌, ◌/◌, ◌<◌, Bool, true, false, List, [], ◌∷◌, ◌++◌, length, take, drop, Option, Decides, OnOk, OnErr, Result, Ok, Err, refl, sym, ap, ◌∙◌, arith, append_assoc, append-nil, length-append, length-drop, ◌≤◌, ◌⊎◌, inl, inr, subst}
 use Rattle.std.specs.List.{flat_map}
 use Rattle.std.specs.Str.{bytes_eq}
 use Rattle.std.specs.Io.KnownBytes.{Appends}
 use Rattle.std.proofs.KnownBytes.{Appends-trans}
 use Rattle.std.proofs.Math.Logic.{∥∥₁_elim, ∥∥₁_map}
 use Rattle.std.proofs.Math.Seq.{drop-append_seam}
-use Rattle.std.proofs.lemmas.Bool.{eqb-true, false≢true}
+use Rattle.std.proofs.lemmas.Bool.{cases_lt, eqb-true, false≢true}
 use Rattle.std.proofs.lemmas.List.{take-append-drop, take_all}
 use Rattle.std.proofs.lemmas.Slice.Eq.{bytes_eq-Decides}
 use Rattle.dap_outside.specs.Streams.{AppendsFront}
-use Rattle.dap_http.specs.Frames.{IsFront, chunk, chunked, first_pieces, last_chunk, piece_size}
+use Rattle.dap_http.specs.Frames.{IsFront, IsProperFront, chunk, chunked, first_pieces, last_chunk, piece_size}
 use Rattle.dap_http.specs.inner.UnderWay.{InChunks}
-use Rattle.dap_http.proofs.Fronts.{chunked-pieces, chunks-front}
+use Rattle.dap_http.proofs.Fronts.{chunked-pieces, chunks-proper, is-front}
 use Rattle.dap_http.proofs.Gathering.{when-open}
 
 nonzero : (n : ℕ) → eqb n 0 ≡ false → 0 < n
@@ -46,6 +46,18 @@ front-is part all rest e = e ∙ ap (λ t. part ++ t) (sym (ap (drop (length par
 pub front-of : (part all : List ℕ) → ∥ IsFront part all ∥₁ → IsFront part all
 front-of part all f = (drop (length part) all, same-of all (part ++ drop (length part) all) (∥∥₁_map f (λ w. front-is part all w.0 w.1)))
 
+not-nothing : (part all rest : List ℕ) → ∥ IsProperFront part all ∥₁ → all ≡ part ++ rest → length rest ≤ 0 → ⊥
+not-nothing part all rest f same none =
+    ∥∥₁_elim f (λ (x : ⊥). λ (y : ⊥). absurd x) (λ w. omega (arith, none, w.1, ap length same, ap length w.2, length-append part rest, length-append part w.0))
+
+pub proper-of : (part all : List ℕ) → ∥ IsProperFront part all ∥₁ → IsProperFront part all
+proper-of part all f =
+    let (rest, same) = front-of part all (∥∥₁_map f (is-front part all)) in
+    elim (cases_lt 0 (length rest)) [
+      | inl some ↦ (rest, some, same)
+      | inr none ↦ absurd (not-nothing part all rest f same none)
+    ]
+
 -- what was gathered of a chunk is put, and the last chunk
 rest-done : (frame body gained : List ℕ) (sent : ℕ) → length frame < 65543 → InChunks frame sent body gained → gained ++ chunked (drop 7 frame) ≡ chunked body
 rest-done frame body gained sent open_one w =
@@ -59,15 +71,15 @@ pub all-done : (frame body gained : List ℕ) (sent : ℕ) → length frame < 65
 all-done frame body gained sent open_one w = same-of (gained ++ chunked (drop 7 frame)) (chunked body) (∥∥₁_map w (rest-done frame body gained sent open_one))
 
 -- some of it is
-pub some-done : (a b : Option (List ℕ)) (gained rest whole : List ℕ) → gained ++ rest ≡ whole → AppendsFront a b rest → (x : List ℕ) × Appends a b x × IsFront (gained ++ x) whole
-some-done a b gained rest whole e (k, le, appends) =
-    (take k rest, appends, (drop k rest, sym e ∙ ap (λ t. gained ++ t) (sym (take-append-drop k rest)) ∙ sym (append_assoc gained (take k rest) (drop k rest))))
+pub some-done : (a b : Option (List ℕ)) (gained rest whole : List ℕ) → gained ++ rest ≡ whole → AppendsFront a b rest → (x : List ℕ) × Appends a b x × IsProperFront (gained ++ x) whole
+some-done a b gained rest whole e (k, less, appends) =
+    (take k rest, appends, (drop k rest, omega (arith, less, length-drop k rest), sym e ∙ ap (λ t. gained ++ t) (sym (take-append-drop k rest)) ∙ sym (append_assoc gained (take k rest) (drop k rest))))
 
 pub ok-done : {T E : Type 0} (r : Result T E) (a b : Option (List ℕ)) (gained rest whole : List ℕ) → gained ++ rest ≡ whole → OnOk r (Appends a b rest) → OnOk r ((x : List ℕ) × Appends a b x × (gained ++ x ≡ whole))
 ok-done (Ok v) a b gained rest whole e appends = (rest, appends, e)
 ok-done (Err v) a b gained rest whole e appends = tt
 
-pub err-done : {T E : Type 0} (r : Result T E) (a b : Option (List ℕ)) (gained rest whole : List ℕ) → gained ++ rest ≡ whole → OnErr r (AppendsFront a b rest) → OnErr r ((x : List ℕ) × Appends a b x × IsFront (gained ++ x) whole)
+pub err-done : {T E : Type 0} (r : Result T E) (a b : Option (List ℕ)) (gained rest whole : List ℕ) → gained ++ rest ≡ whole → OnErr r (AppendsFront a b rest) → OnErr r ((x : List ℕ) × Appends a b x × IsProperFront (gained ++ x) whole)
 err-done (Ok v) a b gained rest whole e appends = tt
 err-done (Err v) a b gained rest whole e appends = some-done a b gained rest whole e appends
 
@@ -79,26 +91,26 @@ ok-behind (Ok v) a b c gained gained' x whole whole' first e same (y, second, is
 ok-behind (Err v) a b c gained gained' x whole whole' first e same more = tt
 
 pub err-behind : {T E : Type 0} (r : Result T E) (a b c : Option (List ℕ)) (gained gained' x whole whole' : List ℕ) → Appends a b x → gained' ≡ gained ++ x → whole' ≡ whole
-    → OnErr r ((y : List ℕ) × Appends b c y × IsFront (gained' ++ y) whole') → OnErr r ((z : List ℕ) × Appends a c z × IsFront (gained ++ z) whole)
+    → OnErr r ((y : List ℕ) × Appends b c y × IsProperFront (gained' ++ y) whole') → OnErr r ((z : List ℕ) × Appends a c z × IsProperFront (gained ++ z) whole)
 err-behind (Ok v) a b c gained gained' x whole whole' first e same more = tt
-err-behind (Err v) a b c gained gained' x whole whole' first e same (y, second, (rest, is)) = (
+err-behind (Err v) a b c gained gained' x whole whole' first e same (y, second, (rest, some, is)) = (
   x ++ y,
   Appends-trans a b c x y first second,
-  (rest, sym same ∙ is ∙ ap (λ t. (t ++ y) ++ rest) e ∙ ap (λ t. t ++ rest) (append_assoc gained x y)),
+  (rest, some, sym same ∙ is ∙ ap (λ t. (t ++ y) ++ rest) e ∙ ap (λ t. t ++ rest) (append_assoc gained x y)),
 )
 
 -- a front that goes on to a whole body, under way
-pub way-front : (frame body body' gained gained' x : List ℕ) (sent : ℕ) → ∥ InChunks frame sent body gained ∥₁ → body' ≡ body → gained ≡ gained' ++ x → IsFront (gained' ++ x) (chunked body')
+pub way-front : (frame body body' gained gained' x : List ℕ) (sent : ℕ) → ∥ InChunks frame sent body gained ∥₁ → body' ≡ body → gained ≡ gained' ++ x → IsProperFront (gained' ++ x) (chunked body')
 way-front frame body body' gained gained' x sent w q r =
-    subst (λ (t : List ℕ). IsFront t (chunked body')) r
-    (front-of gained (chunked body') (∥∥₁_map w (λ v.
-    let (rest, e) = chunks-front frame body gained [] sent v in
-    (rest, ap chunked (q ∙ sym (append-nil body)) ∙ e))))
+    subst (λ (t : List ℕ). IsProperFront t (chunked body')) r
+    (proper-of gained (chunked body') (∥∥₁_map w (λ v.
+    let (rest, some, e) = chunks-proper frame body gained [] sent v in
+    (rest, some, ap chunked (q ∙ sym (append-nil body)) ∙ e))))
 
--- what a body under way has put is a front of each that goes on so
-pub way-on : (frame body gained more : List ℕ) (sent : ℕ) → ∥ InChunks frame sent body gained ∥₁ → IsFront gained (chunked (body ++ more))
-way-on frame body gained more sent w = front-of gained (chunked (body ++ more)) (∥∥₁_map w (chunks-front frame body gained more sent))
+-- what a body under way has put is a front of each that goes on so, and not all of it
+pub way-on : (frame body gained more : List ℕ) (sent : ℕ) → ∥ InChunks frame sent body gained ∥₁ → IsProperFront gained (chunked (body ++ more))
+way-on frame body gained more sent w = proper-of gained (chunked (body ++ more)) (∥∥₁_map w (chunks-proper frame body gained more sent))
 
-pub err-front : {T E : Type 0} (r : Result T E) (a b : Option (List ℕ)) (gained x whole : List ℕ) → Appends a b x → IsFront (gained ++ x) whole → OnErr r ((y : List ℕ) × Appends a b y × IsFront (gained ++ y) whole)
+pub err-front : {T E : Type 0} (r : Result T E) (a b : Option (List ℕ)) (gained x whole : List ℕ) → Appends a b x → IsProperFront (gained ++ x) whole → OnErr r ((y : List ℕ) × Appends a b y × IsProperFront (gained ++ y) whole)
 err-front (Ok v) a b gained x whole appends front = tt
 err-front (Err v) a b gained x whole appends front = (x, appends, front)

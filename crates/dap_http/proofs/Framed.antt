@@ -1,5 +1,5 @@
 -- What a framing says of the sink below it.
-use Rattle.std.proofs.Common.{◌≡◌, ℕ, Bool, true, false, List, [], ◌++◌, length, take, drop, Option, Some, None, OnOk, OnErr, Result, Ok, Err, refl, sym, ap, ◌∙◌, arith, append_assoc, append-nil, length-append, subst}
+use Rattle.std.proofs.Common.{◌≡◌, ℕ, Bool, true, false, List, [], ◌++◌, length, take, drop, Option, Some, None, OnOk, OnErr, Result, Ok, Err, refl, sym, ap, ◌∙◌, arith, append_assoc, append-nil, length-append, inl, inr, subst}
 use Rattle.std.specs.Prelude.{IfOk, IsOk, IsTrue}
 use Rattle.std.specs.Str.{bytes_eq}
 use Rattle.std.specs.Io.KnownBytes.{Appends}
@@ -10,8 +10,8 @@ use Rattle.std.proofs.Math.Seq.{drop-append_seam, drop-length}
 use Rattle.std.proofs.lemmas.List.{append_cancel_right, drop-append-le}
 use Rattle.std.specs.Option.{option_map}
 use Rattle.std.proofs.lemmas.Slice.Eq.{bytes_eq-Decides}
-use Rattle.dap_http.specs.Frames.{IsFront, chunked, framed}
-use Rattle.dap_http.specs.Framings.{body_put, body_told, has_gained, keeps_telling, since, where_so}
+use Rattle.dap_http.specs.Frames.{IsFront, IsProperFront, chunked, framed}
+use Rattle.dap_http.specs.Framings.{IsUnfinished, body_put, body_told, has_gained, keeps_telling, since, where_so}
 
 gained-bytes : (k : Bool) (start now g : List ℕ) → IsTrue (has_gained k (Some start) (Some now) g) → now ≡ start ++ since k start now g
 gained-bytes k start now g e = (bytes_eq-Decides now (start ++ since k start now g)).0 e
@@ -173,6 +173,23 @@ pub sent-so-far : (k : Bool) (a b : Option (List ℕ)) (g held body : List ℕ) 
     → (part : List ℕ) × Appends a b part × ((more : List ℕ) → IsFront part (framed k (body ++ more)))
 sent-so-far k a b g held body front told = let (e, is) = so-of k a b g held body told in sent-now k a b g held body e is front
 
+unfinished-now : (k : Bool) (a b : Option (List ℕ)) (g held body more : List ℕ) → IsUnfinished k more → IsTrue (has_gained k a b g) → body_put k a b held ≡ Some body → IsProperFront g (chunked (held ++ more))
+    → (part : List ℕ) × Appends a b part × IsProperFront part (framed k (body ++ more))
+unfinished-now k None b g held body more goes e told front = absurd (cc told)
+unfinished-now k (Some s) None g held body more goes e told front = absurd (cc told)
+unfinished-now true (Some s) (Some w) g held body more goes e told front =
+    let same : held ≡ body = cc told in
+    (g, gained-bytes true s w g e, subst (λ (t : List ℕ). IsProperFront g (chunked (t ++ more))) same front)
+unfinished-now false (Some s) (Some w) g held body more (inl some) e told front =
+    let same : drop (length s) w ≡ body = cc told in
+    (body, gained-bytes false s w g e ∙ ap (λ t. s ++ t) same, (more, some, refl))
+unfinished-now false (Some s) (Some w) g held body more (inr chunks) e told front = absurd (false≢true chunks)
+
+-- and something of it is missing
+pub unfinished-so-far : (k : Bool) (a b : Option (List ℕ)) (g held body more : List ℕ) → IsUnfinished k more → IsProperFront g (chunked (held ++ more)) → body_told k a b g held ≡ Some body
+    → (part : List ℕ) × Appends a b part × IsProperFront part (framed k (body ++ more))
+unfinished-so-far k a b g held body more goes front told = let (e, is) = so-of k a b g held body told in unfinished-now k a b g held body more goes e is front
+
 plain-now : (k : Bool) (a b : Option (List ℕ)) (g held body : List ℕ) → k ≡ false → IsTrue (has_gained k a b g) → body_put k a b held ≡ Some body → Appends a b (framed k body)
 plain-now true a b g held body k_is e told = absurd (true≢false k_is)
 plain-now false None b g held body k_is e told = absurd (cc told)
@@ -196,12 +213,12 @@ ok-chunks (Ok v) k a b c g held body k_is told (x, more, is) =
 ok-chunks (Err v) k a b c g held body k_is told more = tt
 
 err-chunks : {T E : Type 0} (r : Result T E) (k : Bool) (a b c : Option (List ℕ)) (g held body : List ℕ) → k ≡ true → body_told k a b g held ≡ Some body
-    → OnErr r ((x : List ℕ) × Appends b c x × IsFront (g ++ x) (chunked held)) → OnErr r ((part : List ℕ) × Appends a c part × IsFront part (framed k body))
+    → OnErr r ((x : List ℕ) × Appends b c x × IsProperFront (g ++ x) (chunked held)) → OnErr r ((part : List ℕ) × Appends a c part × IsProperFront part (framed k body))
 err-chunks (Ok v) k a b c g held body k_is told more = tt
 err-chunks (Err v) k a b c g held body k_is told (x, more, front) =
     let (e, put) = so-of k a b g held body told in
     let (all, same) = chunks-now k a b c g held body x k_is e put more in
-    (g ++ x, all, subst (IsFront (g ++ x)) same front)
+    (g ++ x, all, subst (IsProperFront (g ++ x)) same front)
 
 lift-ok : {T E : Type 0} (r : Result T E) (A : Type 0) (P : A → Type 0) → ((x : A) → OnOk r (P x)) → OnOk r ((x : A) → P x)
 lift-ok (Ok v) A P all = all
@@ -229,9 +246,15 @@ ok-end r k a b c g held plain chunks = lift-ok r (List ℕ) (λ body. body_told 
     let (e, put) = so-of k a b g held body told in
     on-ok r (Appends a c (framed k body)) (subst (λ (o : Option (List ℕ)). Appends a o (framed k body)) (sym (plain no_one).1) (plain-now k a b g held body no_one e put)))))
 
-pub err-end : {T E : Type 0} (r : Result T E) (k : Bool) (a b c : Option (List ℕ)) (g held : List ℕ) → (k ≡ false → IsOk r × (c ≡ b)) → (k ≡ true → OnErr r ((x : List ℕ) × Appends b c x × IsFront (g ++ x) (chunked held)))
-    → OnErr r ((body : List ℕ) → body_told k a b g held ≡ Some body → (part : List ℕ) × Appends a c part × IsFront part (framed k body))
-err-end r k a b c g held plain chunks = lift-err r (List ℕ) (λ body. body_told k a b g held ≡ Some body → (part : List ℕ) × Appends a c part × IsFront part (framed k body))
-    (λ body. lift-err r (body_told k a b g held ≡ Some body) (λ told. (part : List ℕ) × Appends a c part × IsFront part (framed k body)) (λ told. either k
+pub err-end : {T E : Type 0} (r : Result T E) (k : Bool) (a b c : Option (List ℕ)) (g held : List ℕ) → (k ≡ false → IsOk r × (c ≡ b)) → (k ≡ true → OnErr r ((x : List ℕ) × Appends b c x × IsProperFront (g ++ x) (chunked held)))
+    → OnErr r ((body : List ℕ) → body_told k a b g held ≡ Some body → (part : List ℕ) × Appends a c part × IsProperFront part (framed k body))
+err-end r k a b c g held plain chunks = lift-err r (List ℕ) (λ body. body_told k a b g held ≡ Some body → (part : List ℕ) × Appends a c part × IsProperFront part (framed k body))
+    (λ body. lift-err r (body_told k a b g held ≡ Some body) (λ told. (part : List ℕ) × Appends a c part × IsProperFront part (framed k body)) (λ told. either k
     (λ yes. err-chunks r k a b c g held body yes told (chunks yes))
-    (λ no_one. on-err r ((part : List ℕ) × Appends a c part × IsFront part (framed k body)) (plain no_one).0)))
+    (λ no_one. on-err r ((part : List ℕ) × Appends a c part × IsProperFront part (framed k body)) (plain no_one).0)))
+
+-- it fails only where it is sent in chunks
+pub chunks-only : {T E : Type 0} (r : Result T E) (k : Bool) (P : Type 0) → (k ≡ false → IsOk r × P) → OnErr r (k ≡ true)
+chunks-only (Ok v) k P plain = tt
+chunks-only (Err v) true P plain = refl
+chunks-only (Err v) false P plain = absurd (false≢true (plain refl).0)

@@ -13,9 +13,11 @@ pub mod Framed
 pub mod FramedWhole
 pub mod Framings
 pub mod Fronts
+pub mod Further
 pub mod Gathering
 pub mod HeadReading
 pub mod Hex
+pub mod InTime
 pub mod Inside
 pub mod Landed
 pub mod Lending
@@ -32,3 +34,4 @@ pub mod Seams
 pub mod Stages
 pub mod Told
 pub mod Whole
+pub mod Fronting

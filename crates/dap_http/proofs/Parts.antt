@@ -10,6 +10,7 @@ use Rattle.std.proofs.lemmas.List.{drop-drop, drop-take, length-take-le, take-ap
 use Rattle.std.proofs.lemmas.List.Edits.{length-between}
 use Rattle.xdr_decode.specs.declared.bad.BadField.{BadField}
 use Rattle.xdr_decode.specs.declared.bad.Bad.TheVariants.{Cut}
+use Rattle.dap_types.specs.Limits.{body_limit}
 use Rattle.dap_http.specs.After.{StandsAfter, coding_of, used_by}
 use Rattle.dap_http.specs.Codings.{Ends, Fails, Goes}
 use Rattle.dap_http.specs.Delivered.{IsBrokenBody, IsWholeBody}
@@ -69,7 +70,7 @@ pub closed : (p : BodyParts) (bytes body used : List ℕ) → StandsAfter p.unfr
 unfolding Follows
 closed p bytes body used stands parts comes = (used, stands, parts, comes)
 
-start-goes : (c : Coding) → Goes c [] [] ⊎ Ends c [] []
+pub start-goes : (c : Coding) → Goes c [] [] ⊎ Ends c [] []
 start-goes Chunked = inl (known-goes [] refl)
 start-goes ToEnd = inl refl
 start-goes (Length n) = elim (cases_lt 0 n) [
@@ -90,10 +91,13 @@ pub used-is : (u : Unframer) (bytes : List ℕ) → StandsAfter u bytes → u.us
 used-is u bytes stands = count-in u u.coding bytes (stands-in u u.coding bytes refl stands)
 
 -- and few where the body is short
+limit-is : body_limit ≡ 1099511627776
+limit-is = refl
+
 pub short-room : (p : BodyParts) → IsShort p → used_by p.unframer + 65536 < 2 ^ 52
 short-room p (bytes, body, follows, short) =
     let o = opened p bytes body follows in
-    omega (arith, short, few-lines (body_coding p) o.used body o.comes, used-is p.unframer o.used o.stands)
+    omega (arith, short, limit-is, few-lines (body_coding p) o.used body o.comes, used-is p.unframer o.used o.stands)
 
 -- ---- what the waiting bytes give
 

@@ -7,9 +7,12 @@ use Rattle.dap_http.specs.declared.unframer.Unframed.{Unframed}
 use Rattle.dap_http.specs.declared.unframer.Unframed.TheVariants.{Part, More, End, Refused}
 use Rattle.dap_http.specs.declared.unframer.Unframer.{Unframer}
 
--- how many bytes it has used, and the coding of the body
+-- how many bytes it has used, and how many of the body it has lent; the coding of the body
 abbrev pub used_by : Unframer → ℕ
 used_by u = u.used
+
+abbrev pub lent_by : Unframer → ℕ
+lent_by u = u.lent
 
 abbrev pub coding_of : Unframer → Coding
 coding_of u = u.coding

@@ -59,8 +59,3 @@ abbrev pub BreaksOff : List ℕ → Bool → List ℕ → BadField → Type 0
 BreaksOff reply ended body bad =
     (HasBadHead reply ended bad × (body ≡ []))
     ⊎ ((coding : Coding) × (behind : List ℕ) × HasCoding reply coding behind × IsBrokenBody coding behind ended body bad)
-
--- this much of its body has come, whatever is behind
-abbrev pub HasBrought : List ℕ → List ℕ → Type 0
-HasBrought reply body =
-    (body ≡ []) ⊎ ((coding : Coding) × (behind : List ℕ) × HasCoding reply coding behind × HasCome coding behind body)

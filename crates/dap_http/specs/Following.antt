@@ -1,6 +1,7 @@
 -- Which bytes a reader of the body of a reply stands after, and what its answers say.
-use Rattle.std.specs.Prelude.{◌≡◌, ℕ, ◌<◌, ◌^◌, ◌⊎◌, Bool, List, ◌++◌, length}
+use Rattle.std.specs.Prelude.{◌≡◌, ℕ, ◌<◌, ◌≤◌, ◌⊎◌, Bool, List, [], ◌++◌, length}
 use Rattle.std.specs.List.{between}
+use Rattle.dap_types.specs.Limits.{body_limit, most_piece}
 use Rattle.dap_http.specs.After.{StandsAfter, coding_of}
 use Rattle.dap_http.specs.Codings.{Ends, Goes}
 use Rattle.dap_http.specs.Delivered.{HasCome, IsBrokenBody, IsWholeBody}
@@ -27,9 +28,23 @@ Follows p bytes body =
     (used : List ℕ) × StandsAfter p.unframer used × (bytes ≡ used ++ waiting p)
     × (Goes (body_coding p) used body ⊎ Ends (body_coding p) used body)
 
--- it follows some bytes, and fewer than 2^41 came of the body
+-- it follows some bytes, and fewer came of the body than no body has
 abbrev pub IsShort : BodyParts → Type 0
-IsShort p = (bytes : List ℕ) × (body : List ℕ) × Follows p bytes body × (length body < 2 ^ 41)
+IsShort p = (bytes : List ℕ) × (body : List ℕ) × Follows p bytes body × (length body < body_limit)
+
+-- No more was taken behind the head than tells the body: at most a piece behind a front with which the
+-- framing went on (or behind nothing), of which a front of the body had come; and at most 2^40 bytes of
+-- the body.
+pub record IsInTime (coding : Coding) (bytes body : List ℕ) : Type 0 where
+  pub front : List ℕ
+  pub more : List ℕ
+  pub came : List ℕ
+  pub later : List ℕ
+  pub parts : bytes ≡ front ++ more
+  pub body_parts : body ≡ came ++ later
+  pub goes : ((front ≡ []) × (came ≡ [])) ⊎ Goes coding front came
+  pub few : length more ≤ most_piece
+  pub short : (other : List ℕ) → HasCome coding bytes other → length other ≤ body_limit
 
 -- what an answer says of the bytes taken, the body before, and the end mark
 abbrev pub Arrives : BodyParts → List ℕ → List ℕ → Bool → Arrived → Type 0

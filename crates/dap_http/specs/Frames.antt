@@ -1,6 +1,6 @@
 -- A body as it is sent in chunks (RFC 9112, section 7.1): pieces of 65,536 bytes and a rest that is not
 -- empty, which is this project's choice, each as a chunk, and then the last chunk.
-use Rattle.std.specs.Prelude.{◌≡◌, ℕ, zero, suc, ◌+◌, ◌/◌, Bool, false, List, [], ◌∷◌, ◌++◌, length, take, drop, codes, if◌then◌else◌}
+use Rattle.std.specs.Prelude.{◌≡◌, ℕ, zero, suc, ◌+◌, ◌/◌, ◌<◌, Bool, false, List, [], ◌∷◌, ◌++◌, length, take, drop, codes, if◌then◌else◌}
 use Rattle.std.specs.List.{flat_map}
 use Rattle.std.specs.Fmt.{digits}
 use Rattle.httparse.specs.Ascii.{crlf_bytes}
@@ -34,3 +34,7 @@ framed in_chunks body = if in_chunks then chunked body else body
 -- some bytes from the front of others
 abbrev pub IsFront : List ℕ → List ℕ → Type 0
 IsFront part all = (rest : List ℕ) × (all ≡ part ++ rest)
+
+-- and not all of them
+abbrev pub IsProperFront : List ℕ → List ℕ → Type 0
+IsProperFront part all = (rest : List ℕ) × (0 < length rest) × (all ≡ part ++ rest)

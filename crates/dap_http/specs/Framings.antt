@@ -1,5 +1,5 @@
 -- What a framing has done to the sink below it: how that sink stood at the start, and what it has gained.
-use Rattle.std.specs.Prelude.{ℕ, Bool, true, false, List, [], ◌∷◌, ◌++◌, length, drop, Option, Some, None}
+use Rattle.std.specs.Prelude.{◌≡◌, ◌<◌, ◌⊎◌, ℕ, Bool, true, false, List, [], ◌∷◌, ◌++◌, length, drop, Option, Some, None}
 use Rattle.std.specs.Str.{bytes_eq}
 
 -- what was written where a history of sinks begins
@@ -37,3 +37,7 @@ where_so false body = None
 -- they are told where the sink below tells, and has gained what is said
 abbrev pub body_told : Bool → Option (List ℕ) → Option (List ℕ) → List ℕ → List ℕ → Option (List ℕ)
 body_told in_chunks start now gained body = where_so (has_gained in_chunks start now gained) (body_put in_chunks start now body)
+
+-- what is put is not all yet: more of the body comes, or it is sent in chunks, and the last one comes
+abbrev pub IsUnfinished : Bool → List ℕ → Type 0
+IsUnfinished in_chunks more = (0 < length more) ⊎ (in_chunks ≡ true)

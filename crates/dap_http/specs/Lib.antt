@@ -9,6 +9,7 @@ pub mod Frames
 pub mod Framings
 pub mod Reading
 pub mod Replies
+pub mod Sent
 pub mod Requests
 pub mod Targets
 pub mod Texts

@@ -50,10 +50,6 @@ IsFound read.ReadFault = Unit {0}
 IsFound (read.Memory is_head) = Unit {0}
 IsFound other = ⊥
 
--- a kind of fault at place 0
-abbrev pub is_at_front : Bad → BadField → Type 0
-is_at_front kind f = (f.kind ≡ kind) × (f.place ≡ 0)
-
 -- the final head stands in the bytes, within 65,536 of them, and gives this
 abbrev pub GivesFinal : List ℕ → List ℕ → Bad ⊎ Coding → Type 0
 GivesFinal bytes kept answer =

@@ -15,7 +15,7 @@ use Rattle.dap_http.specs.declared.kind.Kind.TheVariants.{Dds, Das, Dods, Ver}
 
 -- a status that a reply may have
 abbrev pub IsReplyStatus : ℕ → Type 0
-IsReplyStatus n = (n ≡ 200) ⊎ ((n ≡ 400) ⊎ ((n ≡ 404) ⊎ ((n ≡ 405) ⊎ ((n ≡ 431) ⊎ ((n ≡ 500) ⊎ (n ≡ 503))))))
+IsReplyStatus n = (n ≡ 200) ⊎ ((n ≡ 400) ⊎ ((n ≡ 404) ⊎ ((n ≡ 405) ⊎ ((n ≡ 431) ⊎ ((n ≡ 500) ⊎ ((n ≡ 502) ⊎ (n ≡ 503)))))))
 
 abbrev pub status_line : ℕ → List ℕ
 status_line status = codes "HTTP/1.1 " ++ code_digits status ++ codes " " ++ unwrap_or (reason_phrase status) [] ++ codes "\r\n"

@@ -1,6 +1,7 @@
-ghost use Rattle.std.specs.Prelude.{◌≡◌, ◌≤◌, ◌<◌, ◌+◌, ◌++◌, ◌^◌, ℕ, List, [], Option, Some, None, IfOk, OnErr, IsTrue, false, length, take};
+ghost use Rattle.std.specs.Prelude.{◌≡◌, ◌≢◌, ◌≤◌, ◌<◌, ◌+◌, ◌++◌, ℕ, List, [], Option, Some, None, IfOk, OnErr, IsTrue, false, length, take};
 ghost use Rattle.std.specs.Io.KnownBytes.{Consumes, IsAtEnd};
 ghost use Rattle.dap_outside.specs.Causes.{HasCause, Rose};
+ghost use Rattle.dap_types.specs.Limits.{body_limit};
 
 use crate::Coding;
 use crate::unframer::{Unframed, Unframer};
@@ -11,6 +12,9 @@ use xdr_decode::BadField;
 
 /// How many bytes are taken at once.
 const ROOM: usize = 65_536;
+
+/// A body has fewer bytes.
+const LIMIT: u64 = 1 << 40;
 
 /// What comes next of the body of a reply.
 #[derive(Clone, Copy, Debug)]
@@ -39,17 +43,18 @@ pub struct BodyParts {
 }
 
 impl BodyParts {
-    ghost use Rattle.dap_http.specs.After.{StandsAfter};
+    ghost use Rattle.dap_http.specs.After.{StandsAfter, lent_by};
     ghost use Rattle.dap_http.specs.Codings.{Goes};
     ghost use Rattle.dap_http.specs.Delivered.{IsWholeBody};
-    ghost use Rattle.dap_http.specs.Following.{Arrives, Follows, IsShort, body_coding, part_of, waiting};
-    ghost use Rattle.dap_http.specs.inner.Parting.{IsUsedUp, Turns, Unframes, taken_by};
+    ghost use Rattle.dap_http.specs.Following.{Arrives, Follows, IsInTime, IsShort, body_coding, part_of, waiting};
+    ghost use Rattle.dap_http.specs.inner.Parting.{IsUsedUp, TakesPiece, Turns, Unframes, taken_by};
 
     /// A reader of a body of that coding, whose first bytes were taken together with the head. Fails
     /// where memory is wanted.
     pub fn new(alloc: Global, coding: Coding, first: &[u8]) -> Result<BodyParts, Memory>
         requires { length first.now ≤ 65536 }
         ensures follows { IfOk result (λ p. Follows p first.now []) }
+        ensures in_time { IfOk result (λ _. IsInTime coding first.now []) }
         ensures coding { IfOk result (λ p. body_coding p ≡ coding) }
     {
         Ok(BodyParts {
@@ -61,17 +66,22 @@ impl BodyParts {
         })
     }
 
-    /// Reads up to the next bytes of the body, its end, a fault of its framing, or one of the source.
+    /// Reads up to the next bytes of the body, its end, a fault of its framing, or one of the source. It
+    /// takes a piece of at most 65,536 bytes only while the bytes before it decide nothing, and never
+    /// more than 2^40 bytes of the body.
     pub fn next<I: Source>(&mut self, source: &mut I) -> Arrived
         requires { IsShort self.old }
         ensures arrives { (taken : List ℕ) × Consumes (I.left source.old) (I.left source.new) taken
             × ((bytes body : List ℕ) → Follows self.old bytes body →
-            Arrives self.new (bytes ++ taken) body (I.ended source.new) result) }
+            Arrives self.new (bytes ++ taken) body (I.ended source.new) result)
+            × ((bytes body : List ℕ) → Follows self.old bytes body → IsInTime (body_coding self.old) bytes body →
+            IsInTime (body_coding self.old) (bytes ++ taken) body) }
         // Nothing is taken where the end of the body has come already.
         ensures ended { (bytes body rest : List ℕ) → Follows self.old bytes body → IsWholeBody (body_coding self.old) bytes false body rest →
             (result ≡ Arrived.End) × (source.new ≡ source.old) }
         ensures coding { body_coding self.new ≡ body_coding self.old }
         ensures fault { result ≡ Arrived.ReadFault → Rose (I.take_faults source.old) (I.take_faults source.new) }
+        ensures kept { result ≢ Arrived.ReadFault → I.take_faults source.new ≡ I.take_faults source.old }
         ensures later { I.take_faults source.old ≤ I.take_faults source.new }
         ensures stays { IsTrue (I.ended source.old) → IsTrue (I.ended source.new) }
         ensures whole { I.whole source.new ≡ I.whole source.old }
@@ -103,12 +113,13 @@ impl BodyParts {
         requires { IsShort self.old }
         ensures turns { (taken : List ℕ) × Consumes (I.left source.old) (I.left source.new) taken
             × ((bytes body : List ℕ) → Follows self.old bytes body →
-            Turns self.new (bytes ++ taken) body (I.ended source.new) result) }
+            Turns self.new (bytes ++ taken) body (I.ended source.new) result × TakesPiece (body_coding self.old) bytes body taken) }
         ensures ended { (bytes body rest : List ℕ) → Follows self.old bytes body → IsWholeBody (body_coding self.old) bytes false body rest →
             (result ≡ Some Arrived.End) × (source.new ≡ source.old) }
         ensures more { result ≡ None → taken_by self.old < taken_by self.new }
         ensures coding { body_coding self.new ≡ body_coding self.old }
         ensures fault { result ≡ Some Arrived.ReadFault → Rose (I.take_faults source.old) (I.take_faults source.new) }
+        ensures kept { result ≢ Some Arrived.ReadFault → I.take_faults source.new ≡ I.take_faults source.old }
         ensures later { I.take_faults source.old ≤ I.take_faults source.new }
         ensures stays { IsTrue (I.ended source.old) → IsTrue (I.ended source.new) }
         ensures whole { I.whole source.new ≡ I.whole source.old }
@@ -148,21 +159,24 @@ impl BodyParts {
         }
     }
 
-    /// Takes more bytes where none wait.
+    /// Takes more bytes where none wait, as many as the body may still have.
     fn go_on<I: Source>(&mut self, source: &mut I) -> Option<Arrived>
-        requires { self.old.to ≡ self.old.end }
+        requires none { self.old.to ≡ self.old.end }
+        requires short { lent_by self.old.unframer < body_limit }
         ensures turns { (taken : List ℕ) × Consumes (I.left source.old) (I.left source.new) taken
             × ((bytes body : List ℕ) → IsUsedUp self.old bytes body →
-            Turns self.new (bytes ++ taken) body (I.ended source.new) result) }
+            Turns self.new (bytes ++ taken) body (I.ended source.new) result × TakesPiece (body_coding self.old) bytes body taken) }
         ensures more { result ≡ None → taken_by self.old < taken_by self.new }
         ensures coding { body_coding self.new ≡ body_coding self.old }
         ensures fault { result ≡ Some Arrived.ReadFault → Rose (I.take_faults source.old) (I.take_faults source.new) }
+        ensures kept { result ≢ Some Arrived.ReadFault → I.take_faults source.new ≡ I.take_faults source.old }
         ensures later { I.take_faults source.old ≤ I.take_faults source.new }
         ensures stays { IsTrue (I.ended source.old) → IsTrue (I.ended source.new) }
         ensures whole { I.whole source.new ≡ I.whole source.old }
         ensures beside { I.beside_reading source.new ≡ I.beside_reading source.old }
     {
-        match fill(&mut self.room, source) {
+        let most = piece_length(self.unframer.lent());
+        match fill(&mut self.room, source, most) {
             Ok(0) => match self.unframer.finish() {
                 Ok(()) => Some(Arrived::End),
                 Err(bad) => Some(Arrived::Refused(bad)),
@@ -190,11 +204,27 @@ fn room_with(alloc: Global, size: usize, first: &[u8]) -> Result<Vec<u8>, Memory
     Ok(room)
 }
 
-/// Takes some bytes into the room, and answers how many; 0 says that nothing is left.
-fn fill<I: Source>(room: &mut Vec<u8>, source: &mut I) -> Result<usize, Failed>
-    requires { length room.old.items ≡ 65536 }
+/// How many bytes are taken at once, where so many came of a body.
+fn piece_length(lent: u64) -> usize
+    requires { lent < body_limit }
+    ensures some { 0 < result }
+    ensures most { result ≤ 65536 }
+    ensures left { lent + result ≤ body_limit }
+{
+    let left = LIMIT - lent;
+    if left < ROOM as u64 {
+        return left as usize;
+    }
+    ROOM
+}
+
+/// Takes some bytes into the room, at most so many, and answers how many; 0 says that nothing is left.
+fn fill<I: Source>(room: &mut Vec<u8>, source: &mut I, most: usize) -> Result<usize, Failed>
+    requires size { length room.old.items ≡ 65536 }
+    requires some { 0 < most }
+    requires within { most ≤ 65536 }
     ensures size { length room.new.items ≡ 65536 }
-    ensures most { IfOk result (λ n. n ≤ 65536) }
+    ensures most { IfOk result (λ n. n ≤ most) }
     ensures bytes { IfOk result (λ n. Consumes (I.left source.old) (I.left source.new) (take n room.new.items)) }
     ensures end { IfOk result (λ n. n ≡ 0 → IsTrue (I.ended source.new) × IsAtEnd (I.left source.new)) }
     ensures err { OnErr result (I.left source.new ≡ I.left source.old) }
@@ -203,5 +233,22 @@ fn fill<I: Source>(room: &mut Vec<u8>, source: &mut I) -> Result<usize, Failed>
     ensures whole { I.whole source.new ≡ I.whole source.old }
     ensures beside { I.beside_reading source.new ≡ I.beside_reading source.old }
 {
-    source.take(room.as_mut_slice())
+    fill_front(room.as_mut_slice(), source, most)
+}
+
+/// Takes some bytes into the front of a slice.
+fn fill_front<I: Source>(room: &mut [u8], source: &mut I, most: usize) -> Result<usize, Failed>
+    requires some { 0 < most }
+    requires within { most ≤ length room.old }
+    ensures size { length room.new ≡ length room.old }
+    ensures most { IfOk result (λ n. n ≤ most) }
+    ensures bytes { IfOk result (λ n. Consumes (I.left source.old) (I.left source.new) (take n room.new)) }
+    ensures end { IfOk result (λ n. n ≡ 0 → IsTrue (I.ended source.new) × IsAtEnd (I.left source.new)) }
+    ensures err { OnErr result (I.left source.new ≡ I.left source.old) }
+    ensures stays { IsTrue (I.ended source.old) → IsTrue (I.ended source.new) }
+    ensures cause { HasCause (I.take_faults source.old) (I.take_faults source.new) result }
+    ensures whole { I.whole source.new ≡ I.whole source.old }
+    ensures beside { I.beside_reading source.new ≡ I.beside_reading source.old }
+{
+    source.take(&mut room[..most])
 }

@@ -1,4 +1,4 @@
-ghost use Rattle.std.specs.Prelude.{◌≡◌, ◌++◌, [], ℕ, List, Option, Some, IsTrue, OnOk, OnErr};
+ghost use Rattle.std.specs.Prelude.{◌≡◌, ◌++◌, [], ℕ, List, Option, Some, IsTrue, true, OnOk, OnErr};
 ghost use Rattle.std.specs.Io.KnownBytes.{Appends};
 ghost use Rattle.dap_outside.specs.Causes.{HasCause};
 ghost use Rattle.dap_http.specs.Framings.{body_told, keeps_telling, start_of};
@@ -43,32 +43,43 @@ impl Framer {
 }
 
 impl<'a, O: Sink> Framing<'a, O, Gathered> {
-    ghost use Rattle.dap_http.specs.Frames.{IsFront, framed};
+    ghost use Rattle.dap_http.specs.Frames.{IsFront, IsProperFront, framed};
+    ghost use Rattle.dap_http.specs.Framings.{IsUnfinished};
 
     /// What the other sink has gained is a front of what each body becomes that begins with the bytes
-    /// that were put, also behind a `put` that failed. It does nothing.
+    /// that were put, also behind a `put` that failed. Where more of the body is to come, or a last chunk,
+    /// something of that is missing. It does nothing.
     pub fn law(&self)
-        ensures { (body : List ℕ) → ⟦<Framing<'a, O, Gathered> as Sink>⟧.written self.now ≡ Some body →
+        ensures part { (body : List ℕ) → ⟦<Framing<'a, O, Gathered> as Sink>⟧.written self.now ≡ Some body →
             (part : List ℕ) × Appends (start_of O.written self.now.began.items) (O.written self.now.out.now) part
             × ((more : List ℕ) → IsFront part (framed self.now.chunked (body ++ more))) }
+        ensures proper { (body more : List ℕ) → ⟦<Framing<'a, O, Gathered> as Sink>⟧.written self.now ≡ Some body → IsUnfinished self.now.chunked more →
+            (part : List ℕ) × Appends (start_of O.written self.now.began.items) (O.written self.now.out.now) part
+            × IsProperFront part (framed self.now.chunked (body ++ more)) }
     {}
 
     /// Lets the other sink go without an end. It has gained a front of what each body becomes that begins
-    /// with the bytes that were put.
+    /// with the bytes that were put. Where more of the body is to come, or a last chunk, something of that
+    /// is missing.
     pub fn stop(self)
         ensures same { self.exit.0.now ≡ self.entry.out.now }
         ensures part { (body : List ℕ) → ⟦<Framing<'a, O, Gathered> as Sink>⟧.written self.entry ≡ Some body →
             (part : List ℕ) × Appends (start_of O.written self.entry.began.items) (O.written self.exit.0.now) part
             × ((more : List ℕ) → IsFront part (framed self.entry.chunked (body ++ more))) }
+        ensures proper { (body more : List ℕ) → ⟦<Framing<'a, O, Gathered> as Sink>⟧.written self.entry ≡ Some body → IsUnfinished self.entry.chunked more →
+            (part : List ℕ) × Appends (start_of O.written self.entry.began.items) (O.written self.exit.0.now) part
+            × IsProperFront part (framed self.entry.chunked (body ++ more)) }
     {}
 
-    /// Ends the body. Behind an `Ok` the other sink has gained the framed body, and else a front of it.
+    /// Ends the body. Behind an `Ok` the other sink has gained the framed body, and else a front of it, of
+    /// which something is missing.
     pub fn end(self) -> Result<(), Failed>
         ensures ok { OnOk result ((body : List ℕ) → ⟦<Framing<'a, O, Gathered> as Sink>⟧.written self.entry ≡ Some body →
             Appends (start_of O.written self.entry.began.items) (O.written self.exit.0.now) (framed self.entry.chunked body)) }
         ensures err { OnErr result ((body : List ℕ) → ⟦<Framing<'a, O, Gathered> as Sink>⟧.written self.entry ≡ Some body →
             (part : List ℕ) × Appends (start_of O.written self.entry.began.items) (O.written self.exit.0.now) part
-            × IsFront part (framed self.entry.chunked body)) }
+            × IsProperFront part (framed self.entry.chunked body)) }
+        ensures chunks { OnErr result (self.entry.chunked ≡ true) }
         ensures cause { HasCause (O.put_faults self.entry.out.now) (O.put_faults self.exit.0.now) result }
         ensures beside { O.beside_writing self.exit.0.now ≡ O.beside_writing self.entry.out.now }
     {

@@ -29,7 +29,7 @@ pub struct Gathered {
 
 impl Gathered {
     ghost use Rattle.std.specs.Prelude.{[], IsOk, false, true};
-    ghost use Rattle.dap_http.specs.Frames.{IsFront, chunked};
+    ghost use Rattle.dap_http.specs.Frames.{IsProperFront, chunked};
     ghost use Rattle.dap_http.specs.inner.Putting.{body_in, gained_by};
 
     /// Chunks of no body bytes. Fails where memory is wanted.
@@ -70,7 +70,7 @@ impl Gathered {
         ensures ok { in_chunks ≡ true → OnOk result ((x : List ℕ) × Appends (O.written out.old) (O.written out.new) x
             × (gained_by self ++ x ≡ chunked (body_in self))) }
         ensures err { in_chunks ≡ true → OnErr result ((x : List ℕ) × Appends (O.written out.old) (O.written out.new) x
-            × IsFront (gained_by self ++ x) (chunked (body_in self))) }
+            × IsProperFront (gained_by self ++ x) (chunked (body_in self))) }
         ensures cause { HasCause (O.put_faults out.old) (O.put_faults out.new) result }
         ensures beside { O.beside_writing out.new ≡ O.beside_writing out.old }
     {
@@ -86,7 +86,7 @@ impl Gathered {
         ensures ok { OnOk result ((x : List ℕ) × Appends (O.written out.old) (O.written out.new) x
             × (gained_by self.old ++ x ≡ chunked (body_in self.old))) }
         ensures err { OnErr result ((x : List ℕ) × Appends (O.written out.old) (O.written out.new) x
-            × IsFront (gained_by self.old ++ x) (chunked (body_in self.old))) }
+            × IsProperFront (gained_by self.old ++ x) (chunked (body_in self.old))) }
         ensures cause { HasCause (O.put_faults out.old) (O.put_faults out.new) result }
         ensures beside { O.beside_writing out.new ≡ O.beside_writing out.old }
     {
@@ -103,7 +103,7 @@ impl Gathered {
         ensures ok { OnOk result ((x : List ℕ) × Appends (O.written out.old) (O.written out.new) x
             × (gained_by self.now ++ x ≡ chunked (body_in self.now))) }
         ensures err { OnErr result ((x : List ℕ) × Appends (O.written out.old) (O.written out.new) x
-            × IsFront (gained_by self.now ++ x) (chunked (body_in self.now))) }
+            × IsProperFront (gained_by self.now ++ x) (chunked (body_in self.now))) }
         ensures cause { HasCause (O.put_faults out.old) (O.put_faults out.new) result }
         ensures beside { O.beside_writing out.new ≡ O.beside_writing out.old }
     {

@@ -1,4 +1,4 @@
-ghost use Rattle.std.specs.Prelude.{◌≡◌, ◌≤◌, ◌<◌, ◌++◌, ℕ, List, [], Some, None, IfOk, IsTrue, length, vec_capacity};
+ghost use Rattle.std.specs.Prelude.{◌≡◌, ◌≢◌, ◌≤◌, ◌<◌, ◌++◌, ℕ, List, [], Some, None, IfOk, IsTrue, length, vec_capacity};
 ghost use Rattle.std.specs.Io.KnownBytes.{Consumes};
 ghost use Rattle.httparse.specs.Grammar.{RequestHead};
 ghost use Rattle.dap_outside.specs.Causes.{Rose};
@@ -70,7 +70,10 @@ impl HeadReader {
         // The first request of the input is found, unless a fault or want of memory comes in its place.
         ensures found { (left rest : List ℕ) (head : RequestHead) → I.left source.old ≡ Some left →
             FirstRequest (kept_by self.old ++ left) head rest → IsFound result }
+        // With a whole request in hand nothing is taken.
+        ensures at_hand { (rest : List ℕ) (head : RequestHead) → FirstRequest (kept_by self.old) head rest → source.new ≡ source.old }
         ensures fault { result ≡ HeadRead.ReadFault → Rose (I.take_faults source.old) (I.take_faults source.new) }
+        ensures kept { result ≢ HeadRead.ReadFault → I.take_faults source.new ≡ I.take_faults source.old }
         ensures later { I.take_faults source.old ≤ I.take_faults source.new }
         ensures stays { IsTrue (I.ended source.old) → IsTrue (I.ended source.new) }
         ensures whole { I.whole source.new ≡ I.whole source.old }
@@ -89,8 +92,10 @@ impl HeadReader {
             × Turns (kept_by self.old ++ taken) (kept_by self.new) (I.ended source.new) result }
         ensures found { (left rest : List ℕ) (head : RequestHead) → I.left source.old ≡ Some left →
             FirstRequest (kept_by self.old ++ left) head rest → Finds result }
+        ensures at_hand { (rest : List ℕ) (head : RequestHead) → FirstRequest (kept_by self.old) head rest → (source.new ≡ source.old) × (result ≢ None) }
         ensures more { result ≡ None → length (kept_by self.old) < length (kept_by self.new) }
         ensures fault { result ≡ Some HeadRead.ReadFault → Rose (I.take_faults source.old) (I.take_faults source.new) }
+        ensures kept { result ≢ Some HeadRead.ReadFault → I.take_faults source.new ≡ I.take_faults source.old }
         ensures later { I.take_faults source.old ≤ I.take_faults source.new }
         ensures stays { IsTrue (I.ended source.old) → IsTrue (I.ended source.new) }
         ensures whole { I.whole source.new ≡ I.whole source.old }
@@ -116,6 +121,7 @@ impl HeadReader {
             FirstRequest (kept_by self.old ++ left) head rest → Finds result }
         ensures more { result ≡ None → length (kept_by self.old) < length (kept_by self.new) }
         ensures fault { result ≡ Some HeadRead.ReadFault → Rose (I.take_faults source.old) (I.take_faults source.new) }
+        ensures kept { result ≢ Some HeadRead.ReadFault → I.take_faults source.new ≡ I.take_faults source.old }
         ensures later { I.take_faults source.old ≤ I.take_faults source.new }
         ensures stays { IsTrue (I.ended source.old) → IsTrue (I.ended source.new) }
         ensures whole { I.whole source.new ≡ I.whole source.old }

@@ -4,7 +4,7 @@ ghost use Rattle.std.specs.Io.KnownBytes.{Appends};
 ghost use Rattle.httparse.specs.Ascii.{crlf_bytes};
 ghost use Rattle.dap_outside.specs.Causes.{HasCause};
 ghost use Rattle.dap_outside.specs.Streams.{AppendsFront};
-ghost use Rattle.dap_http.specs.Frames.{chunk, chunked};
+ghost use Rattle.dap_http.specs.Frames.{chunk, chunked, last_chunk};
 
 use dap_outside::{Failed, Sink, put_all};
 
@@ -17,9 +17,19 @@ pub fn put_last<O: Sink>(out: &mut O, held: &[u8]) -> Result<(), Failed>
     ensures beside { O.beside_writing out.new ≡ O.beside_writing out.old }
 {
     if held.is_empty() {
-        return put_all(out, b"0\r\n\r\n");
+        return put_end(out);
     }
     put_chunk(out, held)?;
+    put_end(out)
+}
+
+/// Puts the last chunk.
+fn put_end<O: Sink>(out: &mut O) -> Result<(), Failed>
+    ensures ok { OnOk result (Appends (O.written out.old) (O.written out.new) last_chunk) }
+    ensures err { OnErr result (AppendsFront (O.written out.old) (O.written out.new) last_chunk) }
+    ensures cause { HasCause (O.put_faults out.old) (O.put_faults out.new) result }
+    ensures beside { O.beside_writing out.new ≡ O.beside_writing out.old }
+{
     put_all(out, b"0\r\n\r\n")
 }
 

@@ -1,15 +1,17 @@
 //! What the definitions promise of each other. These functions do nothing: their clauses are laws.
 ghost use Rattle.std.specs.Prelude.{◌≡◌, ◌<◌, ◌^◌, ◌++◌, ℕ, Bool, true, IsTrue, List, [], Option, Some, None, length};
-ghost use Rattle.std.proofs.Common.{inr};
+ghost use Rattle.std.proofs.Common.{inl, inr};
 ghost use Rattle.httparse.specs.Grammar.{AllPass, RequestHead, ResponseHead, is_value_byte};
 ghost use Rattle.dap_http.specs.Carried.{Carries, said};
 ghost use Rattle.dap_http.specs.Chunks.{IsWhole};
 ghost use Rattle.dap_http.specs.Delivered.{BreaksOff, Delivers, HasCoding};
 ghost use Rattle.dap_http.specs.Frames.{chunked, framed};
+ghost use Rattle.dap_http.specs.Reading.{GivesFinal};
 ghost use Rattle.dap_http.specs.Replies.{HasFinal, coding_in};
 ghost use Rattle.dap_http.specs.Requests.{FirstRequest, HasNoRequest, IsBadRequest, IsGone, IsTooLong, Requests};
 ghost use Rattle.dap_http.specs.Texts.{IsReplyStatus, head_text};
 ghost use Rattle.dap_http.specs.declared.coding.Coding.{Coding};
+ghost use Rattle.xdr_decode.specs.declared.bad.Bad.{Bad};
 ghost use Rattle.xdr_decode.specs.declared.bad.BadField.{BadField};
 
 /// An input has at most one first request.
@@ -85,4 +87,14 @@ pub fn delivery_stays()
         → Delivers (reply ++ more) true body (rest ++ more) }
     ensures broken { (reply more body : List ℕ) (ended : Bool) (bad : BadField) → (IsTrue ended → more ≡ []) → BreaksOff reply ended body bad
         → BreaksOff (reply ++ more) true body bad }
+{}
+
+/// Where the final head says wrongly how the body is coded (another coding, or a length that is none), the
+/// reply breaks off there before its body, with that kind and in no other way, whatever follows.
+pub fn head_decides()
+    ensures breaks { (reply behind more : List ℕ) (ended : Bool) (kind : Bad) → GivesFinal reply behind (inl kind)
+        → BreaksOff (reply ++ more) ended [] (record { kind = kind; place = 0 }) }
+    ensures only { (reply behind body : List ℕ) (ended : Bool) (kind : Bad) (bad : BadField) → GivesFinal reply behind (inl kind)
+        → BreaksOff reply ended body bad → (body ≡ []) × (bad ≡ record { kind = kind; place = 0 }) }
+    ensures nothing { (reply behind body rest : List ℕ) (ended : Bool) (kind : Bad) → GivesFinal reply behind (inl kind) → Delivers reply ended body rest → ⊥ }
 {}

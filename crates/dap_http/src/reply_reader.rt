@@ -1,7 +1,8 @@
-ghost use Rattle.std.specs.Prelude.{◌≡◌, ◌≤◌, ◌<◌, ◌+◌, ◌++◌, ℕ, List, [], Some, IfOk, IsTrue, length, drop, vec_capacity};
+ghost use Rattle.std.specs.Prelude.{◌≡◌, ◌≢◌, ◌≤◌, ◌<◌, ◌+◌, ◌++◌, ℕ, List, [], Some, IfOk, IsTrue, length, drop, vec_capacity};
 ghost use Rattle.std.specs.Io.KnownBytes.{Consumes};
 ghost use Rattle.httparse.specs.Grammar.{ResponseHead};
 ghost use Rattle.dap_outside.specs.Causes.{Rose};
+ghost use Rattle.dap_types.specs.Limits.{most_reply_heads};
 
 use crate::Coding;
 use crate::intake::{behind, keep, skip, take_line};
@@ -56,13 +57,17 @@ impl ReplyReader {
     }
 
     /// Reads the heads up to the final one. Their bytes are those that it kept and those that it
-    /// takes now.
+    /// takes now, 65,536 at most with what comes behind the heads. It takes no memory, and never
+    /// answers that memory is wanted.
     pub fn read<I: Source>(&mut self, source: &mut I) -> ReplyRead
         ensures reads { (taken : List ℕ) × Consumes (I.left source.old) (I.left source.new) taken
-            × Answers (rest_of self.old ++ taken) (rest_of self.new) (I.ended source.new) result }
+            × Answers (rest_of self.old ++ taken) (rest_of self.new) (I.ended source.new) result
+            × (length (rest_of self.old ++ taken) ≤ most_reply_heads) }
         ensures found { (left rest : List ℕ) (head : ResponseHead) → I.left source.old ≡ Some left →
             HasFinal (rest_of self.old ++ left) head rest → IsAnswered (rest_of self.old ++ left) head rest result }
+        ensures never { result ≢ ReplyRead.Memory }
         ensures fault { result ≡ ReplyRead.ReadFault → Rose (I.take_faults source.old) (I.take_faults source.new) }
+        ensures kept { result ≢ ReplyRead.ReadFault → I.take_faults source.new ≡ I.take_faults source.old }
         ensures later { I.take_faults source.old ≤ I.take_faults source.new }
         ensures stays { IsTrue (I.ended source.old) → IsTrue (I.ended source.new) }
         ensures whole { I.whole source.new ≡ I.whole source.old }
@@ -81,11 +86,14 @@ impl ReplyReader {
     fn turn<I: Source>(&mut self, source: &mut I, at: usize) -> Step
         requires { IsPast (rest_of self.old) at }
         ensures reads { (taken : List ℕ) × Consumes (I.left source.old) (I.left source.new) taken
-            × Steps (rest_of self.old ++ taken) (rest_of self.new) (I.ended source.new) at result }
+            × Steps (rest_of self.old ++ taken) (rest_of self.new) (I.ended source.new) at result
+            × (length (rest_of self.old ++ taken) ≤ most_reply_heads) }
         ensures found { (left rest : List ℕ) (head : ResponseHead) → I.left source.old ≡ Some left →
             HasFinal (rest_of self.old ++ left) head rest → Settles (rest_of self.old ++ left) head rest result }
         ensures more { (next : ℕ) → result ≡ On next → at + length (rest_of self.old) < next + length (rest_of self.new) }
+        ensures never { result ≢ Done ReplyRead.Memory }
         ensures fault { result ≡ Done ReplyRead.ReadFault → Rose (I.take_faults source.old) (I.take_faults source.new) }
+        ensures kept { result ≢ Done ReplyRead.ReadFault → I.take_faults source.new ≡ I.take_faults source.old }
         ensures later { I.take_faults source.old ≤ I.take_faults source.new }
         ensures stays { IsTrue (I.ended source.old) → IsTrue (I.ended source.new) }
         ensures whole { I.whole source.new ≡ I.whole source.old }
@@ -107,11 +115,14 @@ impl ReplyReader {
         requires past { IsPast (rest_of self.old) at }
         requires none { IsReplyJudged (drop at (rest_of self.old)) Partial }
         ensures reads { (taken : List ℕ) × Consumes (I.left source.old) (I.left source.new) taken
-            × Steps (rest_of self.old ++ taken) (rest_of self.new) (I.ended source.new) at result }
+            × Steps (rest_of self.old ++ taken) (rest_of self.new) (I.ended source.new) at result
+            × (length (rest_of self.old ++ taken) ≤ most_reply_heads) }
         ensures found { (left rest : List ℕ) (head : ResponseHead) → I.left source.old ≡ Some left →
             HasFinal (rest_of self.old ++ left) head rest → Settles (rest_of self.old ++ left) head rest result }
         ensures more { (next : ℕ) → result ≡ On next → at + length (rest_of self.old) < next + length (rest_of self.new) }
+        ensures never { result ≢ Done ReplyRead.Memory }
         ensures fault { result ≡ Done ReplyRead.ReadFault → Rose (I.take_faults source.old) (I.take_faults source.new) }
+        ensures kept { result ≢ Done ReplyRead.ReadFault → I.take_faults source.new ≡ I.take_faults source.old }
         ensures later { I.take_faults source.old ≤ I.take_faults source.new }
         ensures stays { IsTrue (I.ended source.old) → IsTrue (I.ended source.new) }
         ensures whole { I.whole source.new ≡ I.whole source.old }

@@ -33,7 +33,7 @@ pub struct Unframer {
 
 impl Unframer {
     ghost use Rattle.std.specs.Prelude.{◌≡◌, ℕ, ◌+◌, ◌<◌, ◌≤◌, ◌⊎◌, ◌^◌, false, IsTrue, List, [], ◌++◌, length, take, IsOk, OnOk, IfErr};
-    ghost use Rattle.dap_http.specs.After.{StandsAfter, WhereBad, WhereEnd, WhereMore, WherePart, coding_of, count_of, used_by, used_of};
+    ghost use Rattle.dap_http.specs.After.{StandsAfter, WhereBad, WhereEnd, WhereMore, WherePart, coding_of, count_of, lent_by, used_by, used_of};
     ghost use Rattle.dap_http.specs.inner.Steps.{Known, advance, is_open, run, stops};
     ghost use Rattle.dap_http.specs.inner.Tracking.{Counts, IsRight, Lands, Passes, Tracks};
     ghost use Rattle.dap_http.specs.declared.chunk_step.At.TheVariants.{Data};
@@ -100,6 +100,13 @@ impl Unframer {
         ensures { result ≡ used_by self.now }
     {
         self.used
+    }
+
+    /// How many bytes of the body it has lent.
+    pub fn lent(&self) -> u64
+        ensures { result ≡ lent_by self.now }
+    {
+        self.lent
     }
 
     fn advance<'p>(&mut self, piece: &'p [u8]) -> Unframed<'p>

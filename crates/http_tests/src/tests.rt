@@ -1,3 +1,4 @@
+mod counted;
 mod framing;
 mod heads;
 mod parts;

@@ -1,3 +1,4 @@
+use crate::tests::counted::Counted;
 use dap_http::Framer;
 use dap_outside::{MemSink, Sink, put_all};
 use dap_types::{List, Memory};
@@ -65,18 +66,51 @@ fn long_bodies_are_cut_at_65_536(rt: HostRuntime) -> Result<(), Fail> {
     Ok(())
 }
 
-/// A call of the other sink fails in the middle of a chunk, and the next goes on from there.
+/// What a body becomes over a sink of which a call fails: that sink, and how many calls of the framing
+/// failed. No call has the number 0.
+fn sent(alloc: Global, body: &[u8], failing: u64) -> Result<(Counted<MemSink>, u64), Memory> {
+    let mut out = Counted {
+        inner: sink(alloc, 40_000, &[failing])?,
+        calls: 0,
+    };
+    let mut framing = Framer::new(alloc, true)?.over(&mut out);
+    let mut at = 0usize;
+    let mut failed = 0u64;
+    for _ in 0..10 {
+        if let Some(rest) = body.get(at..) {
+            if !rest.is_empty() {
+                match framing.put(rest) {
+                    Ok(count) => at = at.saturating_add(count),
+                    Err(_) => failed = failed.saturating_add(1),
+                }
+            }
+        }
+    }
+    if framing.end().is_err() {
+        failed = failed.saturating_add(1);
+    }
+    Ok((out, failed))
+}
+
+/// Each call of the other sink fails in turn, of as many as a run without a fault makes. Behind a failed
+/// `put` the next goes on in the middle of the chunk; behind a failed end a front was put.
 #[test]
 fn a_chunk_goes_on_behind_a_fault(rt: HostRuntime) -> Result<(), Fail> {
-    let body = bytes(rt.alloc(), 65_536)?;
-    let mut out = sink(rt.alloc(), 40_000, &[2])?;
-    let framer = Framer::new(rt.alloc(), true)?;
-    let mut framing = framer.over(&mut out);
-    assert!(rt; put_all(&mut framing, body.as_slice()).is_ok());
-    assert!(rt; framing.put(b"b").is_err());
-    assert!(rt; put_all(&mut framing, b"b").is_ok());
-    assert!(rt; framing.end().is_ok());
-    assert_eq!(rt; out.bytes().len(), 65_556);
-    assert!(rt; out.bytes().ends_with(b"a\r\n1\r\nb\r\n0\r\n\r\n"));
+    let mut body = bytes(rt.alloc(), 65_536)?;
+    body.push(b'b')?;
+    let (whole, failed) = sent(rt.alloc(), body.as_slice(), 0)?;
+    assert_eq!(rt; failed, 0);
+    assert_eq!(rt; whole.inner.bytes().len(), 65_556);
+    assert!(rt; whole.inner.bytes().ends_with(b"a\r\n1\r\nb\r\n0\r\n\r\n"));
+    assert_eq!(rt; whole.calls, 7);
+    for failing in 1..whole.calls.saturating_add(1) {
+        let (out, failed) = sent(rt.alloc(), body.as_slice(), failing)?;
+        assert_eq!(rt; failed, 1);
+        assert!(rt; whole.inner.bytes().starts_with(out.inner.bytes()));
+        assert_eq!(rt;
+            out.inner.bytes().len() == whole.inner.bytes().len(),
+            failing < 3
+        );
+    }
     Ok(())
 }

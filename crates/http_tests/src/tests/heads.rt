@@ -1,3 +1,4 @@
+use crate::tests::counted::Counted;
 use dap_http::{HeadRead, HeadReader};
 use dap_outside::{MemSource, SureSource};
 use dap_types::{Bytes, List, Memory};
@@ -162,15 +163,32 @@ fn heads_tell_their_methods(rt: HostRuntime) -> Result<(), Fail> {
     Ok(())
 }
 
-/// A call fails, and the next read goes on with what was kept.
+/// A source of which a call fails. No call has the number 0.
+fn source(alloc: Global, input: &[u8], failing: u64) -> Result<Counted<MemSource>, Memory> {
+    let mut fails = List::new(alloc);
+    fails.push(failing)?;
+    Ok(Counted {
+        inner: MemSource::new(Bytes::new(alloc, input)?, 5, fails),
+        calls: 0,
+    })
+}
+
+/// Each call of the source fails in turn, of as many as a run without a fault makes, and the next read
+/// goes on with what was kept. Behind a whole head nothing is taken.
 #[test]
 fn a_head_goes_on_behind_a_fault(rt: HostRuntime) -> Result<(), Fail> {
-    let mut fails = List::new(rt.alloc());
-    fails.push(2)?;
-    let input = Bytes::new(rt.alloc(), b"GET /a HTTP/1.1\r\n\r\n")?;
-    let mut source = MemSource::new(input, 5, fails);
+    let input = b"GET /a HTTP/1.1\r\n\r\nGET /b HTTP/1.1\r\n\r\n".as_slice();
+    let mut whole = source(rt.alloc(), input, 0)?;
     let mut reader = HeadReader::new(rt.alloc())?;
-    assert!(rt; matches!(reader.read(&mut source), HeadRead::ReadFault));
-    assert!(rt; matches!(reader.read(&mut source), HeadRead::Head(_)));
+    assert!(rt; matches!(reader.read(&mut whole), HeadRead::Head(_)));
+    assert_eq!(rt; whole.calls, 4);
+    for failing in 1..whole.calls.saturating_add(1) {
+        let mut broken = source(rt.alloc(), input, failing)?;
+        let mut reader = HeadReader::new(rt.alloc())?;
+        assert!(rt; matches!(reader.read(&mut broken), HeadRead::ReadFault));
+        assert_eq!(rt; broken.calls, failing);
+        assert!(rt; matches!(reader.read(&mut broken), HeadRead::Head(_)));
+        assert_eq!(rt; broken.calls, 5);
+    }
     Ok(())
 }

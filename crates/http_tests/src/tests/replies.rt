@@ -1,6 +1,7 @@
+use crate::tests::counted::Counted;
 use dap_http::{Coding, ReplyRead, ReplyReader};
-use dap_outside::SureSource;
-use dap_types::{Bytes, Memory};
+use dap_outside::{MemSource, SureSource};
+use dap_types::{Bytes, List, Memory};
 use std::alloc::{AllocError, Global};
 use std::test::Fail;
 use xdr_decode::{Bad, BadField};
@@ -199,5 +200,32 @@ fn a_reader_goes_on_behind_a_reply(rt: HostRuntime) -> Result<(), Fail> {
     }
     reader.keep(b"HTTP/1.1 200\r\n\r\n");
     assert!(rt; matches!(reader.read(&mut source), ReplyRead::Final(Coding::ToEnd)));
+    Ok(())
+}
+
+/// A source of which a call fails. No call has the number 0.
+fn source(alloc: Global, input: &[u8], failing: u64) -> Result<Counted<MemSource>, Memory> {
+    let mut fails = List::new(alloc);
+    fails.push(failing)?;
+    Ok(Counted {
+        inner: MemSource::new(Bytes::new(alloc, input)?, 5, fails),
+        calls: 0,
+    })
+}
+
+/// Each call of the source fails in turn, of as many as a run without a fault makes.
+#[test]
+fn each_take_fails(rt: HostRuntime) -> Result<(), Fail> {
+    let input = b"HTTP/1.1 100\r\n\r\nHTTP/1.1 200\r\n\r\nabcdef".as_slice();
+    let mut whole = source(rt.alloc(), input, 0)?;
+    let mut reader = ReplyReader::new(rt.alloc())?;
+    assert!(rt; matches!(reader.read(&mut whole), ReplyRead::Final(Coding::ToEnd)));
+    assert_eq!(rt; whole.calls, 7);
+    for failing in 1..whole.calls.saturating_add(1) {
+        let mut broken = source(rt.alloc(), input, failing)?;
+        let mut reader = ReplyReader::new(rt.alloc())?;
+        assert!(rt; matches!(reader.read(&mut broken), ReplyRead::ReadFault));
+        assert_eq!(rt; broken.calls, failing);
+    }
     Ok(())
 }

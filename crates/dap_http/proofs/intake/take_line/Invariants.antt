@@ -13,7 +13,7 @@ invariant-loop-kept g l =
       room : l.most ≤ vec_capacity l.kept;
       plain : feeds l.kept.items ≡ feeds l.fn.kept.items;
       stays : IsTrue (source.ended l.fn.source) → IsTrue (source.ended l.source);
-      later : source.take_faults l.fn.source ≤ source.take_faults l.source;
+      count : source.take_faults l.source ≡ source.take_faults l.fn.source;
       whole : source.whole l.source ≡ source.whole l.fn.source;
       beside : source.beside_reading l.source ≡ source.beside_reading l.fn.source;
     }

@@ -8,7 +8,7 @@ invariant-loop-self g l = record {
   whole : length l.self.frame.items ≡ 65545;
   body : body_in l.self ≡ body_in l.initial.self;
   gains : (x : List ℕ) × (gained_by l.self ≡ gained_by l.initial.self ++ x) × Appends (g.O.Sink.written l.initial.out) (g.O.Sink.written l.out) x;
-  later : g.O.Sink.put_faults l.initial.out ≤ g.O.Sink.put_faults l.out;
+  count : g.O.Sink.put_faults l.out ≡ g.O.Sink.put_faults l.initial.out;
   beside : g.O.Sink.beside_writing l.out ≡ g.O.Sink.beside_writing l.initial.out;
 }
 

@@ -1,4 +1,4 @@
-use Rattle.std.proofs.Common.{[]}
+use Rattle.std.proofs.Common.{[], refl}
 use Rattle.std.proofs.KnownBytes.{Consumes-nil}
 use Rattle.dap_http.proofs.HeadReading.{bad-request, first-request, wanted-request}
 use Rattle.dap_http.proofs.head_reader.HeadReader.turn.Goals as goal
@@ -12,3 +12,8 @@ returns-in-Bad-clause-reads g c = ([], Consumes-nil _, bad-request c.args.self.n
 
 pub returns-in-Memory-clause-reads : goal.returns-in-Memory-clause-reads
 returns-in-Memory-clause-reads g c = ([], Consumes-nil _, wanted-request c.args.self.now.kept.items c.in-Memory.head (rw c.as_slice.ensures.value at c.in-Memory.ensures) c.args.self.now.few)
+
+pub returns-in-Partial-clause-at_hand : goal.returns-in-Partial-clause-at_hand
+returns-in-Partial-clause-at_hand g c = λ rest head first.
+    let none = rw c.as_slice.ensures.value at c.in-Partial.ensures in
+    absurd (none.0 head rest first.0)

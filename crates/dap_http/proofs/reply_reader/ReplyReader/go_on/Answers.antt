@@ -6,7 +6,12 @@ use Rattle.dap_http.proofs.reply_reader.ReplyReader.go_on.Goals as goal
 
 pub returns-then-len-ge-LONGEST-clause-reads : goal.returns-then-len-ge-LONGEST-clause-reads
 returns-then-len-ge-LONGEST-clause-reads g c =
-    ([], Consumes-nil _, rw c.refused.ensures (refl, inr (inl (refl, too-long c.args.self.now.kept.items c.args.at c.requires.past c.requires.none.0 (omega (arith, c.if-len-ge-LONGEST.true, c.len.ensures)), sym (append-nil c.args.self.now.kept.items)))))
+    let kept = c.args.self.now.kept.items in (
+      [],
+      Consumes-nil _,
+      rw c.refused.ensures (refl, inr (inl (refl, too-long kept c.args.at c.requires.past c.requires.none.0 (omega (arith, c.if-len-ge-LONGEST.true, c.len.ensures)), sym (append-nil kept)))),
+      omega (arith, c.args.self.now.few, ap length (append-nil kept)),
+    )
 
 pub returns-then-len-ge-LONGEST-clause-found : goal.returns-then-len-ge-LONGEST-clause-found
 returns-then-len-ge-LONGEST-clause-found g c = λ left rest head e f.
@@ -27,6 +32,7 @@ returns-in-Ok-eq0-clause-reads g c =
           items,
         ))),
       ),
+      omega (arith, ap length items, c.take_line.ensures.most),
     )
 
 pub returns-in-Ok-eq0-clause-found : goal.returns-in-Ok-eq0-clause-found
@@ -39,10 +45,10 @@ returns-in-Ok-eq0-clause-found g c = λ left rest head e f.
 pub returns-in-Ok-clause-reads : goal.returns-in-Ok-clause-reads
 returns-in-Ok-clause-reads g c =
     let (x, consumes, items) = c.take_line.ensures.takes in
-    (x, consumes, (items, past-more c.args.self.now.kept.items x c.args.at c.requires.past))
+    (x, consumes, (items, past-more c.args.self.now.kept.items x c.args.at c.requires.past), omega (arith, ap length items, c.take_line.ensures.most))
 
 pub returns-in-Err-clause-reads : goal.returns-in-Err-clause-reads
 returns-in-Err-clause-reads g c =
     let kept = c.args.self.now.kept.items in
     let (x, consumes, items) = c.take_line.ensures.takes in
-    (x, consumes, (none-yet kept x c.args.at c.requires.past c.requires.none.0 (ap feeds (sym items) ∙ c.in-Err.ensures.err), items))
+    (x, consumes, (none-yet kept x c.args.at c.requires.past c.requires.none.0 (ap feeds (sym items) ∙ c.in-Err.ensures.err), items), omega (arith, ap length items, c.take_line.ensures.most))

@@ -8,9 +8,9 @@ use Rattle.dap_http.proofs.reply_reader.ReplyReader.read.Goals as goal
 pub returns-in-Done-clause-reads : goal.returns-in-Done-clause-reads
 returns-in-Done-clause-reads g c =
     let (x, before, kept) = c.loop-read.invariant.taken in
-    let (y, after, gives) = c.in-Done.ensures.reads in
+    let (y, after, gives, few) = c.in-Done.ensures.reads in
     let all : rest_of c.loop-read.self ++ y ≡ rest_of c.args.self.now ++ (x ++ y) = ap (λ l. l ++ y) kept ∙ append_assoc (rest_of c.args.self.now) x y in
-    (x ++ y, Consumes-trans _ _ _ x y before after, rw (← all) gives)
+    (x ++ y, Consumes-trans _ _ _ x y before after, rw (← all) gives, rw (← all) few)
 
 pub returns-in-Done-clause-found : goal.returns-in-Done-clause-found
 returns-in-Done-clause-found g c = λ left rest head e first.

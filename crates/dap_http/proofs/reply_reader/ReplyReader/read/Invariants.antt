@@ -11,7 +11,7 @@ invariant-loop-read g l =
     record {
       taken : (x : List ℕ) × Consumes (source.left l.fn.source) (source.left l.source) x × (rest_of l.self ≡ rest_of l.fn.self ++ x);
       past : IsPast (rest_of l.self) l.at;
-      later : source.take_faults l.fn.source ≤ source.take_faults l.source;
+      count : source.take_faults l.source ≡ source.take_faults l.fn.source;
       stays : IsTrue (source.ended l.fn.source) → IsTrue (source.ended l.source);
       whole : source.whole l.source ≡ source.whole l.fn.source;
       beside : source.beside_reading l.source ≡ source.beside_reading l.fn.source;
