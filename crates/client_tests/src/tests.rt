@@ -1,4 +1,5 @@
 mod cases;
+mod counted;
 mod cut;
 mod faults;
 mod fetching;
@@ -6,6 +7,7 @@ mod following;
 mod framings;
 mod grid;
 mod heads;
+mod held;
 mod long;
 mod replies;
 mod showing;

@@ -1,54 +1,39 @@
 -- What begins with the word `Error` is no data response; and white space up to the limit begins no Error
 -- object.
-use Rattle.std.proofs.Common.{◌≡◌, ℕ, ◌+◌, ◌-◌, ◌<◌, ◌≤◌, Bool, true, false, ◌&&◌, ◌==◌, List, [], ◌∷◌, ◌++◌, length, take, drop, map, codes, refl, sym, ap, subst, ◌∙◌, append_assoc, append-nil, length-append, take-append-drop, length-take, take_all, IsTrue, nat_le, inl, inr, ◌⊎◌, ⊎_elim, arith}
+use Rattle.std.proofs.Common.{◌≡◌, ℕ, ◌+◌, ◌-◌, ◌<◌, ◌≤◌, Bool, true, false, ◌&&◌, ◌==◌, List, [], ◌∷◌, ◌++◌, length, take, drop, codes, refl, sym, ap, subst, ◌∙◌, append_assoc, append-nil, length-append, take-append-drop, length-take, take_all, nat_le, inl, inr, ◌⊎◌, ⊎_elim, arith}
 use Rattle.std.proofs.Math.Seq.{take-append-add}
 use Rattle.std.proofs.lemmas.Bool.{cases_lt, eqb-true, false≢true}
 use Rattle.std.proofs.lemmas.List.{take-append-le}
 use Rattle.std.proofs.lemmas.List.Elements.{All-head, All-tail}
 use Rattle.std.proofs.lemmas.List.Folds.{list_all-append}
 use Rattle.std.specs.Char.{to_ascii_lowercase}
-use Rattle.std.specs.Cmp.Lexicographic.{pointwise, same_text}
 use Rattle.std.specs.List.{AllPass, list_all}
-use Rattle.std.specs.Str.{bytes_eq, str_eq_ignore_ascii_case, str_to_ascii_lowercase}
+use Rattle.std.specs.Str.{str_to_ascii_lowercase}
 use Rattle.viable.proofs.Tests.{and_parts}
 use Rattle.dap_types.specs.Model.{Dataset}
-use Rattle.dap_model.specs.Grammar.{DdsOf, Judged, Slot, closes, fine, keyword, name, opens, semicolon, slots_all, spells}
+use Rattle.dap_model.specs.Grammar.{DdsOf, semicolon}
 use Rattle.dap_model.specs.Received.{HasHead}
-use Rattle.dap_model.specs.Tokens.{Placed, Token, sign, tokens_from, tokens_of, word}
+use Rattle.dap_model.specs.Tokens.{word}
 use Rattle.dap_model.specs.Tokens as dds
-use Rattle.dds_text.proofs.Readings.{tokens_grow}
 use Rattle.dds_text.specs.inner.Words.{left}
 use Rattle.text_tokens.proofs.Machines.{breaks_of, starts}
 use Rattle.text_tokens.specs.Tokens.{NoToken, is_white, is_word_byte}
 use Rattle.dap_errors.proofs.Live.{machine}
-use Rattle.dap_errors.specs.Object.{IsObject, is_error_word, signs}
+use Rattle.dap_errors.specs.Object.{IsObject, signs}
 use Rattle.dap_errors.specs.Reading.{IsBad, IsUnended, front, limit}
 use Rattle.dap_errors.specs.inner.Machine.{Ended, IsOpenState, Start, step}
 use Rattle.xdr_decode.specs.declared.bad.Bad.TheVariants.{BadError}
 use Rattle.dap_client.proofs.Objects.{white_same}
 use Rattle.dap_client.specs.Shows.{HasFewValues}
-use Rattle.dap_client.specs.Verdict.{begins_error, says_error}
+use Rattle.error_word.proofs.Bodies.{text_no_error}
+use Rattle.error_word.specs.Saying.{says_error}
 use Rattle.dap_client.specs.declared.object.Object.{Object}
 use Rattle.dap_client.specs.declared.object.Object.TheVariants.{Front, Behind, Bad}
-use Rattle.dap_client.specs.inner.FirstWords.{HasLetters, IsError}
+use Rattle.error_word.specs.inner.FirstWords.{HasLetters, IsError}
 use Rattle.dap_client.specs.inner.Objects.{IsObjectOf, IsShort}
 use Rattle.dap_client.specs.inner.Stages.{IsRefused}
 
 -- ---- no data response
-keyword_other : (w : List ℕ) → str_eq_ignore_ascii_case (codes "Dataset") w ≡ true → is_error_word w ≡ false
-unfolding is_error_word
-keyword_other w is = ap (bytes_eq (codes "error")) (sym (same_text (codes "dataset") (str_to_ascii_lowercase w) (sym is)))
-
-first_other : (ts more : List Token) (slots : List Slot) → IsTrue (pointwise spells (keyword (codes "Dataset") ∷ slots) ts) → begins_error (ts ++ more) ≡ false
-first_other [] more slots is = cc
-first_other (word w ∷ ts) more slots is = keyword_other w (and_parts (str_eq_ignore_ascii_case (codes "Dataset") w) (pointwise spells slots ts) is).0
-first_other (sign b ∷ ts) more slots is = cc
-
--- a text of a dataset is no Error object, whatever follows
-pub text_no_error : (text more : List ℕ) (d : Dataset) → DdsOf text d → says_error (text ++ more) ≡ false
-unfolding says_error
-text_no_error text more d is = ap begins_error (tokens_grow text more) ∙ first_other (tokens_of text) (map (λ (p : Placed). p.token) (tokens_from (left text) (length text) more)) (map (λ (j : Judged). j.slot) (opens ∷ (slots_all 1 1 [] d.members ++ closes ∷ fine (name d.name) ∷ semicolon ∷ []))) is.stands.1
-
 error_no_text : (bytes text rest : List ℕ) (d : Dataset) → IsError bytes → DdsOf text d → bytes ≡ text ++ rest → ⊥
 error_no_text bytes text rest d error is parts =
     false≢true (sym (text_no_error text rest d is) ∙ ap says_error (sym parts ∙ sym (append-nil bytes)) ∙ error [])

@@ -1,5 +1,5 @@
 -- What comes of a body with the bytes behind its head.
-use Rattle.std.proofs.Common.{◌≡◌, ℕ, ◌+◌, ◌-◌, ◌<◌, ◌≤◌, ◌⊎◌, inl, inr, Bool, true, false, if◌then◌else◌, List, [], ◌∷◌, ◌++◌, length, refl, ap, ◌∙◌, sym, subst, arith, append_assoc, append-nil, length-append}
+use Rattle.std.proofs.Common.{◌≡◌, ℕ, zero, suc, ◌+◌, ◌-◌, ◌<◌, ◌≤◌, ◌⊎◌, inl, inr, Bool, true, false, if◌then◌else◌, List, [], ◌∷◌, ◌++◌, length, refl, ap, ◌∙◌, sym, subst, arith, append_assoc, append-nil, length-append}
 use Rattle.std.proofs.lemmas.Bool.{cases_lt}
 use Rattle.std.proofs.lemmas.List.Edits.{length-between}
 use Rattle.xdr_decode.specs.Verdict.{budget}
@@ -8,7 +8,7 @@ use Rattle.dap_http.proofs.Framings.{no-end-cut, no-end-fault, one-end}
 use Rattle.dap_http.proofs.Parts.{Opened}
 use Rattle.dap_http.proofs.Runs.{run-append}
 use Rattle.dap_http.proofs.Seams.{split}
-use Rattle.dap_http.proofs.Whole.{ends-known, fails-known, goes-known}
+use Rattle.dap_http.proofs.Whole.{ends-known, fails-known, goes-known, known-goes}
 use Rattle.dap_http.specs.Codings.{Ends, Fails, Goes}
 use Rattle.dap_http.specs.Delivered.{HasCome, IsBrokenBody, IsWholeBody}
 use Rattle.dap_http.specs.Following.{body_coding, part_of, waiting}
@@ -16,9 +16,7 @@ use Rattle.dap_http.specs.inner.Steps.{Known, advance, is_data, run, start}
 use Rattle.dap_http.specs.declared.body_parts.BodyParts.{BodyParts}
 use Rattle.dap_http.specs.declared.coding.Coding.{Coding}
 use Rattle.dap_http.specs.declared.coding.Coding.TheVariants.{Chunked, Length, ToEnd}
-use Rattle.dap_client.specs.After.{HasNoLine, StandsAfter}
-use Rattle.dap_client.specs.Shows.{HasFewValues}
-use Rattle.dap_client.specs.Verdict.{Form, dods_form}
+use Rattle.dap_client.specs.After.{StandsAfter}
 use Rattle.dap_client.specs.declared.body.Body.{Body}
 
 -- ---- as many bytes of the body come as bytes, at most
@@ -88,7 +86,7 @@ come-parts : (c : Coding) (front body : List ℕ) (h : HasCome c front body) →
 come-parts c front body h (inl (goes, none)) = inl goes
 come-parts c front body h (inr ends) = inr ends
 
-further-come : (c : Coding) (front w body other : List ℕ) → HasCome c front body → HasCome c (front ++ w) other → (y : List ℕ) × (other ≡ body ++ y)
+pub further-come : (c : Coding) (front w body other : List ℕ) → HasCome c front body → HasCome c (front ++ w) other → (y : List ℕ) × (other ≡ body ++ y)
 further-come c front w body other h come =
     let laid : front ++ w ≡ h.front ++ (h.rest ++ w) = ap (λ t. t ++ w) h.parts ∙ append_assoc h.front h.rest w in
     let (y, is, few) = come-further c h.front (h.rest ++ w) body other (come-parts c front body h h.comes) (subst (λ (t : List ℕ). HasCome c t other) laid come) in
@@ -112,15 +110,13 @@ brought-broken c front w body other wrong ended h (inl (kind, fails)) = broke-fu
 brought-broken c front w body other wrong ended h (inr (goes, framed, end, cut)) =
     further-come c front w body other h (record { front = front ++ w; rest = []; parts = sym (append-nil (front ++ w)); comes = inl (goes, refl) })
 
--- ---- few values, where no `Data:` line had come
+-- ---- before any byte of the body was read
 
-pub few-values : (form : Form) (b z : List ℕ) → form ≡ dods_form → HasNoLine form b → length z ≤ 65536 → HasFewValues 65536 (b ++ z)
-few-values form b z is none few d head values (is_head, parts) = go (cases_lt (length b) (length head)) where
-  go : (length b < length head) ⊎ (length head ≤ length b) → length values ≤ 65536
-  go (inl less) = omega (arith, less, few, ap length parts, length-append b z, length-append head values)
-  go (inr le) =
-      let (x, front, tail) = split head values b z (sym parts) le in
-      absurd (none is (head, x, d, front, is_head))
+pub begins : (c : Coding) → Goes c [] [] ⊎ Ends c [] []
+begins Chunked = inl (known-goes [] refl)
+begins (Length zero) = inr (refl, refl)
+begins (Length (suc n)) = inl (refl, omega arith)
+begins ToEnd = inl refl
 
 -- ---- the reader of the parts
 

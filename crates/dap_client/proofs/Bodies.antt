@@ -1,23 +1,14 @@
 -- The good bodies are those of the model.
-use Rattle.std.proofs.Common.{◌≡◌, ℕ, ◌+◌, ◌^◌, ◌<◌, false, List, ◌++◌, length, codes, ap, ◌∙◌, append_assoc, inl, inr, arith}
+use Rattle.std.proofs.Common.{◌≡◌, ℕ, ◌^◌, ◌<◌, false, List, length, ap, ◌∙◌, inl, inr, arith}
 use Rattle.std.proofs.lemmas.Bool.{false≢true}
 use Rattle.dap_types.specs.Model.{Dataset, Tree}
-use Rattle.dap_model.specs.Body.{IsBody, IsHead}
+use Rattle.dap_model.specs.Body.{IsBody}
 use Rattle.xdr_decode.proofs.OneVerdict.{good_body}
 use Rattle.xdr_decode.specs.Verdict.{budget}
 use Rattle.xdr_decode.specs.declared.bad.Bad.TheVariants.{TooLong}
-use Rattle.dap_client.proofs.Begun.{text_no_error}
 use Rattle.dap_client.proofs.Filling.{budget_is}
-use Rattle.dap_client.specs.Verdict.{IsVerdict, bad, dods_form, good, is_final, says_error}
-
--- a body begins with the text of a dataset
-body_no_error : (bytes : List ℕ) (d : Dataset) (ts : List Tree) → IsBody bytes d ts → says_error bytes ≡ false
-body_no_error bytes d ts b =
-    let h : IsHead b.head d = b.is_head in
-    let laid : bytes ≡ h.text ++ (h.white ++ (codes "Data:" ++ (h.end ++ b.values))) =
-    b.parts ∙ ap (λ l. l ++ b.values) h.parts ∙ append_assoc (h.text ++ h.white ++ codes "Data:") h.end b.values
-    ∙ append_assoc (h.text ++ h.white) (codes "Data:") (h.end ++ b.values) ∙ append_assoc h.text h.white (codes "Data:" ++ (h.end ++ b.values)) in
-    ap says_error laid ∙ text_no_error h.text (h.white ++ (codes "Data:" ++ (h.end ++ b.values))) d h.is_text
+use Rattle.error_word.proofs.Bodies.{body_no_error}
+use Rattle.dap_client.specs.Verdict.{IsVerdict, bad, dods_form, good, is_final}
 
 short_body : (n : ℕ) → n < 2 ^ 40 → n < budget
 short_body n short = omega (arith, short, budget_is)

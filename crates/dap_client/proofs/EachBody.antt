@@ -21,7 +21,8 @@ use Rattle.dap_client.proofs.EveryObject.{Answer, every_object}
 use Rattle.dap_client.proofs.Values.{more_front}
 use Rattle.dap_client.specs.Answered.{good_part}
 use Rattle.dap_client.specs.GoodParts.{IsGoodPart}
-use Rattle.dap_client.specs.Verdict.{JudgesDods, Verdict, bad, good, says_error, server_error}
+use Rattle.error_word.specs.Saying.{says_error}
+use Rattle.dap_client.specs.Verdict.{JudgesDods, Verdict, bad, good, server_error}
 use Rattle.dap_client.specs.inner.DataLines.{HasCome}
 
 abbrev AreBytes : List ℕ → Type 0

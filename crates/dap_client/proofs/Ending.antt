@@ -4,7 +4,7 @@ use Rattle.std.proofs.Math.Seq.{take-append-add, take-length}
 use Rattle.std.specs.Io.KnownBytes.{Appends}
 use Rattle.dap_outside.specs.Streams.{AppendsFront}
 use Rattle.std.proofs.lemmas.Bool.{cases_lt, false≢true}
-use Rattle.std.proofs.lemmas.List.{take-append-drop, take_all}
+use Rattle.std.proofs.lemmas.List.{take-append-drop, take-append-le, take_all}
 use Rattle.std.proofs.lemmas.List.Sums.{sum_by-cons}
 use Rattle.std.specs.Fmt.{decimal}
 use Rattle.std.specs.List.{count_by, flat_map}
@@ -27,8 +27,9 @@ use Rattle.xdr_decode.specs.declared.bad.Bad.{Bad}
 use Rattle.xdr_decode.specs.declared.bad.Bad.TheVariants.{BadError, Cut}
 use Rattle.xdr_decode.specs.declared.bad.BadField.{BadField}
 use Rattle.xdr_decode.specs.declared.decoder.Decoder.{Decoder}
-use Rattle.dap_client.proofs.Filling.{error_here, no_error_here, nothing_of_error, values_lines}
-use Rattle.dap_client.specs.inner.FirstWords.{IsError, IsNoError}
+use Rattle.error_word.proofs.InMemory.{error_here, no_error_here}
+use Rattle.dap_client.proofs.Filling.{nothing_of_error, values_lines}
+use Rattle.error_word.specs.inner.FirstWords.{IsError, IsNoError}
 use Rattle.dap_client.specs.inner.Readers.{IsEnded, IsFinished, WhereWriteFault, completed}
 use Rattle.dap_client.specs.declared.reader.Ended.{Ended}
 use Rattle.dap_client.specs.Verdict.{IsVerdict, Judges, bad, dods_form, good, is_fault}
@@ -178,17 +179,20 @@ never_fault P (ended.Bad field) never = tt
 never_fault P ended.WriteFault never = absurd never
 never_fault P ended.Memory never = tt
 
--- a text that was put whole, where nothing followed it
-pub err_whole : {T E : Type 0} (r : Result T E) (a b c : Option (List ℕ)) (xs : List ℕ) → Appends a b xs → OnErr r (c ≡ b) → OnErr r (AppendsFront a c xs)
-err_whole (Ok x) a b c xs sent same = tt
-err_whole (Err e) a b c xs sent same = (length xs, omega arith, subst (Appends a c) (sym (take-length xs)) (subst (λ w. Appends a w xs) (sym same) sent))
+-- a text that was put whole, where nothing of what follows it was
+pub err_before : {T E : Type 0} (r : Result T E) (a b c : Option (List ℕ)) (xs ys : List ℕ) → 0 < length ys → Appends a b xs → OnErr r (c ≡ b) → OnErr r (AppendsFront a c (xs ++ ys))
+err_before (Ok x) a b c xs ys some sent same = tt
+err_before (Err e) a b c xs ys some sent same =
+    let front : take (length xs) (xs ++ ys) ≡ xs = take-append-le (length xs) xs ys (omega arith) ∙ take-length xs in
+    (length xs, omega (arith, some, length-append xs ys), subst (Appends a c) (sym front) (subst (λ w. Appends a w xs) (sym same) sent))
 
 -- ---- as an outcome
 pub whole_finished : (bytes put : List ℕ) (n : ℕ) → length bytes ≡ n → IsEnded bytes put ended.Whole → IsFinished bytes put (completed n) (outcome.Complete n)
 whole_finished bytes put n long (d, ts, v, is) = subst (λ m. IsFinished bytes put (completed m) (outcome.Complete m)) long (refl, (d, ts, v, is))
 
-pub broken_off : (bytes put : List ℕ) (n k : ℕ) → length bytes ≡ n → IsEnded bytes put ended.Whole → BreaksOff bytes (put ++ take k (codes "complete " ++ decimal n))
-broken_off bytes put n k long (d, ts, v, is) =
+pub broken_off : (bytes put : List ℕ) (n k : ℕ) → k < length (completed n) → length bytes ≡ n → IsEnded bytes put ended.Whole → BreaksOff bytes (put ++ take k (completed n))
+broken_off bytes put n k less long (d, ts, v, is) =
     let line : List ℕ = codes "complete " ++ decimal n in
+    let within : take k (completed n) ≡ take k line = take-append-le k line (codes "\n") (omega (arith, less, length-append line (codes "\n"))) in
     let all : shown d ts (length bytes) ≡ (put ++ line) ++ codes "\n" = is ∙ ap (λ m. put ++ completed m) long ∙ sym (append_assoc put line (codes "\n")) in
-    inr (d, ts, put ++ line, v, all, (drop k line, ap (λ l. put ++ l) (sym (take-append-drop k line)) ∙ sym (append_assoc put (take k line) (drop k line))))
+    inr (d, ts, put ++ line, v, all, (drop k line, ap (λ l. put ++ l) (sym (take-append-drop k line) ∙ ap (λ l. l ++ drop k line) (sym within)) ∙ sym (append_assoc put (take k (completed n)) (drop k line))))

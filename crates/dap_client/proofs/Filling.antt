@@ -6,7 +6,6 @@ use Rattle.dap_types.specs.Model.{Dataset}
 use Rattle.dap_model.proofs.OneVerdict.{bad_not_open, ended_not_bad}
 use Rattle.dap_model.specs.Partly.{ShowsLines}
 use Rattle.dap_model.specs.Xdr.{Spells}
-use Rattle.dap_model.specs.Tokens.{tokens_of}
 use Rattle.dap_errors.specs.Reading.{ErrorOf, IsEnd}
 use Rattle.dap_errors.specs.declared.object.ErrorObject.{ErrorObject}
 use Rattle.dds_text.specs.Reading.{IsBadText, IsUnfinished}
@@ -19,19 +18,13 @@ use Rattle.dap_client.proofs.DataLines.{unended}
 use Rattle.dap_client.proofs.Lines.{cut_no_head, line_cut}
 use Rattle.dap_client.proofs.Texts.{bad_no_head, open_no_head}
 use Rattle.dap_client.proofs.Values.{all_good, may_show}
-use Rattle.dap_client.specs.Verdict.{Judges, Verdict, bad, begins_error, dods_form, good, is_final, says_error, server_error}
-use Rattle.dap_client.specs.inner.FirstWords.{IsError, IsNoError, IsOpenWord}
+use Rattle.dap_client.specs.Verdict.{Judges, Verdict, bad, dods_form, good, is_final, server_error}
+use Rattle.error_word.proofs.InMemory.{error_here, no_error, no_error_here}
+use Rattle.error_word.specs.inner.FirstWords.{IsError, IsNoError, IsOpenWord}
 use Rattle.dap_client.specs.inner.Objects.{IsBehind, IsTrail}
 use Rattle.dap_client.specs.inner.Stages.{IsFull, IsInLine, IsInValues}
 use Rattle.dap_client.specs.declared.data_line.DataLine.{DataLine}
-use Rattle.dap_client.specs.declared.first_word.FirstWord.{FirstWord}
-
-pub no_error : (bytes : List ℕ) → tokens_of bytes ≡ [] → says_error bytes ≡ false
-unfolding says_error
-no_error bytes none = ap begins_error none
-
-pub no_error_here : (bytes : List ℕ) → IsNoError bytes → says_error bytes ≡ false
-no_error_here bytes none = ap says_error (sym (append-nil bytes)) ∙ none []
+use Rattle.error_word.specs.declared.first_word.FirstWord.{FirstWord}
 
 -- ---- the verdict on bytes of each stage
 pub first_bad : (word : FirstWord) (bytes : List ℕ) (place p start : ℕ) → IsOpenWord word bytes → start ≡ 0 → place ≡ start + p → IsBadText (bytes ++ []) p → Judges dods_form bytes (bad BadDds place) × ShowsLines (take place bytes) []
@@ -120,9 +113,6 @@ trail_end true bytes parts = inr parts
 
 pub behind_error : (bytes : List ℕ) (object : ErrorObject) (semicolon : Bool) → IsBehind bytes object semicolon → ErrorOf bytes object
 behind_error bytes object semicolon o = record { behind = o.behind; ends = o.ends; end = trail_end semicolon (drop o.behind bytes) o.trail }
-
-pub error_here : (bytes : List ℕ) → IsError bytes → says_error bytes ≡ true
-error_here bytes error = ap says_error (sym (append-nil bytes)) ∙ error []
 
 pub nothing_of_error : (bytes : List ℕ) (place : ℕ) → IsError bytes → ShowsLines (take place bytes) []
 nothing_of_error bytes place error = inr (λ h. error_no_head bytes (take place bytes) (drop place bytes) error (sym (take-append-drop place bytes)) h, refl)

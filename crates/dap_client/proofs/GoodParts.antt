@@ -18,12 +18,13 @@ use Rattle.xdr_decode.proofs.OneVerdict.{bad_head, bad_line_head, cut_head}
 use Rattle.xdr_decode.proofs.Turning.{faulty_wide}
 use Rattle.xdr_decode.specs.Verdict.{HasHeadOf, HasMore, IsWrong, kind_of}
 use Rattle.xdr_decode.specs.declared.bad.Bad.{Bad}
-use Rattle.dap_client.proofs.Begun.{text_no_error}
+use Rattle.error_word.proofs.Bodies.{text_no_error}
 use Rattle.dap_client.proofs.Lines.{empty_front}
 use Rattle.dap_client.specs.Answered.{good_part}
 use Rattle.dap_client.specs.GoodParts.{IsGoodPart}
 use Rattle.dap_client.specs.Shows.{StopsWithin}
-use Rattle.dap_client.specs.Verdict.{Judges, JudgesDods, Verdict, bad, dods_form, good, good_das, good_dds, says_error, server_error}
+use Rattle.error_word.specs.Saying.{says_error}
+use Rattle.dap_client.specs.Verdict.{Judges, JudgesDods, Verdict, bad, dods_form, good, good_das, good_dds, server_error}
 
 -- ---- values, field by field
 record Reached (d : Dataset) (values own : List ℕ) : Type 0 where
@@ -143,7 +144,7 @@ of_values d bytes head values part own front rest text (h, parts) r part_is is (
     })
 
 -- ---- without one
-head_more : (bytes front rest : List ℕ) → bytes ≡ front ++ rest → HasHead front → HasHead bytes
+pub head_more : (bytes front rest : List ℕ) → bytes ≡ front ++ rest → HasHead front → HasHead bytes
 head_more bytes front rest is (head, values, d, parts, h) = (head, values ++ rest, d, is ∙ ap (λ l. l ++ rest) parts ∙ append_assoc head values rest, h)
 
 of_none : (bytes part left front rest text : List ℕ) → ¬ (HasHead bytes) → bytes ≡ part ++ left → bytes ≡ front ++ rest → ShowsPart front text → ShowsPart part text

@@ -1,15 +1,16 @@
 -- The replies that were read so far, one more, and the last.
 use Rattle.std.proofs.Common.{◌≡◌, ℕ, suc, ◌+◌, ◌-◌, ◌≤◌, Bool, true, false, IsTrue, if◌then◌else◌, List, [], ◌∷◌, ◌++◌, length, Option, Some, None, refl, ap, ◌∙◌, sym, subst, arith, append_assoc, length-append}
+use Rattle.std.proofs.lemmas.Bool.{true≢false}
 use Rattle.std.proofs.lemmas.List.Elements.{All-append, All-cons, All-nil}
 use Rattle.std.proofs.KnownBytes.{Appends-trans, Consumes-trans}
 use Rattle.std.specs.Io.KnownBytes.{Appends, Consumes, IsAtEnd}
 use Rattle.dap_client.proofs.Saying.{says, stands}
-use Rattle.dap_client.proofs.Sequels.{Leads, NextTold, SoFar, few-more, good-behind, good-of, leads-more, put-more, read-more, says-good, taken-more, verdicts-of, waits-more}
+use Rattle.dap_client.proofs.Sequels.{Leads, NextTold, SoFar, good-behind, good-of, leads-more, put-more, read-more, says-good, taken-more, time-more, verdicts-of, waits-more}
 use Rattle.dap_client.specs.Answered.{Tells}
 use Rattle.dap_client.specs.Fetched.{AreGood, IsFirst, IsReadFrom, Reply, SaysVerdict, all_put, all_taken, count_of, is_complete, is_fault}
 use Rattle.dap_client.specs.Following.{IsStoppedBy}
 use Rattle.dap_client.specs.Outcomes.{outcome_of}
-use Rattle.dap_client.specs.Replies.{BringsFew}
+use Rattle.dap_client.specs.Replies.{StopsInTime}
 use Rattle.dap_client.specs.Verdict.{Form, Verdict}
 use Rattle.dap_client.specs.declared.fetching.Fetched.{Fetched}
 use Rattle.dap_client.specs.declared.replies.Stop.{Stop}
@@ -76,7 +77,7 @@ one-more form n came back next before now later waiting rest ended outcome s t w
       taken = subst (λ (l : List ℕ). Consumes came next l) (sym (taken-more s.replies r)) (Consumes-trans came back next (all_taken s.replies) t.taken s.taken t.consumes);
       put = subst (λ (l : List ℕ). Appends before later l) (sym (put-more s.replies r)) (Appends-trans before now later (all_put s.replies) t.text s.put t.appends);
       read = read-more form [] s.replies r s.read (subst (λ (w : List ℕ). Tells form (w ++ t.taken) ended rest t.text outcome) (sym s.waits_are) t.tells);
-      few = few-more [] s.replies r s.few (subst (λ (w : List ℕ). BringsFew (w ++ t.taken)) (sym s.waits_are) t.few);
+      in_time = time-more form [] s.replies r s.in_time (subst (λ (w : List ℕ). StopsInTime form (w ++ t.taken)) (sym s.waits_are) t.in_time);
       complete = All-append IsWhole s.replies (r ∷ []) s.complete (All-cons IsWhole r [] whole (All-nil IsWhole));
       count = omega (arith, length-append s.replies (r ∷ []), s.count);
       waits_are = waits-more [] s.replies r;
@@ -123,7 +124,7 @@ last-one form n count came back next before now later waiting rest ended outcome
       taken = subst (λ (l : List ℕ). Consumes came next l) (sym (taken-more s.replies r)) (Consumes-trans came back next (all_taken s.replies) t.taken s.taken t.consumes);
       put = subst (λ (l : List ℕ). Appends before later l) (sym (put-more s.replies r)) (Appends-trans before now later (all_put s.replies) t.text s.put t.appends);
       read = read-more form [] s.replies r s.read (subst (λ (w : List ℕ). Tells form (w ++ t.taken) ended rest t.text outcome) (sym s.waits_are) t.tells);
-      few = few-more [] s.replies r s.few (subst (λ (w : List ℕ). BringsFew (w ++ t.taken)) (sym s.waits_are) t.few);
+      in_time = time-more form [] s.replies r s.in_time (subst (λ (w : List ℕ). StopsInTime form (w ++ t.taken)) (sym s.waits_are) t.in_time);
       counted = record {
         before = s.replies;
         final = r;
@@ -174,3 +175,10 @@ counts-none o n is = let none : count_of o ≡ 0 = ap (λ b. if b then 1 else 0)
 -- a reply tells no fault of the dial
 pub no-link : (form : Form) (bytes rest text : List ℕ) (ended : Bool) (outcome : Outcome) → Tells form bytes ended rest text outcome → outcome ≡ LinkFault → ⊥
 no-link form bytes rest text ended outcome told is = subst (λ (o : Outcome). Tells form bytes ended rest text o) is told
+
+-- what is complete tells no fault
+pub no-read-fault : (outcome : Outcome) → is_complete outcome ≡ true → ¬ (outcome ≡ ReadFault)
+no-read-fault outcome is e = absurd (true≢false (sym is ∙ ap is_complete e))
+
+pub no-write-fault : (outcome : Outcome) → is_complete outcome ≡ true → ¬ (outcome ≡ WriteFault)
+no-write-fault outcome is e = absurd (true≢false (sym is ∙ ap is_complete e))

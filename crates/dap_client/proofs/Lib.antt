@@ -9,9 +9,13 @@ pub mod Ending
 pub mod EveryObject
 pub mod Few
 pub mod Filling
-pub mod FirstWords
+pub mod GoesOn
 pub mod GoodParts
+pub mod HeldBodies
+pub mod HeldPieces
+pub mod HeldReplies
 pub mod Hosts
+pub mod InTime
 pub mod Lasts
 pub mod Lifted
 pub mod Lines

@@ -1,31 +1,24 @@
 -- From the bytes behind the heads of a reply to the reply.
 use Rattle.std.proofs.Common.{◌≡◌, ℕ, ◌≤◌, inl, inr, Bool, List, [], length, refl, ap, sym, subst, arith, append-nil, length-append}
-use Rattle.httparse.specs.Grammar.{ResponseHead}
 use Rattle.xdr_decode.specs.declared.bad.BadField.{BadField}
 use Rattle.dap_http.proofs.Finals.{no-reply-final, one-gives}
-use Rattle.dap_http.proofs.ReplyReading.{first-of, reads-long}
 use Rattle.dap_http.specs.Reading.{Answers}
 use Rattle.dap_http.specs.declared.reply_reader.ReplyRead.TheVariants as read
-use Rattle.dap_http.specs.Delivered.{HasBadHead, HasCoding, HasCome}
-use Rattle.dap_http.specs.Replies.{HasFinal}
+use Rattle.dap_http.specs.Delivered.{HasBadHead, HasCoding}
 use Rattle.dap_http.specs.declared.coding.Coding.{Coding}
 use Rattle.dap_client.specs.After.{IsBrokenOff}
-use Rattle.dap_client.specs.Answered.{ShowsStopped, Tells}
-use Rattle.dap_client.specs.Replies.{Brings}
-use Rattle.dap_client.specs.Shows.{HasFewValues}
-use Rattle.dap_client.specs.Verdict.{Form, dods_form}
-use Rattle.dap_client.proofs.Telling.{few-first}
-use Rattle.dap_client.specs.inner.Behind.{IsToldBehind}
+use Rattle.dap_client.specs.Answered.{ShowsStopped, ShowsUnput, Tells}
+use Rattle.dap_client.specs.Verdict.{Form, das_form, dds_form, dods_form}
+use Rattle.dap_client.proofs.InTime.{line-lifted, line-short}
+use Rattle.dap_client.specs.inner.Behind.{IsToldBehind, ShowsUnputBehind}
 use Rattle.dap_client.specs.declared.outcome.Outcome.{Outcome}
 use Rattle.dap_client.specs.declared.outcome.Outcome.TheVariants.{Complete, ServerError, BadReply, ReadFault, WriteFault, LinkFault, Memory}
 
-few-all : (form : Form) (c : Coding) (reply behind : List ℕ) → HasCoding reply c behind → (form ≡ dods_form → (body : List ℕ) → HasCome c behind body → HasFewValues 65536 body)
-    → form ≡ dods_form → (body : List ℕ) → Brings reply body → HasFewValues 65536 body
-few-all form c reply behind has few is body (inl (d, after, found, come)) =
-    let (behinds, codings) = one-gives reply after behind (inr d) (inr c) found has in
-    let same : d ≡ c = cc in
-    few is body (subst (λ (e : Coding). HasCome e behind body) same (subst (λ (t : List ℕ). HasCome d t body) behinds come))
-few-all form c reply behind has few is body (inr (none, empty)) = absurd (none c behind has)
+unput-lifted : (form : Form) (c : Coding) (reply behind rest text : List ℕ) (ended : Bool) → HasCoding reply c behind → ShowsUnputBehind form c behind ended rest text → ShowsUnput form reply ended rest text
+unput-lifted dods_form c reply behind rest text ended has (front, more, body, parts, come, shows) =
+    (body, (c, front, more, subst (λ (t : List ℕ). HasCoding reply c t) parts has, come), shows)
+unput-lifted dds_form c reply behind rest text ended has (body, whole, shows) = (body, record { coding = c; behind = behind; has_coding = has; is_whole = whole }, shows)
+unput-lifted das_form c reply behind rest text ended has (body, whole, shows) = (body, record { coding = c; behind = behind; has_coding = has; is_whole = whole }, shows)
 
 pub lifted : (form : Form) (c : Coding) (reply behind rest text : List ℕ) (ended : Bool) (outcome : Outcome) → HasCoding reply c behind
     → IsToldBehind form c behind ended rest text outcome → Tells form reply ended rest text outcome
@@ -45,10 +38,9 @@ lifted form c reply behind rest text ended (BadReply field) has (inr (inl b)) =
 lifted form c reply behind rest text ended (BadReply field) has (inr (inr b)) =
     inr (inr (record { body = b.body; wrong = b.wrong; front = b.front; breaks = inr (c, behind, has, b.breaks); verdict = b.verdict; is_first = b.is_first; shows = b.shows }))
 lifted form c reply behind rest text ended ReadFault has (body, come, shows) = (body, inl (c, behind, has, come), shows)
-lifted form c reply behind rest text ended WriteFault has (front, more, body, parts, come, shows) =
-    (body, (c, front, more, subst (λ (t : List ℕ). HasCoding reply c t) parts has, come), shows)
+lifted form c reply behind rest text ended WriteFault has shows = unput-lifted form c reply behind rest text ended has shows
 lifted form c reply behind rest text ended LinkFault has none = absurd none
-lifted form c reply behind rest text ended Memory has (nothing, few) = (nothing, few-all form c reply behind has few)
+lifted form c reply behind rest text ended Memory has (nothing, few) = (nothing, line-lifted form c reply behind has few)
 
 pub told-as : (form other : Form) (c d : Coding) (bytes all rest left text : List ℕ) (ended : Bool) (outcome : Outcome) → form ≡ other → c ≡ d → bytes ≡ all → rest ≡ left
     → IsToldBehind form c bytes ended rest text outcome → IsToldBehind other d all ended left text outcome
@@ -73,33 +65,19 @@ bad-head reply kept ended wrong (place, inr (inl (kind, long, same))) = (place, 
 bad-head reply kept ended wrong (place, inr (inr (inl (kind, end, cut, same)))) = (place, inr (inr (inl (kind, end, cut))))
 bad-head reply kept ended wrong (place, inr (inr (inr gives))) = (place, inr (inr (inr (kept, gives))))
 
-few-none : (body : List ℕ) → length body ≡ 0 → HasFewValues 65536 body
-few-none body none d head values (is_head, parts) = omega (arith, none, ap length parts, length-append head values)
-
-pub head-told : (form : Form) (reply rest : List ℕ) (ended : Bool) (wrong : BadField) (outcome : Outcome) → HasBadHead reply ended wrong → IsBrokenOff form [] [] wrong outcome → Tells form reply ended rest [] outcome
-head-told form reply rest ended wrong (Complete n) bad_head none = absurd none
-head-told form reply rest ended wrong (ServerError code message) bad_head none = absurd none
-head-told form reply rest ended wrong ReadFault bad_head none = absurd none
-head-told form reply rest ended wrong WriteFault bad_head none = absurd none
-head-told form reply rest ended wrong LinkFault bad_head none = absurd none
-head-told form reply rest ended wrong (BadReply field) bad_head (front, is, first, shows) =
+pub head-told : (form : Form) (reply rest : List ℕ) (ended : Bool) (wrong : BadField) (outcome : Outcome) → HasBadHead reply ended wrong → length reply ≤ 65536 → IsBrokenOff form [] [] wrong outcome → Tells form reply ended rest [] outcome
+head-told form reply rest ended wrong (Complete n) bad_head room none = absurd none
+head-told form reply rest ended wrong (ServerError code message) bad_head room none = absurd none
+head-told form reply rest ended wrong ReadFault bad_head room none = absurd none
+head-told form reply rest ended wrong WriteFault bad_head room none = absurd none
+head-told form reply rest ended wrong LinkFault bad_head room none = absurd none
+head-told form reply rest ended wrong (BadReply field) bad_head room (front, is, first, shows) =
     inr (inr (record { body = []; wrong = wrong; front = front; breaks = inl (bad_head, refl); verdict = is; is_first = first; shows = shows }))
-head-told form reply rest ended wrong Memory bad_head (nothing, none) = (nothing, λ is body. go body) where
-  go : (body : List ℕ) → Brings reply body → HasFewValues 65536 body
-  go body (inl (d, behind, has, come)) = absurd (good-head reply behind ended wrong d has bad_head)
-  go body (inr (nowhere, empty)) = few-none body empty
+head-told form reply rest ended wrong Memory bad_head room (nothing, none) = (nothing, λ is. line-short reply room)
 
 pub fault-told : (form : Form) (reply kept rest : List ℕ) (ended : Bool) (outcome : Outcome) → outcome ≡ ReadFault → Answers reply kept ended read.ReadFault → ShowsStopped form [] [] → Tells form reply ended rest [] outcome
 fault-told form reply kept rest ended outcome e (none, same) shows =
     subst (λ (o : Outcome). Tells form reply ended rest [] o) (sym e) ([], inr (λ coding behind has. let (head, final, within, is) = has in none head behind final, refl), shows)
 
-pub final-long : (bytes rest : List ℕ) (head : ResponseHead) → HasFinal bytes head rest → length rest ≤ length bytes
-final-long bytes rest head final =
-    let (h, b, reads, less) = first-of bytes rest head final in omega (arith, less, reads-long bytes b h reads)
-
-pub memory-told : (form : Form) (reply kept rest : List ℕ) (ended : Bool) → kept ≡ reply → length kept ≤ 65536 → Tells form reply ended rest [] Memory
-memory-told form reply kept rest ended same few = (refl, go) where
-  go : form ≡ dods_form → (body : List ℕ) → Brings reply body → HasFewValues 65536 body
-  go is body (inl (d, behind, (head, final, within, coding), come)) =
-      few-first form d behind body (omega (arith, few, ap length same, final-long reply behind head final)) (subst (λ (t : List ℕ). HasCome d t body) (sym (append-nil behind)) come) is
-  go is body (inr (nowhere, empty)) = few-none body empty
+pub memory-told : (form : Form) (reply rest : List ℕ) (ended : Bool) → length reply ≤ 65536 → Tells form reply ended rest [] Memory
+memory-told form reply rest ended room = (refl, λ is. line-short reply room)

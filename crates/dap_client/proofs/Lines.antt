@@ -17,7 +17,7 @@ use Rattle.xdr_decode.specs.Verdict.{EndsInDataLine, EndsInHead, IsBadDataLine, 
 use Rattle.xdr_decode.specs.declared.bad.Bad.TheVariants.{BadDataLine}
 use Rattle.dap_client.specs.Shows.{HasFewValues, StopsWithin}
 use Rattle.dap_client.specs.inner.DataLines.{IsLineFront}
-use Rattle.dap_client.specs.inner.FirstWords.{IsNoError}
+use Rattle.error_word.specs.inner.FirstWords.{IsNoError}
 use Rattle.dap_client.specs.inner.Stages.{IsInLine, IsRefused}
 use Rattle.dap_client.specs.declared.data_line.DataLine.{DataLine}
 

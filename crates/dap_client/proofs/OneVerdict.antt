@@ -18,7 +18,8 @@ use Rattle.xdr_decode.specs.Verdict.{HasText, IsWrongIn, budget}
 use Rattle.xdr_decode.specs.Verdict as body
 use Rattle.xdr_decode.specs.declared.bad.Bad.{Bad}
 use Rattle.xdr_decode.specs.declared.bad.Bad.TheVariants.{BadHead, HeadTooLong, Coded, BadChunk, BadDds, BadDataLine, BadDas, BadError, BadCount, BadWord, BadPadding, WrongMark, Cut, Trailing, TooLong}
-use Rattle.dap_client.specs.Verdict.{Form, HasStray, IsVerdict, Judges, JudgesDas, JudgesDasText, JudgesDds, JudgesDods, JudgesError, JudgesForm, Verdict, bad, das_form, dds_form, dods_form, good, good_das, good_dds, is_fault, is_final, says_error, server_error}
+use Rattle.error_word.specs.Saying.{says_error}
+use Rattle.dap_client.specs.Verdict.{Form, HasStray, IsVerdict, Judges, JudgesDas, JudgesDasText, JudgesDds, JudgesDods, JudgesError, JudgesForm, Verdict, bad, das_form, dds_form, dods_form, good, good_das, good_dds, is_fault, is_final, server_error}
 
 same_bad : (k l : Bad) (p q : ℕ) → k ≡ l → p ≡ q → bad k p ≡ bad l q
 same_bad k l p q kinds places = ap (λ x. bad x p) kinds ∙ ap (bad l) places
@@ -164,7 +165,10 @@ one_das_text bytes (bad k p) (good_das e) a b = absurd (das_and bytes e k p b a)
 one_das_text bytes (bad k p) (bad l q) a b = das_bads bytes k l p q a b
 
 one_attributes : (ts : List Token) (bytes : List ℕ) (v w : Verdict) → JudgesDas ts bytes v → JudgesDas ts bytes w → v ≡ w
-one_attributes [] bytes v w a b = a ∙ sym b
+one_attributes [] bytes v w (inl (short, a)) (inl (also, b)) = a ∙ sym b
+one_attributes [] bytes v w (inl (short, a)) (inr (long, b)) = absurd (omega (arith, short, long))
+one_attributes [] bytes v w (inr (long, a)) (inl (short, b)) = absurd (omega (arith, short, long))
+one_attributes [] bytes v w (inr (long, a)) (inr (also, b)) = one_das_text bytes v w a b
 one_attributes (t ∷ ts) bytes v w a b = one_das_text bytes v w a b
 
 -- ---- a data response, as the reader of whole bodies judges it

@@ -19,7 +19,7 @@ use Rattle.dap_client.proofs.TextBodies.{goes_first}
 use Rattle.dap_client.specs.Answered.{BringsBad, IsLasting, Tells}
 use Rattle.dap_client.specs.Outcomes.{Answers, outcome_of}
 use Rattle.dap_client.specs.Replies.{IsReplyVerdict, first_of}
-use Rattle.dap_client.specs.Verdict.{Form, IsVerdict, Judges, JudgesDas, JudgesDds, JudgesDods, JudgesError, Verdict, bad, das_form, dds_form, dods_form, is_final, server_error}
+use Rattle.dap_client.specs.Verdict.{Form, IsVerdict, Judges, JudgesDas, JudgesDasText, JudgesDds, JudgesDods, JudgesError, Verdict, bad, das_form, dds_form, dods_form, is_final, server_error}
 use Rattle.dap_client.specs.declared.outcome.Outcome.{Outcome}
 use Rattle.dap_client.specs.declared.outcome.Outcome.TheVariants.{Complete, ServerError, BadReply, ReadFault, WriteFault, LinkFault, Memory}
 
@@ -40,7 +40,7 @@ values_end bytes place (d, head, values, at, (is_head, parts), inl (fault, wrong
 values_end bytes place (d, head, values, at, (is_head, parts), inr (inl (more, is)), place_is) = cc
 values_end bytes place (d, head, values, at, (is_head, parts), inr (inr (on, end, is)), place_is) = omega (arith, place_is, end, ap length parts, length-append head values)
 
-dods_end : (bytes : List ℕ) (place : ℕ) → JudgesDods bytes (bad Cut place) → place ≡ length bytes
+pub dods_end : (bytes : List ℕ) (place : ℕ) → JudgesDods bytes (bad Cut place) → place ≡ length bytes
 dods_end bytes place (inl (b, is)) = cc
 dods_end bytes place (inr (inl (b, is))) = cc
 dods_end bytes place (inr (inr (inl (cut, end, is)))) = end
@@ -51,14 +51,18 @@ dds_end bytes place (inl (b, is)) = cc
 dds_end bytes place (inr (inl (s, is))) = cc
 dds_end bytes place (inr (inr (cut, end, is))) = end
 
+das_text_end : (bytes : List ℕ) (place : ℕ) → JudgesDasText bytes (bad Cut place) → place ≡ length bytes
+das_text_end bytes place (inl (b, is)) = cc
+das_text_end bytes place (inr (inl (s, is))) = cc
+das_text_end bytes place (inr (inr (cut, end, is))) = end
+
 das_end : (ts : List Token) (bytes : List ℕ) (place : ℕ) → JudgesDas ts bytes (bad Cut place) → place ≡ length bytes
-das_end [] bytes place is = same_end place (length bytes) is
+das_end [] bytes place (inl (short, is)) = same_end place (length bytes) is
   where
     same_end : (p q : ℕ) → bad Cut p ≡ bad Cut q → p ≡ q
     same_end p q is = cc
-das_end (t ∷ ts) bytes place (inl (b, is)) = cc
-das_end (t ∷ ts) bytes place (inr (inl (s, is))) = cc
-das_end (t ∷ ts) bytes place (inr (inr (cut, end, is))) = end
+das_end [] bytes place (inr (long, is)) = das_text_end bytes place is
+das_end (t ∷ ts) bytes place is = das_text_end bytes place is
 
 judged_end : (form : Form) (bytes : List ℕ) (place : ℕ) → Judges form bytes (bad Cut place) → place ≡ length bytes
 judged_end form bytes place (inl (says, error)) = error_end bytes place error
@@ -75,7 +79,7 @@ verdict_end form bytes place (inr (long, front, judged, inr (other, same))) = ab
     other_kind p q is = cc
 
 -- what stays is more than that
-lasting_end : (form : Form) (bytes : List ℕ) (field : BadField) → IsLasting form bytes field → ¬ (field.kind ≡ Cut)
+pub lasting_end : (form : Form) (bytes : List ℕ) (field : BadField) → IsLasting form bytes field → ¬ (field.kind ≡ Cut)
 lasting_end form bytes field lasting is =
     let at : (more : List ℕ) → field.place ≡ length (bytes ++ more) = λ more. verdict_end form (bytes ++ more) field.place (subst (λ k. IsVerdict form (bytes ++ more) (bad k field.place)) is (lasting more)) in
     omega (arith, at [], at (0 ∷ []), length-append bytes [], length-append bytes (0 ∷ []))

@@ -3,7 +3,7 @@ use Rattle.std.proofs.Common.{◌≡◌, ℕ, ◌+◌, ◌<◌, Bool, true, fals
 use Rattle.dap_model.specs.Tokens.{Placed, Token, ended, is_plain, is_sign, is_white, sign, sign_at, tokens_from, tokens_of}
 use Rattle.dds_text.specs.inner.Words.{left}
 use Rattle.dds_text.proofs.Bytes.{left-plain, left-stop, tokens-plain}
-use Rattle.dap_client.proofs.FirstWords.{seam, sign_byte, some_more, stopped, white_byte, white_no_sign}
+use Rattle.error_word.proofs.FirstWords.{seam, sign_byte, some_more, stopped, white_byte, white_no_sign}
 
 abbrev bare : List Placed → List Token
 bare ps = map (λ (p : Placed). p.token) ps

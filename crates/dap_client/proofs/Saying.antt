@@ -24,7 +24,7 @@ use Rattle.dap_client.specs.Answered.{BringsBad, Tells}
 use Rattle.dap_client.specs.Fetched.{IsFirst, SaysVerdict}
 use Rattle.dap_client.specs.Outcomes.{outcome_of}
 use Rattle.dap_client.specs.Replies.{IsReplyVerdict, first_of}
-use Rattle.dap_client.specs.Verdict.{Form, Judges, JudgesDas, JudgesDds, JudgesError, Verdict, IsVerdict, bad, das_form, dds_form, dods_form, is_fault, is_final, server_error}
+use Rattle.dap_client.specs.Verdict.{Form, Judges, JudgesDas, JudgesDasText, JudgesDds, JudgesError, Verdict, IsVerdict, bad, das_form, dds_form, dods_form, is_fault, is_final, server_error}
 use Rattle.dap_client.specs.declared.outcome.Outcome.{Outcome}
 use Rattle.dap_client.specs.declared.outcome.Outcome.TheVariants.{Complete, ServerError, BadReply, ReadFault, WriteFault, LinkFault, Memory}
 
@@ -117,11 +117,15 @@ cut-dds bytes p (inl (is, kind)) = cc kind
 cut-dds bytes p (inr (inl (is, kind))) = cc kind
 cut-dds bytes p (inr (inr (is, place, kind))) = place
 
+cut-das-text : (bytes : List ℕ) (p : ℕ) → JudgesDasText bytes (bad Cut p) → p ≡ length bytes
+cut-das-text bytes p (inl (is, kind)) = cc kind
+cut-das-text bytes p (inr (inl (is, kind))) = cc kind
+cut-das-text bytes p (inr (inr (is, place, kind))) = place
+
 cut-das : (ts : List Token) (bytes : List ℕ) (p : ℕ) → JudgesDas ts bytes (bad Cut p) → p ≡ length bytes
-cut-das [] bytes p is = cc is
-cut-das (t ∷ ts) bytes p (inl (is, kind)) = cc kind
-cut-das (t ∷ ts) bytes p (inr (inl (is, kind))) = cc kind
-cut-das (t ∷ ts) bytes p (inr (inr (is, place, kind))) = place
+cut-das [] bytes p (inl (short, is)) = cc is
+cut-das [] bytes p (inr (long, is)) = cut-das-text bytes p is
+cut-das (t ∷ ts) bytes p is = cut-das-text bytes p is
 
 cut-judged : (form : Form) (bytes : List ℕ) (p : ℕ) → Judges form bytes (bad Cut p) → p ≡ length bytes
 cut-judged form bytes p (inl (says, is)) = cut-error bytes p is

@@ -7,9 +7,9 @@ use Rattle.std.specs.Io.KnownBytes.{Appends, Consumes, IsAtEnd}
 use Rattle.dap_http.proofs.Deliveries.{one-delivery}
 use Rattle.dap_client.proofs.OneReply.{one_reply}
 use Rattle.dap_client.specs.Answered.{Tells}
-use Rattle.dap_client.specs.Fetched.{AreFew, AreGood, AreRead, AreVerdicts, IsFirst, Reply, SaysVerdict, all_put, all_taken, is_complete, is_fault}
+use Rattle.dap_client.specs.Fetched.{AreInTime, AreGood, AreRead, AreVerdicts, IsFirst, Reply, SaysVerdict, all_put, all_taken, is_complete, is_fault}
 use Rattle.dap_client.specs.Outcomes.{outcome_of}
-use Rattle.dap_client.specs.Replies.{BringsFew, IsReplyVerdict}
+use Rattle.dap_client.specs.Replies.{IsReplyVerdict, StopsInTime}
 use Rattle.dap_client.specs.Verdict.{Form, Verdict}
 use Rattle.dap_client.specs.declared.outcome.Outcome.{Outcome}
 
@@ -27,9 +27,9 @@ pub read-more : (form : Form) (waiting : List ℕ) (replies : List Reply) (r : R
 read-more form waiting [] r all told = (told, tt)
 read-more form waiting (q ∷ replies) r (first, others) told = (first, read-more form q.rest replies r others told)
 
-pub few-more : (waiting : List ℕ) (replies : List Reply) (r : Reply) → AreFew waiting replies → BringsFew (waits waiting replies ++ r.taken) → AreFew waiting (replies ++ r ∷ [])
-few-more waiting [] r all few = (few, tt)
-few-more waiting (q ∷ replies) r (first, others) few = (first, few-more q.rest replies r others few)
+pub time-more : (form : Form) (waiting : List ℕ) (replies : List Reply) (r : Reply) → AreInTime form waiting replies → StopsInTime form (waits waiting replies ++ r.taken) → AreInTime form waiting (replies ++ r ∷ [])
+time-more form waiting [] r all next = (next, tt)
+time-more form waiting (q ∷ replies) r (first, others) next = (first, time-more form q.rest replies r others next)
 
 pub taken-more : (replies : List Reply) (r : Reply) → all_taken (replies ++ r ∷ []) ≡ all_taken replies ++ r.taken
 taken-more replies r = sym (flat_map_more (λ (q : Reply). q.taken) [] replies r)
@@ -96,7 +96,7 @@ pub record SoFar (form : Form) (n : ℕ) (came back before now : Option (List �
   pub taken : Consumes came back (all_taken replies)
   pub put : Appends before now (all_put replies)
   pub read : AreRead form [] replies
-  pub few : AreFew [] replies
+  pub in_time : AreInTime form [] replies
   pub complete : All (λ (r : Reply). IsTrue (is_complete r.outcome)) replies
   pub count : length replies ≡ n
   pub waits_are : waits [] replies ≡ waiting
@@ -109,7 +109,7 @@ pub record NextTold (form : Form) (back next now later : Option (List ℕ)) (wai
   pub consumes : Consumes back next taken
   pub appends : Appends now later text
   pub tells : Tells form (waiting ++ taken) ended waits text outcome
-  pub few : BringsFew (waiting ++ taken)
+  pub in_time : StopsInTime form (waiting ++ taken)
   pub at_end : IsTrue ended → IsAtEnd next
 
 pub none-yet : (form : Form) (source sink : Option (List ℕ)) (waiting : List ℕ) → waiting ≡ [] → SoFar form 0 source source sink sink waiting
@@ -118,7 +118,7 @@ none-yet form source sink waiting none = record {
   taken = Consumes-nil source;
   put = Appends-nil sink;
   read = tt;
-  few = tt;
+  in_time = tt;
   complete = All-nil (λ (r : Reply). IsTrue (is_complete r.outcome));
   count = refl;
   waits_are = sym none;

@@ -5,6 +5,7 @@ use Rattle.std.proofs.Math.Seq.{take-append-add}
 use Rattle.std.proofs.lemmas.Bool.{cases_lt}
 use Rattle.std.specs.Prelude.{MatchOption, ⊤}
 use Rattle.das_text.specs.Das.{das}
+use Rattle.das_text.specs.Reading.{limit}
 use Rattle.das_text.specs.View.{attributes_view}
 use Rattle.das_text.specs.declared.entries.Attributes.{Attributes}
 use Rattle.dap_errors.specs.Reading as errors
@@ -24,8 +25,9 @@ use Rattle.dap_client.specs.Answered.{IsLasting, ShowsBroken, ShowsRefused, good
 use Rattle.dap_client.specs.Outcomes.{outcome_of}
 use Rattle.dap_client.specs.Shows.{Gains}
 use Rattle.dap_client.specs.Replies.{first_of}
-use Rattle.dap_client.specs.Verdict.{Form, IsVerdict, Judges, JudgesDas, JudgesDasText, JudgesDds, Verdict, bad, das_form, dds_form, dods_form, good_das, good_dds, is_fault, is_final, says_error}
-use Rattle.dap_client.specs.inner.FirstWords.{IsError, IsNoError}
+use Rattle.error_word.specs.Saying.{says_error}
+use Rattle.dap_client.specs.Verdict.{Form, IsVerdict, Judges, JudgesDas, JudgesDasText, JudgesDds, Verdict, bad, das_form, dds_form, dods_form, good_das, good_dds, is_fault, is_final}
+use Rattle.error_word.specs.inner.FirstWords.{IsError, IsNoError}
 use Rattle.dap_client.specs.inner.TextBodies.{IsFirstWrong, IsPut, IsText, IsTextEnded, IsWrong}
 use Rattle.dap_client.specs.declared.outcome.Outcome.{Outcome}
 use Rattle.dap_client.specs.declared.outcome.Outcome.TheVariants.{Complete, ServerError, BadReply, ReadFault, WriteFault, LinkFault, Memory}
@@ -59,18 +61,26 @@ das_fault bytes kind place stays = first (stays [])
     first (inr (inl (s, is))) = ap is_fault is
     first (inr (inr (cut, end, is))) = later end (stays (0 ∷ []))
 
--- ---- a DAS is judged once its first token is whole
+-- ---- a DAS is judged once its first token is whole, or as many bytes came as its limit
 
-pub das_judged : (ts : List Token) (bytes : List ℕ) (v : Verdict) → ¬ (ts ≡ []) → JudgesDasText bytes v → JudgesDas ts bytes v
-das_judged [] bytes v some judged = absurd (some refl)
-das_judged (t ∷ ts) bytes v some judged = judged
+das_judged : (ts : List Token) (bytes : List ℕ) (v : Verdict) → ¬ (ts ≡ []) ⊎ (limit ≤ length bytes) → JudgesDasText bytes v → JudgesDas ts bytes v
+das_judged [] bytes v (inl some) judged = absurd (some refl)
+das_judged [] bytes v (inr long) judged = inr (long, judged)
+das_judged (t ∷ ts) bytes v known judged = judged
 
-pub das_waits : (ts : List Token) (bytes : List ℕ) (n : ℕ) → ts ≡ [] → length bytes ≡ n → JudgesDas ts bytes (bad Cut n)
-das_waits [] bytes n none long = ap (bad Cut) (sym long)
-das_waits (t ∷ ts) bytes n none long = cc
+das_waits : (ts : List Token) (bytes : List ℕ) (n : ℕ) → ts ≡ [] → length bytes < limit → length bytes ≡ n → JudgesDas ts bytes (bad Cut n)
+das_waits [] bytes n none short long = inl (short, ap (bad Cut) (sym long))
+das_waits (t ∷ ts) bytes n none short long = cc
 
-pub das_whole : (bytes : List ℕ) (v : Verdict) → says_error bytes ≡ false → ((more : List ℕ) → ¬ (tokens_of (bytes ++ more) ≡ [])) → JudgesDasText bytes v → Judges das_form bytes v
-das_whole bytes v none whole judged = inr (none, das_judged (tokens_of bytes) bytes v (λ e. whole [] (ap tokens_of (append-nil bytes) ∙ e)) judged)
+pub das_cut : (bytes : List ℕ) (n : ℕ) → says_error bytes ≡ false → tokens_of bytes ≡ [] → length bytes < limit → length bytes ≡ n → Judges das_form bytes (bad Cut n)
+das_cut bytes n none empty short long = inr (none, das_waits (tokens_of bytes) bytes n empty short long)
+
+pub das_whole : (bytes : List ℕ) (v : Verdict) → says_error bytes ≡ false → ¬ (tokens_of bytes ≡ []) ⊎ (limit ≤ length bytes) → JudgesDasText bytes v → Judges das_form bytes v
+das_whole bytes v none known judged = inr (none, das_judged (tokens_of bytes) bytes v known judged)
+
+-- the first token is whole
+pub das_known : (bytes : List ℕ) → ((more : List ℕ) → ¬ (tokens_of (bytes ++ more) ≡ [])) → ¬ (tokens_of bytes ≡ [])
+das_known bytes whole e = whole [] (ap tokens_of (append-nil bytes) ∙ e)
 
 pub match_on : {X : Type 0} (o : Option X) (P Q : X → Type 0) → MatchOption o ⊤ P → ((x : X) → P x → Q x) → MatchOption o ⊤ Q
 match_on None P Q has on = tt
@@ -82,9 +92,9 @@ dds_wrong field bytes none stays = record {
   is_fault = dds_fault bytes field.kind field.place stays;
 }
 
-pub das_wrong : (field : BadField) (bytes : List ℕ) → IsNoError bytes → ((more : List ℕ) → ¬ (tokens_of (bytes ++ more) ≡ [])) → ((more : List ℕ) → JudgesDasText (bytes ++ more) (bad field.kind field.place)) → IsWrong das_form field bytes
-das_wrong field bytes none whole stays = record {
-  stays = λ more. inr (none more, das_judged (tokens_of (bytes ++ more)) (bytes ++ more) (bad field.kind field.place) (whole more) (stays more));
+pub das_wrong : (field : BadField) (bytes : List ℕ) → IsNoError bytes → limit ≤ length bytes → ((more : List ℕ) → JudgesDasText (bytes ++ more) (bad field.kind field.place)) → IsWrong das_form field bytes
+das_wrong field bytes none long stays = record {
+  stays = λ more. inr (none more, das_judged (tokens_of (bytes ++ more)) (bytes ++ more) (bad field.kind field.place) (inr (omega (arith, long, length-append bytes more))) (stays more));
   is_fault = das_fault bytes field.kind field.place stays;
 }
 

@@ -1,5 +1,5 @@
 -- What the outcome of a showing says, by its kind.
-use Rattle.std.proofs.Common.{◌≡◌, ℕ, ◌+◌, ◌-◌, ◌<◌, ◌≤◌, true, false, List, [], ◌++◌, length, take, drop, codes, Option, Some, None, refl, sym, ap, subst, ◌∙◌, append-nil, length-append, inl, inr, ◌⊎◌, ⊎_elim, arith}
+use Rattle.std.proofs.Common.{◌≡◌, ℕ, ◌+◌, ◌-◌, ◌<◌, ◌≤◌, true, false, List, [], ◌++◌, length, take, drop, codes, Option, Some, None, Result, Ok, Err, OnErr, refl, sym, ap, subst, ◌∙◌, append-nil, length-append, inl, inr, ◌⊎◌, ⊎_elim, arith}
 use Rattle.std.proofs.KnownBytes.{Appends-trans, Appends-nil, Consumes-nil, Consumes-trans}
 use Rattle.std.proofs.lemmas.Bool.{false≢true}
 use Rattle.std.proofs.lemmas.List.{take-append-drop}
@@ -292,3 +292,8 @@ nothing_gone a b c Quiet ReadFault quiet none = tt
 nothing_gone a b c Quiet LinkFault quiet none = tt
 nothing_gone a b c Quiet WriteFault quiet none = tt
 nothing_gone a b c Quiet Memory quiet none = none.1 ∙ quiet none.0
+
+-- what is said of an `Err` of a result that is one
+pub err_of : {T E : Type 0} {P : Type 0} (r : Result T E) (e : E) → r ≡ Err e → OnErr r P → P
+err_of (Err x) e is p = p
+err_of (Ok x) e is p = cc is

@@ -20,7 +20,7 @@ use Rattle.xdr_decode.specs.declared.decoder.Decoder.{Decoder}
 use Rattle.xdr_decode.specs.declared.decoder.State.TheVariants as state
 use Rattle.dap_client.specs.Shows.{StopsWithin}
 use Rattle.dap_client.specs.Verdict.{is_fault}
-use Rattle.dap_client.specs.inner.FirstWords.{IsNoError}
+use Rattle.error_word.specs.inner.FirstWords.{IsNoError}
 use Rattle.dap_client.specs.inner.Stages.{HasValues, IsInValues, IsRefused, IsStage, Moves}
 use Rattle.dap_client.specs.declared.stage.Stage.{Stage}
 

@@ -11,12 +11,12 @@ use Rattle.dds_text.specs.declared.reader.DdsStep.TheVariants as step
 use Rattle.dds_text.specs.Reading.{IsDone}
 use Rattle.dap_types.specs.Model.{Dataset}
 use Rattle.dap_client.proofs.Texts.{done_token}
-use Rattle.dap_client.specs.Verdict.{says_error}
-use Rattle.dap_client.specs.inner.FirstWords.{IsError, IsNoError, IsOpenWord}
+use Rattle.error_word.specs.Saying.{says_error}
+use Rattle.error_word.specs.inner.FirstWords.{IsError, IsNoError, IsOpenWord}
 use Rattle.dap_client.specs.inner.Stages.{IsFirst, IsQuiet, WhereFailed, WhereQuiet}
 use Rattle.dap_client.specs.declared.stage.Stage.{Stage}
 use Rattle.dap_client.specs.declared.stage.Stage.TheVariants as stage
-use Rattle.dap_client.specs.declared.first_word.FirstWord.{FirstWord}
+use Rattle.error_word.specs.declared.first_word.FirstWord.{FirstWord}
 
 take_more : (n : ℕ) (bytes piece : List ℕ) → take n (bytes ++ piece) ≡ take n bytes ++ take (n - length (take n bytes)) piece
 take_more n bytes piece = ⊎_elim

@@ -129,7 +129,8 @@ same_place : (kind other : Bad) (place spot : ℕ) → bad kind place ≡ bad ot
 same_place kind other place spot is = cc
 
 das_within : (ts : List Token) (bytes : List ℕ) (kind : Bad) (place : ℕ) → JudgesDas ts bytes (bad kind place) → place ≤ length bytes
-das_within [] bytes kind place is = omega (arith, same_place kind _ place (length bytes) is)
+das_within [] bytes kind place (inl (short, is)) = omega (arith, same_place kind _ place (length bytes) is)
+das_within [] bytes kind place (inr (long, is)) = das_text_within bytes kind place is
 das_within (t ∷ ts) bytes kind place is = das_text_within bytes kind place is
 
 pub judged_within : (form : Form) (bytes : List ℕ) (kind : Bad) (place : ℕ) → Judges form bytes (bad kind place) → place ≤ length bytes

@@ -151,3 +151,9 @@ leaves form (part.Text stage) bytes put (text, s, none) = nothing_stopped form b
 
 pub err_some : {A : Type 0} (x y : Outcome) → Some x ≡ Some y → ◌≡◌ {A = Result A Outcome} (Err x) (Err y)
 err_some x y is = cc
+
+pub some_err : {A : Type 0} (x y : Outcome) → ◌≡◌ {A = Result A Outcome} (Err x) (Err y) → Some x ≡ Some y
+some_err x y is = cc
+
+pub some_same : (x y : Outcome) → Some x ≡ Some y → x ≡ y
+some_same x y is = cc

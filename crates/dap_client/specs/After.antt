@@ -6,6 +6,7 @@ use Rattle.xdr_decode.specs.declared.bad.BadField.{BadField}
 use Rattle.dap_client.specs.Answered.{IsLasting, ShowsBroken, ShowsRefused, good_part, text_of}
 use Rattle.dap_client.specs.Outcomes.{outcome_of}
 use Rattle.dap_client.specs.Replies.{first_of, form_of}
+use Rattle.dap_client.specs.Shows.{BreaksOff}
 use Rattle.dap_client.specs.Verdict.{Form, Verdict, IsVerdict, bad, dods_form, server_error}
 use Rattle.dap_client.specs.inner.Readers as readers
 use Rattle.dap_client.specs.inner.TextBodies.{IsText, IsTextStage}
@@ -37,10 +38,10 @@ abbrev pub HasNoLine : Form → List ℕ → Type 0
 HasNoLine form bytes = form ≡ dods_form → ¬ (HasHead bytes)
 
 -- What a reader that had some bytes answers, in the end, to a piece behind them. By these bytes, those with
--- the piece, and all that was put.
+-- the piece, and all that was put. Of a DDS and a DAS nothing is put yet.
 abbrev pub IsStopped : Form → List ℕ → List ℕ → List ℕ → Outcome → Type 0
 IsStopped form before bytes text (BadReply field) = (field.place ≤ length bytes) × IsLasting form bytes field × ShowsRefused form (take field.place bytes) text
-IsStopped form before bytes text WriteFault = ShowsBroken form bytes text
+IsStopped form before bytes text WriteFault = (form ≡ dods_form) × BreaksOff bytes text
 IsStopped form before bytes text Memory = (text ≡ []) × HasNoLine form before
 IsStopped form before bytes text outcome = ⊥
 

@@ -1,20 +1,21 @@
 -- What the outcome of a reply says of the bytes that were taken, and of the text that was put.
-use Rattle.std.specs.Prelude.{◌≡◌, ℕ, ◌⊎◌, Bool, List, [], ◌++◌, length, take}
+use Rattle.std.specs.Prelude.{◌≡◌, ℕ, ◌≤◌, ◌⊎◌, Bool, List, [], ◌++◌, length, take}
 use Rattle.das_text.specs.Das.{das}
 use Rattle.das_text.specs.Model.{Attributes}
 use Rattle.dap_types.specs.Limits.{most_piece}
 use Rattle.dap_types.specs.Model.{Dataset}
 use Rattle.dap_model.specs.Dds.{dds}
 use Rattle.dap_model.specs.Partly.{ShowsLines}
-use Rattle.dap_model.specs.Received.{IsPrefix}
+use Rattle.dap_model.specs.Received.{HasHead, IsPrefix}
 use Rattle.dap_model.specs.Shown.{shown}
 use Rattle.xdr_decode.specs.Verdict.{budget}
 use Rattle.xdr_decode.specs.declared.bad.BadField.{BadField}
-use Rattle.dap_http.specs.Delivered.{BreaksOff, Delivers}
+use Rattle.dap_http.specs.Delivered.{BreaksOff, Delivers, HasCoding, HasCome}
+use Rattle.dap_http.specs.declared.coding.Coding.{Coding}
 use Rattle.dap_client.specs.Outcomes.{outcome_of}
 use Rattle.dap_client.specs.Replies.{Brings, BringsFirst, first_of}
 use Rattle.dap_client.specs.Shows as shows
-use Rattle.dap_client.specs.Shows.{HasFewValues, StopsWithin}
+use Rattle.dap_client.specs.Shows.{StopsWithin}
 use Rattle.dap_client.specs.Verdict.{Form, Verdict, IsVerdict, bad, das_form, dds_form, dods_form, good, good_das, good_dds, server_error}
 use Rattle.dap_client.specs.declared.outcome.Outcome.{Outcome}
 use Rattle.dap_client.specs.declared.outcome.Outcome.TheVariants.{Complete, ServerError, BadReply, ReadFault, WriteFault, LinkFault, Memory}
@@ -43,11 +44,32 @@ ShowsStopped dods_form body text = StopsWithin body text
 ShowsStopped dds_form body text = text ≡ []
 ShowsStopped das_form body text = text ≡ []
 
--- of one of which no more could be put
+-- of a whole one of which no more could be put
 abbrev pub ShowsBroken : Form → List ℕ → List ℕ → Type 0
 ShowsBroken dods_form body text = shows.BreaksOff body text
 ShowsBroken dds_form body text = (d : Dataset) × IsVerdict dds_form body (good_dds d) × IsPrefix text (dds d)
 ShowsBroken das_form body text = (a : Attributes) × IsVerdict das_form body (good_das a) × IsPrefix text (das a)
+
+-- Of a reply of which no more could be put: of a data response, by the bytes of it that came; of a DDS and a DAS nothing
+-- is put before the body has ended
+abbrev pub ShowsUnput : Form → List ℕ → Bool → List ℕ → List ℕ → Type 0
+ShowsUnput dods_form reply ended rest text = (body : List ℕ) × BringsFirst reply body × ShowsBroken dods_form (take budget body) text
+ShowsUnput form reply ended rest text = (body : List ℕ) × Delivers reply ended body rest × ShowsBroken form body text
+
+-- ---- What is taken of a reply where memory is wanted.
+
+-- the good `Data:` line of a data response has come with these bytes
+pub record BringsLine (reply : List ℕ) : Type 0 where
+  pub coding : Coding
+  pub behind : List ℕ
+  pub body : List ℕ
+  pub has_coding : HasCoding reply coding behind
+  pub comes : HasCome coding behind body
+  pub has_line : HasHead body
+
+-- at most a piece of the reply was taken behind that line
+abbrev pub TakesFewValues : List ℕ → Type 0
+TakesFewValues reply = (front more : List ℕ) → reply ≡ front ++ more → BringsLine front → length more ≤ most_piece
 
 -- ---- What is wrong with a reply.
 
@@ -92,8 +114,6 @@ Tells form reply ended rest text (BadReply field) =
     BringsBad form reply field text ⊎ (DeliversBad form reply ended rest field text ⊎ BreaksBad form reply ended field text)
 Tells form reply ended rest text ReadFault =
     (body : List ℕ) × Brings reply body × ShowsStopped form body text
-Tells form reply ended rest text WriteFault =
-    (body : List ℕ) × BringsFirst reply body × ShowsBroken form (take budget body) text
+Tells form reply ended rest text WriteFault = ShowsUnput form reply ended rest text
 Tells form reply ended rest text LinkFault = ⊥
-Tells form reply ended rest text Memory =
-    (text ≡ []) × (form ≡ dods_form → (body : List ℕ) → Brings reply body → HasFewValues most_piece body)
+Tells form reply ended rest text Memory = (text ≡ []) × (form ≡ dods_form → TakesFewValues reply)

@@ -15,7 +15,7 @@ use Rattle.dap_http.specs.declared.kind.Kind.{Kind}
 use Rattle.dap_http.specs.declared.url.Url.{Url}
 use Rattle.dap_client.specs.Answered.{Tells}
 use Rattle.dap_client.specs.Outcomes.{outcome_of}
-use Rattle.dap_client.specs.Replies.{BringsFew, IsReplyVerdict, form_of}
+use Rattle.dap_client.specs.Replies.{IsReplyVerdict, StopsInTime, form_of}
 use Rattle.dap_client.specs.Verdict.{Form, Verdict, IsVerdict}
 use Rattle.dap_client.specs.declared.fetching.Fetched.{Fetched}
 use Rattle.dap_client.specs.declared.outcome.Outcome.{Outcome}
@@ -51,10 +51,10 @@ abbrev pub AreRead : Form → List ℕ → List Reply → Type 0
 AreRead form waiting [] = ⊤
 AreRead form waiting (r ∷ replies) = Tells form (waiting ++ r.taken) r.ended r.rest r.text r.outcome × AreRead form r.rest replies
 
--- for none of them more is taken once as many bytes of a body came as no body has
-abbrev pub AreFew : List ℕ → List Reply → Type 0
-AreFew waiting [] = ⊤
-AreFew waiting (r ∷ replies) = BringsFew (waiting ++ r.taken) × AreFew r.rest replies
+-- of each of them no more is taken than `StopsInTime` lets
+abbrev pub AreInTime : Form → List ℕ → List Reply → Type 0
+AreInTime form waiting [] = ⊤
+AreInTime form waiting (r ∷ replies) = StopsInTime form (waiting ++ r.taken) × AreInTime form r.rest replies
 
 abbrev pub all_taken : List Reply → List ℕ
 all_taken replies = flat_map (λ r. r.taken) replies
@@ -131,6 +131,7 @@ pub record IsUnasked (request : List ℕ) (came back : LinkState) (before now : 
   pub whole : fetched.whole ≡ 0
   pub is_last : fetched.last ≡ WriteFault
   pub fault : Rose came.put_faults back.put_faults
+  pub no_read : back.take_faults ≡ came.take_faults
 
 -- N replies were asked for, and these were read, by what the source has left and whether its end is told, and by what the
 -- sink has. Where the source tells what it had left, each outcome is the verdict on the reply that stands there, and all
@@ -140,18 +141,22 @@ pub record IsReadFrom (form : Form) (n : ℕ) (came back : Option (List ℕ)) (e
   pub taken : Consumes came back (all_taken replies)
   pub put : Appends before now (all_put replies)
   pub read : AreRead form [] replies
-  pub few : AreFew [] replies
+  pub in_time : AreInTime form [] replies
   pub counted : AreCounted n replies ended fetched
   pub verdicts : (input : List ℕ) → came ≡ Some input → AreVerdicts form input (map (λ r. r.outcome) replies)
   pub good : (input : List ℕ) → came ≡ Some input → fetched.whole ≡ n → AreGood form n input
   pub complete : (input : List ℕ) → came ≡ Some input → AreGood form n input → is_fault fetched.last ≡ false → fetched.whole ≡ n
 
--- the requests for n replies went out, and the replies were read; a fault came only where its count rose
+-- the requests for n replies went out, and the replies were read; a fault came only where its count rose, and with any
+-- other outcome the count is what it was
 pub record IsAsked (form : Form) (n : ℕ) (request : List ℕ) (came back : LinkState) (before now : SinkState) (fetched : Fetched) : Type 0 where
   pub sent : Appends came.written back.written request
   pub read : IsReadFrom form n came.left back.left back.ended before.written now.written fetched
   pub read_fault : fetched.last ≡ ReadFault → Rose came.take_faults back.take_faults
   pub write_fault : fetched.last ≡ WriteFault → Rose before.faults now.faults
+  pub kept_reading : ¬ (fetched.last ≡ ReadFault) → back.take_faults ≡ came.take_faults
+  pub kept_writing : ¬ (fetched.last ≡ WriteFault) → now.faults ≡ before.faults
+  pub kept_sending : back.put_faults ≡ came.put_faults
 
 -- over a link as it came and as it was handed back
 pub record IsFetchedOver (form : Form) (n : ℕ) (request : List ℕ) (came back : LinkState) (before now : SinkState) (fetched : Fetched) : Type 0 where

@@ -3,6 +3,7 @@ pub mod Answered
 pub mod Fetched
 pub mod Following
 pub mod GoodParts
+pub mod Held
 pub mod Outcomes
 pub mod Replies
 pub mod Shows

@@ -1,13 +1,16 @@
 -- The verdict on a reply (RFC 9112): its heads and its framing, and then the body that they bring, read
 -- by what it was asked for, whatever the status is.
-use Rattle.std.specs.Prelude.{◌≡◌, ℕ, ◌+◌, ◌<◌, ◌⊎◌, true, List, ◌++◌, length, if◌then◌else◌}
-use Rattle.dap_types.specs.Limits.{body_limit, most_piece}
+use Rattle.std.specs.Prelude.{◌≡◌, ℕ, ◌≤◌, ◌⊎◌, true, false, List, [], ◌++◌, length, if◌then◌else◌}
+use Rattle.dap_types.specs.Limits.{body_limit, most_piece, most_reply_heads}
+use Rattle.dap_model.specs.Tokens.{tokens_of}
+use Rattle.error_word.specs.Saying.{says_error}
 use Rattle.xdr_decode.specs.declared.bad.BadField.{BadField}
+use Rattle.dap_http.specs.Codings.{Ends, Fails}
 use Rattle.dap_http.specs.Delivered.{BreaksOff, Delivers, HasCoding, HasCome}
 use Rattle.dap_http.specs.declared.coding.Coding.{Coding}
 use Rattle.dap_http.specs.declared.kind.Kind.{Kind}
 use Rattle.dap_http.specs.declared.kind.Kind.TheVariants as kind
-use Rattle.dap_client.specs.Verdict.{Form, Verdict, IsVerdict, bad, das_form, dds_form, dods_form, is_final}
+use Rattle.dap_client.specs.Verdict.{Form, JudgesDods, Verdict, IsVerdict, bad, das_form, dds_form, dods_form, is_final}
 
 -- what a body of that kind is read as
 abbrev pub form_of : Kind → Form
@@ -38,9 +41,38 @@ abbrev pub BringsFirst : List ℕ → List ℕ → Type 0
 BringsFirst reply body =
     (coding : Coding) × (front : List ℕ) × (more : List ℕ) × HasCoding reply coding (front ++ more) × HasCome coding front body
 
--- Fewer bytes of a body came with these than no body has and a piece more: no piece is taken once so many came
-abbrev pub BringsFew : List ℕ → Type 0
-BringsFew reply = (body : List ℕ) → Brings reply body → length body < body_limit + most_piece
+-- ---- What is taken for a reply.
+
+-- a data response is bad, whatever follows: its first word is whole and not `Error`
+abbrev pub IsBadData : List ℕ → Type 0
+IsBadData body =
+    (field : BadField) × ((more : List ℕ) → ¬ (tokens_of (body ++ more) ≡ []) × (says_error (body ++ more) ≡ false) × JudgesDods (body ++ more) (bad field.kind field.place))
+
+-- the body is bad, whatever follows. A DDS, a DAS and an Error object have a limit of their own, and may be judged there
+abbrev pub Spoils : Form → List ℕ → Type 0
+Spoils dods_form body = IsBadData body
+Spoils form body = ⊥
+
+-- behind a head, the framing has ended or is bad, or the body is
+abbrev pub Settles : Form → Coding → List ℕ → Type 0
+Settles form coding behind =
+    ((body : List ℕ) × Ends coding behind body)
+    ⊎ (((body : List ℕ) × (place : ℕ) × Fails coding behind body place)
+    ⊎ ((body : List ℕ) × HasCome coding behind body × Spoils form body))
+
+-- the final head stands in the bytes, and what stands behind it settles the reply
+pub record IsSettled (form : Form) (reply : List ℕ) : Type 0 where
+  pub coding : Coding
+  pub behind : List ℕ
+  pub has_coding : HasCoding reply coding behind
+  pub settles : Settles form coding behind
+
+-- All that was taken for a reply: where no head in it gives a coding, no more than heads may have; no more than a piece
+-- behind bytes that settle the reply; and no more bytes of a body than are looked at
+pub record StopsInTime (form : Form) (reply : List ℕ) : Type 0 where
+  pub heads : ((coding : Coding) (behind : List ℕ) → ¬ (HasCoding reply coding behind)) → length reply ≤ most_reply_heads
+  pub settled : (front more : List ℕ) → reply ≡ front ++ more → IsSettled form front → length more ≤ most_piece
+  pub body : (body : List ℕ) → Brings reply body → length body ≤ body_limit
 
 -- a reply has one verdict, where its final head tells how the body is coded
 abbrev pub OneReplyVerdict : Type 0

@@ -6,13 +6,12 @@ use Rattle.std.specs.List.{AllPass}
 use Rattle.dap_types.specs.Model.{Dataset, Tree}
 use Rattle.dap_model.specs.Body.{IsBody}
 use Rattle.dap_model.specs.Tokens.{Token, is_white, tokens_of}
-use Rattle.dap_model.specs.Tokens as token
-use Rattle.dap_errors.specs.Object.{is_error_word}
 use Rattle.dap_errors.specs.Reading as errors
 use Rattle.dap_errors.specs.declared.object.ErrorObject.{ErrorObject}
 use Rattle.das_text.specs.Model.{Attributes}
 use Rattle.das_text.specs.Reading as das
 use Rattle.dds_text.specs.Reading.{IsBadText, IsUnfinished}
+use Rattle.error_word.specs.Saying.{says_error}
 use Rattle.xdr_decode.specs.Verdict.{budget}
 use Rattle.xdr_decode.specs.declared.bad.Bad.{Bad}
 use Rattle.xdr_decode.specs.declared.bad.Bad.TheVariants.{BadDds, BadDas, BadError, Cut, Trailing, TooLong}
@@ -31,15 +30,6 @@ pub data Verdict : Type 0 where
   server_error : ErrorObject → Verdict
   -- what is wrong, and the number of bytes before it
   bad : Bad → ℕ → Verdict
-
--- the first token is the word `Error`, in any case
-abbrev pub begins_error : List Token → Bool
-begins_error [] = false
-begins_error (token.word w ∷ ts) = is_error_word w
-begins_error (token.sign b ∷ ts) = false
-
-unfoldable pub says_error : List ℕ → Bool
-says_error bytes = begins_error (tokens_of bytes)
 
 -- of an Error object
 abbrev pub JudgesError : List ℕ → Verdict → Type 0
@@ -74,7 +64,7 @@ JudgesDds bytes (bad kind place) =
     ⊎ (IsUnfinished bytes × (place ≡ length bytes) × (kind ≡ Cut))
 JudgesDds bytes v = ⊥
 
--- of a DAS whose first word, as that of a DDS, is whole
+-- of a DAS, whatever its first word is
 abbrev pub JudgesDasText : List ℕ → Verdict → Type 0
 JudgesDasText bytes (good_das a) = das.DasOf bytes a
 JudgesDasText bytes (bad kind place) =
@@ -83,9 +73,10 @@ JudgesDasText bytes (bad kind place) =
     ⊎ (das.IsCut bytes × (place ≡ length bytes) × (kind ≡ Cut))
 JudgesDasText bytes v = ⊥
 
--- of a DAS. Before its first word is whole it is not known to be no Error object
+-- of a DAS. Before its first word, as that of a DDS, is whole it is not known to be no Error object: within the limit
+-- of a DAS it is cut
 abbrev pub JudgesDas : List Token → List ℕ → Verdict → Type 0
-JudgesDas [] bytes v = v ≡ bad Cut (length bytes)
+JudgesDas [] bytes v = ((length bytes < das.limit) × (v ≡ bad Cut (length bytes))) ⊎ ((das.limit ≤ length bytes) × JudgesDasText bytes v)
 JudgesDas (t ∷ ts) bytes v = JudgesDasText bytes v
 
 abbrev pub JudgesForm : Form → List ℕ → Verdict → Type 0

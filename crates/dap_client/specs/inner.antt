@@ -2,7 +2,7 @@ pub mod Behind
 pub mod DasBodies
 pub mod DataLines
 pub mod DdsBodies
-pub mod FirstWords
+pub mod Holding
 pub mod Objects
 pub mod Openings
 pub mod Readers

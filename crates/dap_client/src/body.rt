@@ -71,6 +71,7 @@ impl Body {
         ensures open { result ≡ None → self.new.taken < 2 ^ 40 }
         ensures fault { result ≡ Some Outcome.WriteFault → Rose (O.put_faults out.old) (O.put_faults out.new) }
         ensures later { O.put_faults out.old ≤ O.put_faults out.new }
+        ensures kept { ¬ (result ≡ Some Outcome.WriteFault) → O.put_faults out.new ≡ O.put_faults out.old }
         ensures beside { O.beside_writing out.new ≡ O.beside_writing out.old }
     {
         let part = mem::replace(&mut self.part, Part::Text(TextStage::Spent));
@@ -92,6 +93,7 @@ impl Body {
             (λ text. IsFinished (form_in self) bytes (put ++ text) result) }
         ensures fault { result ≡ Outcome.WriteFault → Rose (O.put_faults out.old) (O.put_faults out.new) }
         ensures later { O.put_faults out.old ≤ O.put_faults out.new }
+        ensures kept { ¬ (result ≡ Outcome.WriteFault) → O.put_faults out.new ≡ O.put_faults out.old }
         ensures beside { O.beside_writing out.new ≡ O.beside_writing out.old }
     {
         let Body {

@@ -14,7 +14,7 @@ use std::alloc::Global;
 use xdr_decode::{AllRefusal, Bad, BadField};
 
 /// Within so many bytes a DAS has to end.
-const LIMIT: usize = 16777216;
+pub const LIMIT: usize = 16777216;
 
 /// What was read of the body of a DAS that is no Error object.
 #[derive(Drop)]

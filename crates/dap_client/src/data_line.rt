@@ -3,7 +3,7 @@
 ghost use Rattle.std.specs.Prelude.{◌≡◌, ℕ, List, [], ◌++◌};
 ghost use Rattle.dap_client.specs.inner.DataLines.{IsLineFront, IsLineRead, IsStep};
 
-use crate::bytes::is_white;
+use error_word::is_white;
 
 const LINE: &[u8; 6] = b"Data:\r";
 

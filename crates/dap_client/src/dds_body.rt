@@ -11,9 +11,9 @@ ghost use Rattle.dap_client.specs.inner.DdsBodies.{IsDdsBody, IsFirstOther};
 ghost use Rattle.dap_client.specs.inner.Stages.{HadAll, EndsText};
 ghost use Rattle.xdr_decode.specs.Verdict.{HasText};
 
-use crate::bytes::is_white;
 use dap_types::{Dataset, Memory};
 use dds_text::{DdsReader, DdsStep};
+use error_word::is_white;
 use std::alloc::Global;
 use xdr_decode::{Bad, BadField};
 

@@ -79,6 +79,8 @@ fn read_replies<I: Source, O: Sink>(
     ensures read_fault { result.last ≡ Outcome.ReadFault → Rose (I.take_faults source.old) (I.take_faults source.new) }
     ensures write_fault { result.last ≡ Outcome.WriteFault → Rose (O.put_faults out.old) (O.put_faults out.new) }
     ensures later { O.put_faults out.old ≤ O.put_faults out.new }
+    ensures kept_reading { ¬ (result.last ≡ Outcome.ReadFault) → I.take_faults source.new ≡ I.take_faults source.old }
+    ensures kept_writing { ¬ (result.last ≡ Outcome.WriteFault) → O.put_faults out.new ≡ O.put_faults out.old }
     ensures whole { I.whole source.new ≡ I.whole source.old }
     ensures beside_reading { I.beside_reading source.new ≡ I.beside_reading source.old }
     ensures beside_writing { O.beside_writing out.new ≡ O.beside_writing out.old }
@@ -120,6 +122,7 @@ fn ask<L: Link, O: Sink>(
         (record { written = O.written out.old; faults = O.put_faults out.old }) (record { written = O.written out.new; faults = O.put_faults out.new }) result }
     ensures no_link { result.last ≢ Outcome.LinkFault }
     ensures later { O.put_faults out.old ≤ O.put_faults out.new }
+    ensures kept { ¬ (result.last ≡ Outcome.WriteFault) → O.put_faults out.new ≡ O.put_faults out.old }
     ensures whole { L.whole link.new ≡ L.whole link.old }
     ensures beside { O.beside_writing out.new ≡ O.beside_writing out.old }
 {
@@ -133,7 +136,8 @@ fn ask<L: Link, O: Sink>(
 /// (RFC 9112, section 9), and reads the replies as `read_reply` does, up to the first that is not whole
 /// and good. The link is handed back, however they end. `LinkFault` comes only where the count of the
 /// dial rose, and then no link was connected; `ReadFault` only where that of the link's takes rose, and
-/// `WriteFault` where that of its puts did or that of `out`. `Memory` comes where memory is wanted.
+/// `WriteFault` where that of its puts did or that of `out`; with any other answer the count is what it was.
+/// `Memory` comes where memory is wanted.
 pub fn fetch_all<C: Dial, O: Sink>(
     alloc: Global,
     dial: &mut C,
@@ -152,6 +156,8 @@ pub fn fetch_all<C: Dial, O: Sink>(
     ensures link_fault { result.last ≡ Outcome.LinkFault → Rose (C.faults dial.old) (C.faults dial.new) }
     ensures later_dial { C.faults dial.old ≤ C.faults dial.new }
     ensures later { O.put_faults out.old ≤ O.put_faults out.new }
+    ensures kept_dial { ¬ (result.last ≡ Outcome.LinkFault) → C.faults dial.new ≡ C.faults dial.old }
+    ensures kept { ¬ (result.last ≡ Outcome.WriteFault) → O.put_faults out.new ≡ O.put_faults out.old }
     ensures beside { O.beside_writing out.new ≡ O.beside_writing out.old }
 {
     let Ok(requests) = requests_for(alloc, url, kind, ces) else {
@@ -197,6 +203,8 @@ pub fn fetch<C: Dial, O: Sink>(
     ensures link_fault { result ≡ Outcome.LinkFault → Rose (C.faults dial.old) (C.faults dial.new) }
     ensures later_dial { C.faults dial.old ≤ C.faults dial.new }
     ensures later { O.put_faults out.old ≤ O.put_faults out.new }
+    ensures kept_dial { ¬ (result ≡ Outcome.LinkFault) → C.faults dial.new ≡ C.faults dial.old }
+    ensures kept { ¬ (result ≡ Outcome.WriteFault) → O.put_faults out.new ≡ O.put_faults out.old }
     ensures beside { O.beside_writing out.new ≡ O.beside_writing out.old }
 {
     let Ok(ce) = Bytes::new(alloc, ce) else {

@@ -4,18 +4,20 @@
 #![tactic(auto)]
 
 mod body;
-mod bytes;
+mod body_outcome;
 mod das_body;
 mod data_line;
 mod dds_body;
 mod fetching;
-mod first_word;
+mod holding;
 pub mod laws;
+mod nowhere;
 mod object;
 mod opening;
 mod outcome;
 mod part;
 mod reader;
+mod reading;
 mod replies;
 mod reply;
 mod showing;
@@ -23,8 +25,10 @@ mod stage;
 mod text_body;
 mod text_stage;
 
+pub use body_outcome::BodyOutcome;
 pub use fetching::{Fetched, fetch, fetch_all};
 pub use outcome::Outcome;
+pub use reading::read_body;
 pub use replies::{Replies, Stop};
 pub use reply::read_reply;
 pub use showing::show;

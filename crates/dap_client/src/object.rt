@@ -5,9 +5,9 @@ ghost use Rattle.dap_errors.specs.Reading.{ErrorOf, IsBad, limit};
 ghost use Rattle.dap_errors.specs.declared.object.ErrorObject.{ErrorObject as ErrorValue};
 ghost use Rattle.dap_client.specs.inner.Objects.{IsBehind, IsObjectOf, IsShort};
 
-use crate::bytes::is_white;
 use dap_errors::{ErrorObject, ErrorRefusal, read_error};
 use dap_types::Memory;
+use error_word::is_white;
 use std::alloc::Global;
 
 /// Within so many bytes an object has to end.

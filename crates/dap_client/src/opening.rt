@@ -3,7 +3,7 @@
 ghost use Rattle.std.specs.Prelude.{◌≡◌, ℕ, List, [], ◌∷◌, ◌++◌};
 ghost use Rattle.dap_client.specs.inner.Openings.{IsOpening};
 
-use crate::bytes::{is_sign, is_white};
+use error_word::{is_sign, is_white};
 
 /// What came of the first token.
 #[derive(Clone, Copy, Debug, PartialEq, Eq)]

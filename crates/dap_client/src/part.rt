@@ -50,6 +50,7 @@ fn closed(reader: BodyReader) -> Outcome
     requires { readers.is_open reader ≡ false }
     ensures stopped { (before piece put : List ℕ) → readers.StandsAfter reader (before ++ piece) put → (put ≡ [] → ¬ (HasHead before)) → IsStopped dods_form before (before ++ piece) put result }
     ensures fault { OnWriteFault (readers.HasFailed reader) result }
+    ensures failed { readers.HasFailed reader → result ≡ Outcome.WriteFault }
 {
     let BodyReader { stage, .. } = reader;
     match stage {
@@ -76,6 +77,7 @@ fn read_data<O: Sink>(reader: BodyReader, piece: &[u8], out: &mut O) -> Result<P
     ensures goes_on { OnOk result (readers.taken_of reader + length piece.now < 2 ^ 40) }
     ensures fault { result ≡ Err Outcome.WriteFault → Rose (O.put_faults out.old) (O.put_faults out.new) }
     ensures later { O.put_faults out.old ≤ O.put_faults out.new }
+    ensures kept { ¬ (result ≡ Err Outcome.WriteFault) → O.put_faults out.new ≡ O.put_faults out.old }
     ensures beside { O.beside_writing out.new ≡ O.beside_writing out.old }
 {
     let mut reader = reader;
@@ -127,6 +129,7 @@ fn put_text<O: Sink>(text: &[u8], bytes: u64, out: &mut O) -> Outcome
     ensures put { IsPut text.now bytes (O.written out.old) (O.written out.new) result }
     ensures fault { OnWriteFault (Rose (O.put_faults out.old) (O.put_faults out.new)) result }
     ensures later { O.put_faults out.old ≤ O.put_faults out.new }
+    ensures kept { ¬ (result ≡ Outcome.WriteFault) → O.put_faults out.new ≡ O.put_faults out.old }
     ensures beside { O.beside_writing out.new ≡ O.beside_writing out.old }
 {
     match put_all(out, text) {
@@ -141,6 +144,7 @@ fn finish_dds<O: Sink>(alloc: Global, dataset: Dataset, taken: u64, out: &mut O)
         Gains (O.written out.old) (O.written out.new) (λ text. IsFinished form bytes text result) }
     ensures fault { OnWriteFault (Rose (O.put_faults out.old) (O.put_faults out.new)) result }
     ensures later { O.put_faults out.old ≤ O.put_faults out.new }
+    ensures kept { ¬ (result ≡ Outcome.WriteFault) → O.put_faults out.new ≡ O.put_faults out.old }
     ensures beside { O.beside_writing out.new ≡ O.beside_writing out.old }
 {
     match dds_text::print(alloc, &dataset) {
@@ -155,6 +159,7 @@ fn finish_das<O: Sink>(alloc: Global, attributes: Attributes, taken: u64, out: &
         Gains (O.written out.old) (O.written out.new) (λ text. IsFinished form bytes text result) }
     ensures fault { OnWriteFault (Rose (O.put_faults out.old) (O.put_faults out.new)) result }
     ensures later { O.put_faults out.old ≤ O.put_faults out.new }
+    ensures kept { ¬ (result ≡ Outcome.WriteFault) → O.put_faults out.new ≡ O.put_faults out.old }
     ensures beside { O.beside_writing out.new ≡ O.beside_writing out.old }
 {
     match das_text::print(alloc, &attributes) {
@@ -169,6 +174,7 @@ fn finish_text<O: Sink>(alloc: Global, ended: TextEnded, taken: u64, out: &mut O
         Gains (O.written out.old) (O.written out.new) (λ text. IsFinished form bytes text result) }
     ensures fault { OnWriteFault (Rose (O.put_faults out.old) (O.put_faults out.new)) result }
     ensures later { O.put_faults out.old ≤ O.put_faults out.new }
+    ensures kept { ¬ (result ≡ Outcome.WriteFault) → O.put_faults out.new ≡ O.put_faults out.old }
     ensures beside { O.beside_writing out.new ≡ O.beside_writing out.old }
 {
     match ended {
@@ -244,6 +250,7 @@ impl Part {
         ensures goes_on { OnOk result (place + length piece.now < 2 ^ 40) }
         ensures fault { result ≡ Err Outcome.WriteFault → Rose (O.put_faults out.old) (O.put_faults out.new) }
         ensures later { O.put_faults out.old ≤ O.put_faults out.new }
+        ensures kept { ¬ (result ≡ Err Outcome.WriteFault) → O.put_faults out.new ≡ O.put_faults out.old }
         ensures beside { O.beside_writing out.new ≡ O.beside_writing out.old }
     {
         match self {
@@ -262,6 +269,7 @@ impl Part {
             (λ text. IsFinished form bytes (put ++ text) result) }
         ensures fault { OnWriteFault (Rose (O.put_faults out.old) (O.put_faults out.new)) result }
         ensures later { O.put_faults out.old ≤ O.put_faults out.new }
+        ensures kept { ¬ (result ≡ Outcome.WriteFault) → O.put_faults out.new ≡ O.put_faults out.old }
         ensures beside { O.beside_writing out.new ≡ O.beside_writing out.old }
     {
         match self {

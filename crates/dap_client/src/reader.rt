@@ -7,20 +7,20 @@ ghost use Rattle.dap_outside.specs.Causes.{HasCause, Rose};
 ghost use Rattle.dap_outside.specs.Streams.{AppendsFront};
 ghost use Rattle.dap_client.specs.Outcomes.{OnWriteFault, WhereNothingPut};
 ghost use Rattle.dap_client.specs.Shows.{Gains};
-ghost use Rattle.dap_client.specs.inner.FirstWords.{IsError, IsNoError, IsOpenWord};
+ghost use Rattle.error_word.specs.inner.FirstWords.{IsError, IsNoError, IsOpenWord};
 ghost use Rattle.dap_client.specs.inner.Objects.{IsObjectOf};
 ghost use Rattle.dap_client.specs.inner.Readers.{HasFailed, HasPutNothing, IsEnded, IsFinished, Stands, StandsAfter, StaysBad, StaysBadReply, WhereNothing, WhereWriteFault, completed, is_open, taken_of};
 ghost use Rattle.dap_client.specs.inner.Stages.{HadAll, IsInValues, IsQuiet, IsStage, WhereFailed, WhereQuiet, is_open_stage};
 ghost use Rattle.xdr_decode.specs.Verdict.{budget};
 
 use crate::Outcome;
-use crate::first_word::FirstWord;
 use crate::object::Object;
 use crate::stage::{BUDGET, Stage};
 use dap_errors::{ErrorObject, ErrorRefusal, read_error};
 use dap_outside::{Failed, Sink, put_all};
 use dap_types::Memory;
 use dds_text::{DdsReader, DdsStep};
+use error_word::FirstWord;
 use std::alloc::Global;
 use std::mem;
 use xdr_decode::{Bad, BadField, Decoder};
@@ -116,6 +116,7 @@ fn stage_at(stage: Stage, taken: u64) -> Stage
     ensures within { taken ≤ 2 ^ 40 → is_open_stage result ≡ true → taken < budget }
     ensures quiet { WhereQuiet (IsQuiet stage) result }
     ensures cause { WhereFailed (stage ≡ Stage.Failed) result }
+    ensures failed { stage ≡ Stage.Failed → result ≡ Stage.Failed }
 {
     if taken == BUDGET {
         return stage.filled();
@@ -149,7 +150,7 @@ fn put_line_feed<O: Sink>(out: &mut O) -> Result<(), Failed>
 /// Puts the line `complete N`. Its line feed comes last and alone.
 fn put_complete<O: Sink>(out: &mut O, bytes: u64) -> Result<(), Failed>
     ensures ok { OnOk result (Appends (O.written out.old) (O.written out.new) (completed bytes)) }
-    ensures err { OnErr result (AppendsFront (O.written out.old) (O.written out.new) (codes "complete " ++ decimal bytes)) }
+    ensures err { OnErr result (AppendsFront (O.written out.old) (O.written out.new) (completed bytes)) }
     ensures cause { HasCause (O.put_faults out.old) (O.put_faults out.new) result }
     ensures beside { O.beside_writing out.new ≡ O.beside_writing out.old }
 {
@@ -198,6 +199,7 @@ impl BodyReader {
         ensures quiet { HasPutNothing self.new → HasPutNothing self.old × (O.written out.new ≡ O.written out.old) }
         ensures cause { HasFailed self.new → Rose (O.put_faults out.old) (O.put_faults out.new) }
         ensures counts { O.put_faults out.old ≤ O.put_faults out.new }
+        ensures kept { ¬ (HasFailed self.new) → O.put_faults out.new ≡ O.put_faults out.old }
         ensures beside { O.beside_writing out.new ≡ O.beside_writing out.old }
     {
         let stage = mem::replace(&mut self.stage, Stage::Spent);
@@ -212,6 +214,7 @@ impl BodyReader {
         ensures stays { (bytes put : List ℕ) → StandsAfter self bytes put → is_open self ≡ false → StaysBad bytes result }
         ensures quiet { WhereNothing (HasPutNothing self) result }
         ensures failed { WhereWriteFault (HasFailed self) result }
+        ensures has_failed { HasFailed self → result ≡ Ended.WriteFault }
     {
         let BodyReader {
             alloc,
@@ -239,6 +242,8 @@ impl BodyReader {
         ensures quiet { WhereNothingPut (HasPutNothing self × (O.written out.new ≡ O.written out.old)) result }
         ensures cause { OnWriteFault (HasFailed self ⊎ Rose (O.put_faults out.old) (O.put_faults out.new)) result }
         ensures counts { O.put_faults out.old ≤ O.put_faults out.new }
+        ensures kept { ¬ (result ≡ Outcome.WriteFault) → O.put_faults out.new ≡ O.put_faults out.old }
+        ensures failed { HasFailed self → result ≡ Outcome.WriteFault }
         ensures beside { O.beside_writing out.new ≡ O.beside_writing out.old }
     {
         let taken = self.taken;

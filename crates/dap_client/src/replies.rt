@@ -9,7 +9,7 @@ ghost use Rattle.dap_http.specs.declared.kind.Kind.TheVariants.{Ver};
 ghost use Rattle.dap_client.specs.Answered.{Tells};
 ghost use Rattle.dap_client.specs.Following.{IsStoppedBy, outcome_at, pending};
 ghost use Rattle.dap_client.specs.Outcomes.{Answers};
-ghost use Rattle.dap_client.specs.Replies.{BringsFew, IsReplyVerdict, form_of};
+ghost use Rattle.dap_client.specs.Replies.{IsReplyVerdict, StopsInTime, form_of};
 ghost use Rattle.dap_client.specs.Verdict.{Verdict};
 
 use crate::Outcome;
@@ -84,7 +84,7 @@ impl Replies {
         requires { kind ≢ Ver }
         ensures tells { self.old.stopped ≡ None → (taken : List ℕ) × (text : List ℕ) × Consumes (I.left source.old) (I.left source.new) taken
             × Appends (O.written out.old) (O.written out.new) text × Tells (form_of kind) (pending self.old ++ taken) (I.ended source.new) (pending self.new) text result
-            × BringsFew (pending self.old ++ taken) }
+            × StopsInTime (form_of kind) (pending self.old ++ taken) }
         // Whatever the verdict on the reply is, it is told, but for a fault or want of memory.
         ensures only { self.old.stopped ≡ None → (left behind : List ℕ) (coding : CodingValue) (n : ℕ) (v : Verdict) → I.left source.old ≡ Some left →
             HasCoding (pending self.old ++ left) coding behind → IsReplyVerdict (form_of kind) (pending self.old ++ left) n v → Answers n v result }
@@ -94,6 +94,8 @@ impl Replies {
         ensures write_fault { self.old.stopped ≡ None → result ≡ Outcome.WriteFault → Rose (O.put_faults out.old) (O.put_faults out.new) }
         ensures later_reading { I.take_faults source.old ≤ I.take_faults source.new }
         ensures later_writing { O.put_faults out.old ≤ O.put_faults out.new }
+        ensures kept_reading { ¬ (result ≡ Outcome.ReadFault) → I.take_faults source.new ≡ I.take_faults source.old }
+        ensures kept_writing { ¬ (result ≡ Outcome.WriteFault) → O.put_faults out.new ≡ O.put_faults out.old }
         ensures whole { I.whole source.new ≡ I.whole source.old }
         ensures beside_reading { I.beside_reading source.new ≡ I.beside_reading source.old }
         ensures beside_writing { O.beside_writing out.new ≡ O.beside_writing out.old }

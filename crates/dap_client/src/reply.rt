@@ -4,17 +4,17 @@ ghost use Rattle.std.specs.Prelude.{◌≡◌, ◌≢◌, ◌≤◌, ◌<◌, �
 ghost use Rattle.std.specs.Io.KnownBytes.{Appends, Consumes};
 ghost use Rattle.dap_outside.specs.Causes.{Rose};
 ghost use Rattle.dap_http.specs.Delivered.{HasCoding};
-ghost use Rattle.dap_http.specs.Following.{Follows, body_coding};
+ghost use Rattle.dap_http.specs.Following.{Follows, IsInTime, body_coding};
 ghost use Rattle.dap_http.specs.Reading.{rest_of};
 ghost use Rattle.dap_http.specs.declared.coding.Coding.{Coding as CodingValue};
 ghost use Rattle.dap_http.specs.declared.kind.Kind.TheVariants.{Ver};
 ghost use Rattle.dap_client.specs.After.{StandsAfter, form_in};
 ghost use Rattle.dap_client.specs.Answered.{Tells};
 ghost use Rattle.dap_client.specs.Outcomes.{Answers};
-ghost use Rattle.dap_client.specs.Replies.{BringsFew, IsReplyVerdict, form_of};
+ghost use Rattle.dap_client.specs.Replies.{IsReplyVerdict, StopsInTime, form_of};
 ghost use Rattle.dap_client.specs.Shows.{Takes};
 ghost use Rattle.dap_client.specs.Verdict.{Verdict};
-ghost use Rattle.dap_client.specs.inner.Behind.{ComesFew, IsToldBehind, TellsBehind};
+ghost use Rattle.dap_client.specs.inner.Behind.{IsToldBehind, StopsBehind, TellsBehind};
 
 use crate::Outcome;
 use crate::body::Body;
@@ -33,12 +33,14 @@ fn read_parts<I: Source, O: Sink>(
     requires stands { StandsAfter reader [] [] }
     requires follows { (bytes : List ℕ) × Follows parts.old bytes [] }
     ensures tells { (taken : List ℕ) × (text : List ℕ) × Consumes (I.left source.old) (I.left source.new) taken × Appends (O.written out.old) (O.written out.new) text
-        × ((bytes : List ℕ) → Follows parts.old bytes [] →
-        TellsBehind (form_in reader) (body_coding parts.old) (bytes ++ taken) (I.ended source.new) parts.new text result × ComesFew (body_coding parts.old) (bytes ++ taken)) }
+        × ((bytes : List ℕ) → Follows parts.old bytes [] → IsInTime (body_coding parts.old) bytes [] →
+        TellsBehind (form_in reader) (body_coding parts.old) (bytes ++ taken) (I.ended source.new) parts.new text result × StopsBehind (form_in reader) (body_coding parts.old) (bytes ++ taken)) }
     ensures read_fault { result ≡ Outcome.ReadFault → Rose (I.take_faults source.old) (I.take_faults source.new) }
     ensures write_fault { result ≡ Outcome.WriteFault → Rose (O.put_faults out.old) (O.put_faults out.new) }
     ensures later_reading { I.take_faults source.old ≤ I.take_faults source.new }
     ensures later_writing { O.put_faults out.old ≤ O.put_faults out.new }
+    ensures kept_reading { ¬ (result ≡ Outcome.ReadFault) → I.take_faults source.new ≡ I.take_faults source.old }
+    ensures kept_writing { ¬ (result ≡ Outcome.WriteFault) → O.put_faults out.new ≡ O.put_faults out.old }
     ensures stays { IsTrue (I.ended source.old) → IsTrue (I.ended source.new) }
     ensures whole { I.whole source.new ≡ I.whole source.old }
     ensures beside_reading { I.beside_reading source.new ≡ I.beside_reading source.old }
@@ -71,11 +73,13 @@ pub fn read_one<I: Source, O: Sink>(
 ) -> Outcome
     requires { kind ≢ Ver }
     ensures tells { (taken : List ℕ) × (text : List ℕ) × Consumes (I.left source.old) (I.left source.new) taken × Appends (O.written out.old) (O.written out.new) text
-        × Tells (form_of kind) (rest_of heads.old ++ taken) (I.ended source.new) (rest_of heads.new) text result × BringsFew (rest_of heads.old ++ taken) }
+        × Tells (form_of kind) (rest_of heads.old ++ taken) (I.ended source.new) (rest_of heads.new) text result × StopsInTime (form_of kind) (rest_of heads.old ++ taken) }
     ensures read_fault { result ≡ Outcome.ReadFault → Rose (I.take_faults source.old) (I.take_faults source.new) }
     ensures write_fault { result ≡ Outcome.WriteFault → Rose (O.put_faults out.old) (O.put_faults out.new) }
     ensures later_reading { I.take_faults source.old ≤ I.take_faults source.new }
     ensures later_writing { O.put_faults out.old ≤ O.put_faults out.new }
+    ensures kept_reading { ¬ (result ≡ Outcome.ReadFault) → I.take_faults source.new ≡ I.take_faults source.old }
+    ensures kept_writing { ¬ (result ≡ Outcome.WriteFault) → O.put_faults out.new ≡ O.put_faults out.old }
     ensures stays { IsTrue (I.ended source.old) → IsTrue (I.ended source.new) }
     ensures whole { I.whole source.new ≡ I.whole source.old }
     ensures beside_reading { I.beside_reading source.new ≡ I.beside_reading source.old }
@@ -85,7 +89,7 @@ pub fn read_one<I: Source, O: Sink>(
         ReplyRead::Final(coding) => read_body(alloc, coding, heads, source, kind, out),
         ReplyRead::Refused(wrong) => Body::new(alloc, kind).break_off(wrong),
         ReplyRead::ReadFault => Body::new(alloc, kind).leave(),
-        ReplyRead::Memory => Outcome::Memory,
+        ReplyRead::Memory => unreachable!(),
     }
 }
 
@@ -100,11 +104,13 @@ fn read_body<I: Source, O: Sink>(
 ) -> Outcome
     requires { kind ≢ Ver }
     ensures tells { (taken : List ℕ) × (text : List ℕ) × Consumes (I.left source.old) (I.left source.new) taken × Appends (O.written out.old) (O.written out.new) text
-        × IsToldBehind (form_of kind) coding (rest_of heads.old ++ taken) (I.ended source.new) (rest_of heads.new) text result × ComesFew coding (rest_of heads.old ++ taken) }
+        × IsToldBehind (form_of kind) coding (rest_of heads.old ++ taken) (I.ended source.new) (rest_of heads.new) text result × StopsBehind (form_of kind) coding (rest_of heads.old ++ taken) }
     ensures read_fault { result ≡ Outcome.ReadFault → Rose (I.take_faults source.old) (I.take_faults source.new) }
     ensures write_fault { result ≡ Outcome.WriteFault → Rose (O.put_faults out.old) (O.put_faults out.new) }
     ensures later_reading { I.take_faults source.old ≤ I.take_faults source.new }
     ensures later_writing { O.put_faults out.old ≤ O.put_faults out.new }
+    ensures kept_reading { ¬ (result ≡ Outcome.ReadFault) → I.take_faults source.new ≡ I.take_faults source.old }
+    ensures kept_writing { ¬ (result ≡ Outcome.WriteFault) → O.put_faults out.new ≡ O.put_faults out.old }
     ensures stays { IsTrue (I.ended source.old) → IsTrue (I.ended source.new) }
     ensures whole { I.whole source.new ≡ I.whole source.old }
     ensures beside_reading { I.beside_reading source.new ≡ I.beside_reading source.old }
@@ -133,7 +139,7 @@ fn replace(heads: &mut ReplyReader, bytes: &[u8])
 /// word is `Error` is an Error object, whatever the status: nothing is put of it, and `ServerError` has
 /// its code and message. `BadReply` says what is wrong first: with the heads, with the bytes of the body
 /// that came, else with the framing. `ReadFault` and `WriteFault` come only where the count of the source,
-/// of the sink, rose. `Memory` comes where memory is wanted, and not once a byte was put.
+/// of the sink, rose; with any other answer the count is what it was. `Memory` comes where memory is wanted, and not once a byte was put.
 pub fn read_reply<I: Source, O: Sink>(
     alloc: Global,
     source: &mut I,
@@ -146,13 +152,15 @@ pub fn read_reply<I: Source, O: Sink>(
     // Whatever the verdict on the reply is, it is told, but for a fault or want of memory.
     ensures only { (reply behind : List ℕ) (coding : CodingValue) (n : ℕ) (v : Verdict) → I.left source.old ≡ Some reply → HasCoding reply coding behind →
         IsReplyVerdict (form_of kind) reply n v → Answers n v result }
-    // However it ends, no more is taken once as many bytes of the body came as no body has.
-    ensures most { Takes (I.left source.old) (I.left source.new) BringsFew }
+    // However it ends, no more is taken than a piece behind what settles the reply, nor of a body than is looked at.
+    ensures most { Takes (I.left source.old) (I.left source.new) (StopsInTime (form_of kind)) }
 
     ensures read_fault { result ≡ Outcome.ReadFault → Rose (I.take_faults source.old) (I.take_faults source.new) }
     ensures write_fault { result ≡ Outcome.WriteFault → Rose (O.put_faults out.old) (O.put_faults out.new) }
     ensures later_reading { I.take_faults source.old ≤ I.take_faults source.new }
     ensures later_writing { O.put_faults out.old ≤ O.put_faults out.new }
+    ensures kept_reading { ¬ (result ≡ Outcome.ReadFault) → I.take_faults source.new ≡ I.take_faults source.old }
+    ensures kept_writing { ¬ (result ≡ Outcome.WriteFault) → O.put_faults out.new ≡ O.put_faults out.old }
     ensures whole { I.whole source.new ≡ I.whole source.old }
     ensures beside_reading { I.beside_reading source.new ≡ I.beside_reading source.old }
     ensures beside_writing { O.beside_writing out.new ≡ O.beside_writing out.old }

@@ -1,4 +1,4 @@
-ghost use Rattle.std.specs.Prelude.{◌≡◌, ◌⊎◌, ℕ, ◌+◌, ◌^◌, ◌<◌, ◌≤◌, List, [], ◌++◌, Some, IfOk, IsTrue, take, length, true, false};
+ghost use Rattle.std.specs.Prelude.{◌≡◌, ◌⊎◌, ℕ, ◌+◌, ◌^◌, ◌<◌, ◌≤◌, List, [], ◌++◌, Some, IfOk, OnErr, IsTrue, take, length, true, false};
 ghost use Rattle.std.specs.Io.KnownBytes.{Appends, Consumes, IsAtEnd};
 ghost use Rattle.dap_model.specs.Partly.{ShowsLines};
 ghost use Rattle.dap_model.specs.Shown.{shown};
@@ -62,6 +62,8 @@ fn read_piece<I: Source, O: Sink>(
     ensures quiet { HasPutNothing reader.new → HasPutNothing reader.old × (O.written out.new ≡ O.written out.old) }
     ensures failed { HasFailed reader.new → Rose (O.put_faults out.old) (O.put_faults out.new) }
     ensures counts { O.put_faults out.old ≤ O.put_faults out.new }
+    ensures kept { ¬ (HasFailed reader.new) → O.put_faults out.new ≡ O.put_faults out.old }
+    ensures none_put { OnErr result (O.put_faults out.new ≡ O.put_faults out.old) }
     ensures cause { HasCause (I.take_faults source.old) (I.take_faults source.new) result }
     ensures whole { I.whole source.new ≡ I.whole source.old }
     ensures beside_reading { I.beside_reading source.new ≡ I.beside_reading source.old }
@@ -90,6 +92,8 @@ fn read_body<I: Source, O: Sink>(
     ensures quiet { HasPutNothing reader.new → O.written out.new ≡ O.written out.old }
     ensures failed { HasFailed reader.new → HasFailed reader.old ⊎ Rose (O.put_faults out.old) (O.put_faults out.new) }
     ensures counts { O.put_faults out.old ≤ O.put_faults out.new }
+    ensures kept { ¬ (HasFailed reader.new) → O.put_faults out.new ≡ O.put_faults out.old }
+    ensures none_put { OnErr result (O.put_faults out.new ≡ O.put_faults out.old) }
     ensures cause { HasCause (I.take_faults source.old) (I.take_faults source.new) result }
     ensures whole { I.whole source.new ≡ I.whole source.old }
     ensures beside_reading { I.beside_reading source.new ≡ I.beside_reading source.old }
@@ -135,6 +139,10 @@ pub fn show<I: Source, O: Sink>(alloc: Global, source: &mut I, out: &mut O) -> O
     ensures read_so_far { OnReadFault (Takes (I.left source.old) (I.left source.new) (λ taken. Gains (O.written out.old) (O.written out.new) (StopsWithin taken))) result }
     ensures write_fault { OnWriteFault (Rose (O.put_faults out.old) (O.put_faults out.new)) result }
     ensures put_so_far { OnWriteFault (Takes (I.left source.old) (I.left source.new) (λ taken. Gains (O.written out.old) (O.written out.new) (BreaksOff taken))) result }
+
+    // With any other answer the counts are what they were.
+    ensures kept_reading { ¬ (result ≡ Outcome.ReadFault) → I.take_faults source.new ≡ I.take_faults source.old }
+    ensures kept_writing { ¬ (result ≡ Outcome.WriteFault) → O.put_faults out.new ≡ O.put_faults out.old }
 
     ensures no_link { OnLinkFault ⊥ result }
     ensures nothing_put { WhereNothingPut (O.written out.new ≡ O.written out.old) result }

@@ -9,16 +9,16 @@ ghost use Rattle.dap_errors.specs.Reading.{limit};
 ghost use Rattle.dap_model.specs.Body.{IsHead};
 ghost use Rattle.dap_model.specs.Received.{HasHead};
 ghost use Rattle.xdr_decode.specs.Verdict.{budget};
-ghost use Rattle.dap_client.specs.inner.FirstWords.{IsError, IsNoError, IsOpenWord};
+ghost use Rattle.error_word.specs.inner.FirstWords.{IsError, IsNoError, IsOpenWord};
 ghost use Rattle.dap_client.specs.inner.Objects.{IsObjectOf};
 ghost use Rattle.dap_client.specs.inner.Stages.{EndsText, HadAll, HasValues, IsFirst, IsInLine, IsQuiet, IsStage, Moves, WhereFailed, WhereQuiet, is_open_stage};
 
 use crate::data_line::{DataLine, LineRead};
-use crate::first_word::{FirstWord, Found};
 use crate::object::{LIMIT, Object};
 use dap_outside::{Failed, Sink, put_all};
 use dap_types::{Dataset, Memory};
 use dds_text::{DdsReader, DdsStep, print};
+use error_word::{FirstWord, Found};
 use std::alloc::Global;
 use xdr_decode::{Bad, BadField, Decoder, Pushed};
 
@@ -69,6 +69,7 @@ fn read_values<O: Sink>(decoder: Decoder, place: u64, piece: &[u8], out: &mut O)
         Moves (O.written out.old) (O.written out.new) (bytes ++ piece.now) put result }
     ensures cause { WhereFailed (Rose (O.put_faults out.old) (O.put_faults out.new)) result }
     ensures counts { O.put_faults out.old ≤ O.put_faults out.new }
+    ensures kept { ¬ (result ≡ Stage.Failed) → O.put_faults out.new ≡ O.put_faults out.old }
     ensures quiet { WhereQuiet ⊥ result }
     ensures beside { O.beside_writing out.new ≡ O.beside_writing out.old }
 {
@@ -102,6 +103,7 @@ fn begin_values<O: Sink>(
         Moves (O.written out.old) (O.written out.new) (bytes ++ piece.now) [] result }
     ensures cause { WhereFailed (Rose (O.put_faults out.old) (O.put_faults out.new)) result }
     ensures counts { O.put_faults out.old ≤ O.put_faults out.new }
+    ensures kept { ¬ (result ≡ Stage.Failed) → O.put_faults out.new ≡ O.put_faults out.old }
     ensures quiet { WhereQuiet (O.written out.new ≡ O.written out.old) result }
     ensures beside { O.beside_writing out.new ≡ O.beside_writing out.old }
 {
@@ -130,6 +132,7 @@ fn read_line<O: Sink>(
         Moves (O.written out.old) (O.written out.new) (bytes ++ piece.now) [] result }
     ensures cause { WhereFailed (Rose (O.put_faults out.old) (O.put_faults out.new)) result }
     ensures counts { O.put_faults out.old ≤ O.put_faults out.new }
+    ensures kept { ¬ (result ≡ Stage.Failed) → O.put_faults out.new ≡ O.put_faults out.old }
     ensures quiet { WhereQuiet (O.written out.new ≡ O.written out.old) result }
     ensures beside { O.beside_writing out.new ≡ O.beside_writing out.old }
 {
@@ -157,6 +160,7 @@ fn end_text<O: Sink>(
         Moves (O.written out.old) (O.written out.new) (bytes ++ piece.now) [] result }
     ensures cause { WhereFailed (Rose (O.put_faults out.old) (O.put_faults out.new)) result }
     ensures counts { O.put_faults out.old ≤ O.put_faults out.new }
+    ensures kept { ¬ (result ≡ Stage.Failed) → O.put_faults out.new ≡ O.put_faults out.old }
     ensures quiet { WhereQuiet (O.written out.new ≡ O.written out.old) result }
     ensures beside { O.beside_writing out.new ≡ O.beside_writing out.old }
 {
@@ -181,6 +185,7 @@ fn read_text<O: Sink>(
         Moves (O.written out.old) (O.written out.new) (bytes ++ piece.now) [] result }
     ensures cause { WhereFailed (Rose (O.put_faults out.old) (O.put_faults out.new)) result }
     ensures counts { O.put_faults out.old ≤ O.put_faults out.new }
+    ensures kept { ¬ (result ≡ Stage.Failed) → O.put_faults out.new ≡ O.put_faults out.old }
     ensures quiet { WhereQuiet (O.written out.new ≡ O.written out.old) result }
     ensures beside { O.beside_writing out.new ≡ O.beside_writing out.old }
 {
@@ -273,6 +278,7 @@ fn read_first<O: Sink>(
         Moves (O.written out.old) (O.written out.new) (bytes ++ piece.now) [] result }
     ensures cause { WhereFailed (Rose (O.put_faults out.old) (O.put_faults out.new)) result }
     ensures counts { O.put_faults out.old ≤ O.put_faults out.new }
+    ensures kept { ¬ (result ≡ Stage.Failed) → O.put_faults out.new ≡ O.put_faults out.old }
     ensures quiet { WhereQuiet (O.written out.new ≡ O.written out.old) result }
     ensures beside { O.beside_writing out.new ≡ O.beside_writing out.old }
 {
@@ -322,6 +328,7 @@ impl Stage {
             Moves (O.written out.old) (O.written out.new) (bytes ++ piece.now) put result }
         ensures cause { WhereFailed (Rose (O.put_faults out.old) (O.put_faults out.new)) result }
         ensures counts { O.put_faults out.old ≤ O.put_faults out.new }
+        ensures kept { ¬ (result ≡ Stage.Failed) → O.put_faults out.new ≡ O.put_faults out.old }
         ensures quiet { WhereQuiet (IsQuiet self × (O.written out.new ≡ O.written out.old)) result }
         ensures beside { O.beside_writing out.new ≡ O.beside_writing out.old }
     {
@@ -360,6 +367,7 @@ impl Stage {
         ensures closed { is_open_stage result ≡ false }
         ensures quiet { WhereQuiet (IsQuiet self) result }
         ensures cause { WhereFailed (self ≡ Stage.Failed) result }
+        ensures failed { self ≡ Stage.Failed → result ≡ Stage.Failed }
     {
         match self {
             Stage::First(_, _, reader) => fill_first(reader),

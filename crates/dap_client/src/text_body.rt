@@ -1,15 +1,18 @@
 //! The text of a body that is a DDS or a DAS, in pieces (DAP 2.0, DDS and DAS).
 
-ghost use Rattle.std.specs.Prelude.{◌≡◌, ℕ, ◌+◌, ◌^◌, ◌<◌, ⊤, false, List, [], ◌++◌, length, IfOk, MatchOption};
+ghost use Rattle.std.specs.Prelude.{◌≡◌, ℕ, ◌+◌, ◌^◌, ◌<◌, ◌≤◌, ◌⊎◌, ⊤, false, List, [], ◌++◌, length, IfOk, MatchOption};
 ghost use Rattle.xdr_decode.specs.declared.bad.Bad.TheVariants.{Cut};
-ghost use Rattle.dap_client.specs.Verdict.{Form, das_form, dds_form, says_error};
-ghost use Rattle.dap_client.specs.inner.FirstWords.{IsNoError};
+ghost use Rattle.error_word.specs.Saying.{says_error};
+ghost use Rattle.das_text.specs.Reading.{limit};
+ghost use Rattle.dap_model.specs.Tokens.{tokens_of};
+ghost use Rattle.dap_client.specs.Verdict.{Form, das_form, dds_form};
+ghost use Rattle.error_word.specs.inner.FirstWords.{IsNoError};
 ghost use Rattle.dap_client.specs.inner.DasBodies.{IsDasBody};
 ghost use Rattle.dap_client.specs.inner.DdsBodies.{IsDdsBody};
 ghost use Rattle.dap_client.specs.inner.Openings.{IsOpening};
 ghost use Rattle.dap_client.specs.inner.TextBodies.{IsTextBody, IsTextEnded, IsWrong};
 
-use crate::das_body::DasBody;
+use crate::das_body::{DasBody, LIMIT};
 use crate::dds_body::DdsBody;
 use crate::opening::Opening;
 use dap_errors::ErrorObject;
@@ -47,9 +50,9 @@ fn end_dds(body: DdsBody, taken: u64) -> TextEnded
     }
 }
 
-/// Of the body of a DAS whose first token is whole.
-fn end_whole(alloc: Global, body: DasBody, taken: u64) -> TextEnded
-    ensures { (bytes : List ℕ) → length bytes ≡ taken → says_error bytes ≡ false → IsOpening Opening.Whole bytes → IsDasBody bytes body → IsTextEnded das_form bytes result }
+/// Of the body of a DAS whose first token is whole, or that has as many bytes as its limit.
+fn end_known(alloc: Global, body: DasBody, taken: u64) -> TextEnded
+    ensures { (bytes : List ℕ) → length bytes ≡ taken → says_error bytes ≡ false → ¬ (tokens_of bytes ≡ []) ⊎ (limit ≤ length bytes) → IsDasBody bytes body → IsTextEnded das_form bytes result }
 {
     match body.finish(alloc, taken) {
         Ok(attributes) => TextEnded::Das(attributes),
@@ -67,25 +70,24 @@ fn cut(taken: u64) -> TextEnded
     })
 }
 
+/// Of the body of a DAS whose first token is not whole.
+fn end_open(alloc: Global, body: DasBody, taken: u64) -> TextEnded
+    ensures { (bytes : List ℕ) → length bytes ≡ taken → says_error bytes ≡ false → tokens_of bytes ≡ [] → IsDasBody bytes body → IsTextEnded das_form bytes result }
+{
+    if taken < LIMIT as u64 {
+        return cut(taken);
+    }
+    end_known(alloc, body, taken)
+}
+
 /// Of the body of a DAS.
 fn end_das(alloc: Global, opening: Opening, body: DasBody, taken: u64) -> TextEnded
     ensures { (bytes : List ℕ) → length bytes ≡ taken → says_error bytes ≡ false → IsOpening opening bytes → IsDasBody bytes body → IsTextEnded das_form bytes result }
 {
     match opening {
-        Opening::White => cut(taken),
-        Opening::Word => cut(taken),
-        Opening::Whole => end_whole(alloc, body, taken),
-    }
-}
-
-/// What is wrong with a DAS, once its first token is whole.
-fn wrong_das(opening: Opening, body: &DasBody) -> Option<BadField>
-    ensures { MatchOption result ⊤ (λ field. (bytes : List ℕ) → IsNoError bytes → IsOpening opening bytes → IsDasBody bytes body.now → IsWrong das_form field bytes) }
-{
-    match opening {
-        Opening::White => None,
-        Opening::Word => None,
-        Opening::Whole => body.wrong(),
+        Opening::White => end_open(alloc, body, taken),
+        Opening::Word => end_open(alloc, body, taken),
+        Opening::Whole => end_known(alloc, body, taken),
     }
 }
 
@@ -111,7 +113,7 @@ impl TextBody {
     {
         match self {
             TextBody::Dds(body) => body.wrong(),
-            TextBody::Das(opening, body) => wrong_das(*opening, body),
+            TextBody::Das(_, body) => body.wrong(),
         }
     }
 

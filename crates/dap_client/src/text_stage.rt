@@ -4,16 +4,16 @@
 ghost use Rattle.std.specs.Prelude.{◌≡◌, ℕ, ◌+◌, ◌^◌, ◌<◌, ◌≤◌, List, [], ◌++◌, length, take};
 ghost use Rattle.dap_errors.specs.Reading.{limit};
 ghost use Rattle.dap_client.specs.Verdict.{Form};
-ghost use Rattle.dap_client.specs.inner.FirstWords.{IsError, IsNoError, IsOpenWord};
+ghost use Rattle.error_word.specs.inner.FirstWords.{IsError, IsNoError, IsOpenWord};
 ghost use Rattle.dap_client.specs.inner.Objects.{IsObjectOf};
 ghost use Rattle.dap_client.specs.inner.TextBodies.{IsTextBody, IsTextEnded, IsTextStage};
 
-use crate::first_word::{FirstWord, Found};
 use crate::object::{LIMIT, Object};
 use crate::stage::keep;
 use crate::text_body::{TextBody, TextEnded};
 use dap_errors::{ErrorRefusal, read_error};
 use dap_types::Memory;
+use error_word::{FirstWord, Found};
 use std::alloc::Global;
 use xdr_decode::{Bad, BadField};
 

@@ -4,6 +4,7 @@ ghost use Rattle.std.specs.Prelude.{◌≤◌, ◌<◌, All, IfOk, length};
 ghost use Rattle.dap_outside.specs.MemLinks.{IsNew};
 ghost use Rattle.dap_client.specs.Fetched.{IsUrl};
 
+use crate::tests::counted::Counted;
 use crate::tests::showing::{Answer, answers, failing};
 use dap_client::{Fetched, Outcome, fetch, fetch_all};
 use dap_http::{Kind, Url, UrlRefusal};
@@ -42,11 +43,13 @@ const SURE: Fails = Fails {
     piece: 65536,
 };
 
-/// How a fetching ended, what was put, what was sent on the link, if it came back, and how many came.
+/// How a fetching ended, what was put in how many calls, what was sent on the link, if it came back, and how
+/// many came.
 #[derive(Drop)]
 struct Done {
     fetched: Fetched,
     out: Bytes,
+    puts: u64,
     sent: Bytes,
     back: usize,
 }
@@ -84,7 +87,7 @@ fn fetch_kind(
     url: &Url,
     kind: Kind,
     ces: &[Bytes],
-    out: &mut MemSink,
+    out: &mut Counted<MemSink>,
 ) -> Fetched
     requires url { IsUrl url.now }
     requires some { 1 ≤ length ces.now }
@@ -113,7 +116,7 @@ fn fetched(alloc: Global, asked: Asked, fails: Fails) -> Result<Done, Fail> {
     let connects = failing(alloc, fails.connect)?;
     let mut dial = MemDial::new(alloc, links(alloc, asked.input, fails)?, connects)?;
     let puts = failing(alloc, fails.put)?;
-    let mut out = MemSink::new(alloc, 65536, fails.piece.max(1), puts)?;
+    let mut out = Counted::new(MemSink::new(alloc, 65536, fails.piece.max(1), puts)?);
     let list = constraints(alloc, asked.ces)?;
     let ces = list.items();
     let Ok(url) = Url::read(alloc, asked.url) else {
@@ -125,7 +128,8 @@ fn fetched(alloc: Global, asked: Asked, fails: Fails) -> Result<Done, Fail> {
     let fetched = fetch_kind(alloc, &mut dial, &url, asked.kind, ces, &mut out);
     Ok(Done {
         fetched,
-        out: Bytes::new(alloc, out.bytes())?,
+        out: Bytes::new(alloc, out.end.bytes())?,
+        puts: out.calls,
         sent: Bytes::new(alloc, sent(&dial))?,
         back: dial.back().len(),
     })
@@ -254,22 +258,24 @@ fn is_stopped(done: &Done, sent: &[u8]) -> bool {
         && done.back == 1
 }
 
+/// Each take of the link fails in turn: one for each 48 bytes of the reply, and no other.
 #[test]
 fn each_take_fails(rt: HostRuntime) -> Result<(), Fail> {
-    for number in 1..1000 {
+    let takes = DATA.len().div_ceil(48) as u64;
+    for number in 1..takes.saturating_add(2) {
         let fails = Fails {
             take: Some(number),
             piece: 48,
             ..SURE
         };
         let done = fetched(rt.alloc(), ONE, fails)?;
-        if answers(&done.fetched.last, Answer::Shown(63)) {
-            assert!(rt; number > 4);
-            break;
-        }
-        assert!(rt; matches!(done.fetched.last, Outcome::ReadFault));
-        assert!(rt; is_stopped(&done, DATA_REQUEST));
         assert_eq!(rt; done.sent.bytes(), DATA_REQUEST);
+        if number > takes {
+            assert!(rt; answers(&done.fetched.last, Answer::Shown(63)));
+        } else {
+            assert!(rt; matches!(done.fetched.last, Outcome::ReadFault), "{number}");
+            assert!(rt; is_stopped(&done, DATA_REQUEST));
+        }
     }
     Ok(())
 }
@@ -277,38 +283,45 @@ fn each_take_fails(rt: HostRuntime) -> Result<(), Fail> {
 /// Each put of the link fails in turn: a front of the request is out, and nothing was put.
 #[test]
 fn each_put_of_the_request_fails(rt: HostRuntime) -> Result<(), Fail> {
-    for number in 1..1000 {
+    let puts = DATA_REQUEST.len().div_ceil(16) as u64;
+    for number in 1..puts.saturating_add(2) {
         let fails = Fails {
             send: Some(number),
             piece: 16,
             ..SURE
         };
         let done = fetched(rt.alloc(), ONE, fails)?;
-        if answers(&done.fetched.last, Answer::Shown(63)) {
-            assert!(rt; number > 4);
-            break;
+        if number > puts {
+            assert!(rt; answers(&done.fetched.last, Answer::Shown(63)));
+        } else {
+            assert!(rt;
+                matches!(done.fetched.last, Outcome::WriteFault),
+                "{number}"
+            );
+            assert!(rt; is_stopped(&done, DATA_REQUEST));
+            assert!(rt; done.sent.bytes().len() < DATA_REQUEST.len());
+            assert!(rt; done.out.bytes().is_empty());
         }
-        assert!(rt; matches!(done.fetched.last, Outcome::WriteFault));
-        assert!(rt; is_stopped(&done, DATA_REQUEST));
-        assert!(rt; done.out.bytes().is_empty());
     }
     Ok(())
 }
 
+/// Each put of the sink fails in turn: as many as a run without a fault makes.
 #[test]
 fn each_put_fails(rt: HostRuntime) -> Result<(), Fail> {
-    for number in 1..1000 {
+    let sure = fetched(rt.alloc(), ONE, Fails { piece: 16, ..SURE })?;
+    assert!(rt; sure.puts > 4);
+    for number in 1..sure.puts.saturating_add(1) {
         let fails = Fails {
             put: Some(number),
             piece: 16,
             ..SURE
         };
         let done = fetched(rt.alloc(), ONE, fails)?;
-        if answers(&done.fetched.last, Answer::Shown(63)) {
-            assert!(rt; number > 4);
-            break;
-        }
-        assert!(rt; matches!(done.fetched.last, Outcome::WriteFault));
+        assert!(rt;
+            matches!(done.fetched.last, Outcome::WriteFault),
+            "{number}"
+        );
         assert!(rt; is_stopped(&done, DATA_REQUEST));
         assert_eq!(rt; done.sent.bytes(), DATA_REQUEST);
     }

@@ -1,5 +1,7 @@
+use crate::tests::replies::read;
 use crate::tests::showing::{Answer, answers, show_body};
 use dap_client::{Outcome, show};
+use dap_http::Kind;
 use dap_outside::{MemSink, SureSource};
 use dap_types::{Bytes, List};
 use std::alloc::Global;
@@ -56,6 +58,44 @@ fn white_space_is_long(rt: HostRuntime) -> Result<(), Fail> {
     assert!(rt; is_answered(alloc, b"", 16777216, b"", text)?);
     let cut = Answer::Wrong(Bad::Cut, 16777215);
     assert!(rt; is_answered(alloc, b"", 16777215, b"", cut)?);
+    Ok(())
+}
+
+/// Whether that is answered for a reply whose body is so many of a byte, and then this, and nothing is put.
+fn is_told(
+    alloc: Global,
+    kind: Kind,
+    byte: u8,
+    count: usize,
+    rest: &[u8],
+    answer: Answer,
+) -> Result<bool, Fail> {
+    let mut reply = Vec::from_slice(alloc, b"HTTP/1.1 200 OK\r\n\r\n")?;
+    reply.resize(reply.len().saturating_add(count), byte)?;
+    reply.extend_from_slice(rest)?;
+    let found = read(alloc, reply.as_slice(), kind, 65536, None, None)?;
+    Ok(answers(&found.outcome, answer) && found.out.bytes().is_empty())
+}
+
+/// Of a DDS and of a DAS a first word is whole within the limit, or bad there.
+#[test]
+fn a_first_word_is_long(rt: HostRuntime) -> Result<(), Fail> {
+    let alloc = rt.alloc();
+    let object = Answer::Wrong(Bad::BadError, 65536);
+    for (kind, begun, bad) in [
+        (Kind::Dds, b"Dataset {" as &[u8], Bad::BadDds),
+        (Kind::Das, b"Attributes {" as &[u8], Bad::BadDas),
+    ] {
+        assert!(rt; is_told(alloc, kind, b' ', 16777216, OBJECT, object)?);
+        let far = Answer::Wrong(bad, 16777216);
+        for rest in [begun, b"Err" as &[u8], b"" as &[u8]] {
+            assert!(rt; is_told(alloc, kind, b' ', 16777216, rest, far)?);
+            assert!(rt; is_told(alloc, kind, b'A', 16777216, rest, far)?);
+        }
+        let cut = Answer::Wrong(Bad::Cut, 16777215);
+        assert!(rt; is_told(alloc, kind, b' ', 16777215, b"", cut)?);
+        assert!(rt; is_told(alloc, kind, b'A', 16777215, b"", cut)?);
+    }
     Ok(())
 }
 

@@ -1,4 +1,5 @@
 use crate::tests::cases::{TABLE, TABLE_ROWS, TABLE_SHOWN};
+use crate::tests::counted::Counted;
 use crate::tests::showing::{Answer, Showing, answers, failing};
 use dap_client::{Outcome, read_reply};
 use dap_http::Kind;
@@ -9,7 +10,12 @@ use std::test::Fail;
 use xdr_decode::{AllRefusal, Bad, decode_all};
 
 /// Reads a reply to a request of that kind.
-fn read_kind(alloc: Global, source: &mut MemSource, kind: Kind, out: &mut MemSink) -> Outcome {
+fn read_kind(
+    alloc: Global,
+    source: &mut Counted<MemSource>,
+    kind: Kind,
+    out: &mut Counted<MemSink>,
+) -> Outcome {
     match kind {
         Kind::Dds => read_reply(alloc, source, Kind::Dds, out),
         Kind::Das => read_reply(alloc, source, Kind::Das, out),
@@ -29,12 +35,14 @@ pub fn read(
 ) -> Result<Showing, Fail> {
     let takes = failing(alloc, take_fails)?;
     let puts = failing(alloc, put_fails)?;
-    let mut source = MemSource::new(Bytes::new(alloc, reply)?, piece.max(1), takes);
-    let mut out = MemSink::new(alloc, 65536, piece.max(1), puts)?;
+    let mut source = Counted::new(MemSource::new(Bytes::new(alloc, reply)?, piece.max(1), takes));
+    let mut out = Counted::new(MemSink::new(alloc, 65536, piece.max(1), puts)?);
     let outcome = read_kind(alloc, &mut source, kind, &mut out);
     Ok(Showing {
         outcome,
-        out: Bytes::new(alloc, out.bytes())?,
+        out: Bytes::new(alloc, out.end.bytes())?,
+        takes: source.calls,
+        puts: out.calls,
     })
 }
 
@@ -119,48 +127,68 @@ fn each_byte_of_a_body_is_changed(rt: HostRuntime) -> Result<(), Fail> {
     Ok(())
 }
 
-/// Each call of the source fails in turn, until none does.
+/// Each call of the source fails in turn: as many as a run without a fault makes.
 #[test]
 fn each_take_of_a_reply_fails(rt: HostRuntime) -> Result<(), Fail> {
     let reply = reply_of(rt.alloc(), TABLE)?;
-    for number in 1..100 {
-        let found = read(
-            rt.alloc(),
-            reply.as_slice(),
-            Kind::Dods,
-            48,
-            Some(number),
-            None,
-        )?;
-        if answers(&found.outcome, Answer::Shown(138)) {
-            assert!(rt; number > 2);
-            break;
-        }
-        assert!(rt; matches!(found.outcome, Outcome::ReadFault));
+    let reply = reply.as_slice();
+    let sure = read(rt.alloc(), reply, Kind::Dods, 48, None, None)?;
+    assert!(rt; answers(&sure.outcome, Answer::Shown(138)));
+    assert_eq!(rt; sure.takes, reply.len().div_ceil(48) as u64);
+    for number in 1..sure.takes.saturating_add(1) {
+        let found = read(rt.alloc(), reply, Kind::Dods, 48, Some(number), None)?;
+        assert!(rt; matches!(found.outcome, Outcome::ReadFault), "{number}");
+        assert_eq!(rt; found.takes, number);
         assert!(rt; TABLE_ROWS.starts_with(found.out.bytes()));
     }
     Ok(())
 }
 
-/// Each call of the sink fails in turn, until none does.
+/// Each call of the sink fails in turn, in the same way.
 #[test]
 fn each_put_of_a_reply_fails(rt: HostRuntime) -> Result<(), Fail> {
     let reply = reply_of(rt.alloc(), TABLE)?;
-    for number in 1..100 {
-        let found = read(
-            rt.alloc(),
-            reply.as_slice(),
-            Kind::Dods,
-            48,
-            None,
-            Some(number),
-        )?;
-        if answers(&found.outcome, Answer::Shown(138)) {
-            assert!(rt; number > 2);
-            break;
-        }
-        assert!(rt; matches!(found.outcome, Outcome::WriteFault));
+    let reply = reply.as_slice();
+    let sure = read(rt.alloc(), reply, Kind::Dods, 48, None, None)?;
+    assert!(rt; sure.puts > 2);
+    for number in 1..sure.puts.saturating_add(1) {
+        let found = read(rt.alloc(), reply, Kind::Dods, 48, None, Some(number))?;
+        assert!(rt; matches!(found.outcome, Outcome::WriteFault), "{number}");
+        assert_eq!(rt; found.puts, number);
         assert!(rt; TABLE_SHOWN.starts_with(found.out.bytes()));
+        assert!(rt; found.out.bytes().len() < TABLE_SHOWN.len());
     }
     Ok(())
 }
+
+/// A text in a reply of which each put fails in turn: nothing is put before its body has ended, and a front
+/// of the text is out then.
+#[test]
+fn each_put_of_a_text_fails(rt: HostRuntime) -> Result<(), Fail> {
+    for (kind, reply, shown) in [
+        (Kind::Dds, DDS_REPLY, DDS_SHOWN),
+        (Kind::Das, DAS_REPLY, DAS_SHOWN),
+    ] {
+        let sure = read(rt.alloc(), reply, kind, 5, None, None)?;
+        assert!(rt; sure.out.bytes() == shown);
+        assert_eq!(rt; sure.puts, shown.len().div_ceil(5) as u64);
+        for number in 1..sure.puts.saturating_add(1) {
+            let found = read(rt.alloc(), reply, kind, 5, None, Some(number))?;
+            assert!(rt; matches!(found.outcome, Outcome::WriteFault), "{number}");
+            assert_eq!(rt; found.takes, sure.takes);
+            assert!(rt; shown.starts_with(found.out.bytes()));
+            assert!(rt; found.out.bytes().len() < shown.len());
+        }
+    }
+    Ok(())
+}
+
+const DDS_REPLY: &[u8] =
+    b"HTTP/1.1 200 OK\r\nContent-Length: 25\r\n\r\nDataset {\n Byte q;\n} f;\n\n";
+
+const DDS_SHOWN: &[u8] = b"Dataset {\n    Byte q;\n} f;\n";
+
+const DAS_REPLY: &[u8] =
+    b"HTTP/1.1 200 OK\r\nContent-Length: 26\r\n\r\nAttributes {\n v { }\n}\n    ";
+
+const DAS_SHOWN: &[u8] = b"Attributes {\n    v {\n    }\n}\n";

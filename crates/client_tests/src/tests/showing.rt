@@ -1,3 +1,4 @@
+use crate::tests::counted::Counted;
 use dap_client::{Outcome, show};
 use dap_outside::{MemSink, MemSource};
 use dap_types::{Bytes, List, Memory};
@@ -27,11 +28,13 @@ pub fn answers(outcome: &Outcome, answer: Answer) -> bool {
     }
 }
 
-/// What a showing answered and put.
+/// What a showing answered and put, and how many calls it made of its source and of its sink.
 #[derive(Drop)]
 pub struct Showing {
     pub outcome: Outcome,
     pub out: Bytes,
+    pub takes: u64,
+    pub puts: u64,
 }
 
 /// The numbers of the calls that fail: that one, if any.
@@ -53,11 +56,13 @@ pub fn show_body(
 ) -> Result<Showing, Fail> {
     let takes = failing(alloc, take_fails)?;
     let puts = failing(alloc, put_fails)?;
-    let mut source = MemSource::new(Bytes::new(alloc, body)?, piece.max(1), takes);
-    let mut out = MemSink::new(alloc, 65536, piece.max(1), puts)?;
+    let mut source = Counted::new(MemSource::new(Bytes::new(alloc, body)?, piece.max(1), takes));
+    let mut out = Counted::new(MemSink::new(alloc, 65536, piece.max(1), puts)?);
     let outcome = show(alloc, &mut source, &mut out);
     Ok(Showing {
         outcome,
-        out: Bytes::new(alloc, out.bytes())?,
+        out: Bytes::new(alloc, out.end.bytes())?,
+        takes: source.calls,
+        puts: out.calls,
     })
 }

@@ -9,11 +9,12 @@ use Rattle.dap_client.specs.Verdict.{JudgesDasText, bad}
 use Rattle.dap_client.specs.declared.das_body.DasBody.{DasBody}
 use Rattle.dap_client.specs.declared.das_body.DasBody.TheVariants.{Front, White, Wrong}
 
--- these bytes came; or a DAS ended within the limit, and white space came; or this is wrong, whatever follows
+-- these bytes came; or as many as the limit and more: a DAS ended within it, and white space came; or this is wrong,
+-- whatever follows
 abbrev pub IsDasBody : List ℕ → DasBody → Type 0
 IsDasBody bytes (Front front) = (front.items ≡ bytes) × (length bytes < limit)
 IsDasBody bytes (White attributes) = (limit ≤ length bytes) × DasOf bytes (attributes_view attributes)
-IsDasBody bytes (Wrong field) = (more : List ℕ) → JudgesDasText (bytes ++ more) (bad field.kind field.place)
+IsDasBody bytes (Wrong field) = (limit ≤ length bytes) × ((more : List ℕ) → JudgesDasText (bytes ++ more) (bad field.kind field.place))
 
 -- what it says apart from any bytes: a front is shorter than the limit
 abbrev pub IsShortDas : DasBody → Type 0

@@ -21,10 +21,10 @@ use Rattle.xdr_decode.specs.Verdict.{HasHeadOf, HasText}
 use Rattle.dap_client.specs.Shows.{Gains, HasFewValues, StopsWithin}
 use Rattle.dap_client.specs.Verdict.{bad, dods_form, IsVerdict, Judges, is_fault}
 use Rattle.dap_client.specs.inner.DataLines.{IsLineFront}
-use Rattle.dap_client.specs.inner.FirstWords.{IsError, IsNoError, IsOpenWord}
+use Rattle.error_word.specs.inner.FirstWords.{IsError, IsNoError, IsOpenWord}
 use Rattle.dap_client.specs.inner.Objects.{IsObjectOf}
 use Rattle.dap_client.specs.declared.data_line.DataLine.{DataLine}
-use Rattle.dap_client.specs.declared.first_word.FirstWord.{FirstWord}
+use Rattle.error_word.specs.declared.first_word.FirstWord.{FirstWord}
 use Rattle.dap_client.specs.declared.stage.Stage.{Stage}
 use Rattle.dap_client.specs.declared.stage.Stage.TheVariants as stage
 

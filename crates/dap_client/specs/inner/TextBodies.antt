@@ -10,7 +10,7 @@ use Rattle.dap_client.specs.Replies.{first_of}
 use Rattle.dap_client.specs.Verdict.{Form, Verdict, Judges, bad, das_form, dds_form, dods_form, good_das, good_dds, is_fault, server_error}
 use Rattle.dap_client.specs.inner.DasBodies.{IsDasBody}
 use Rattle.dap_client.specs.inner.DdsBodies.{IsDdsBody}
-use Rattle.dap_client.specs.inner.FirstWords.{IsError, IsNoError, IsOpenWord}
+use Rattle.error_word.specs.inner.FirstWords.{IsError, IsNoError, IsOpenWord}
 use Rattle.dap_client.specs.inner.Objects.{IsObjectOf}
 use Rattle.dap_client.specs.inner.Openings.{IsOpening}
 use Rattle.dap_client.specs.declared.outcome.Outcome.{Outcome}

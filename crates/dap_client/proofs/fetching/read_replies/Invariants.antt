@@ -11,8 +11,8 @@ invariant-loop-whole g l =
     record {
       so_far : SoFar (form_of l.kind) l.whole (source.left l.fn.source) (source.left l.source) (sink.written l.fn.out) (sink.written l.out) (pending l.replies);
       open_still : l.replies.stopped ≡ None;
-      takes : source.take_faults l.fn.source ≤ source.take_faults l.source;
-      puts : sink.put_faults l.fn.out ≤ sink.put_faults l.out;
+      takes : source.take_faults l.source ≡ source.take_faults l.fn.source;
+      puts : sink.put_faults l.out ≡ sink.put_faults l.fn.out;
       input : source.whole l.source ≡ source.whole l.fn.source;
       beside_source : source.beside_reading l.source ≡ source.beside_reading l.fn.source;
       beside_sink : sink.beside_writing l.out ≡ sink.beside_writing l.fn.out;

@@ -1,5 +1,6 @@
-use Rattle.std.proofs.Common.{◌++◌, refl, sym, ◌∙◌, arith}
+use Rattle.std.proofs.Common.{◌++◌, Err, refl, sym, ap, ◌∙◌, arith}
 use Rattle.dap_client.proofs.Filling.{budget_is}
+use Rattle.dap_client.proofs.Told.{open_not_failed}
 use Rattle.dap_client.proofs.Wrapped.{err_same, no_head_before, on_write_fault}
 use Rattle.dap_client.proofs.part.read_data.Goals as goal
 
@@ -26,3 +27,9 @@ returns-clause-read g c bytes put s =
 
 pub returns-clause-fault : goal.returns-clause-fault
 returns-clause-fault g c = λ is. c.push.ensures.cause (on_write_fault _ c.closed.result (err_same _ _ is) c.closed.ensures.fault)
+
+pub returns-then-is_open-clause-kept : goal.returns-then-is_open-clause-kept
+returns-then-is_open-clause-kept g c = λ n. c.push.ensures.kept (λ failed. open_not_failed c.push.new.self (sym c.is_open.ensures ∙ c.if-is_open.true) failed)
+
+pub returns-clause-kept : goal.returns-clause-kept
+returns-clause-kept g c = λ n. c.push.ensures.kept (λ failed. n (ap Err (c.closed.ensures.failed failed)))

@@ -2,7 +2,8 @@ use Rattle.std.proofs.Common.{[], append-nil, refl, sym, subst, ◌∙◌, inl}
 use Rattle.dap_errors.specs.Reading as errors
 use Rattle.dap_client.proofs.Begun.{error_few}
 use Rattle.dap_client.proofs.Ending.{cut_object, object_bad}
-use Rattle.dap_client.proofs.Filling.{behind_error, error_here}
+use Rattle.error_word.proofs.InMemory.{error_here}
+use Rattle.dap_client.proofs.Filling.{behind_error}
 use Rattle.dap_client.specs.inner.Readers.{IsEnded}
 use Rattle.dap_client.proofs.reader.end_object.Goals as goal
 

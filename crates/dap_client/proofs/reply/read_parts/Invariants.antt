@@ -1,6 +1,6 @@
 use Rattle.std.proofs.Common.{◌≡◌, ◌≤◌, ◌<◌, ◌^◌, ◌++◌, ◌+◌, ◌-◌, ℕ, List, [], IsTrue}
 use Rattle.std.specs.Io.KnownBytes.{Appends, Consumes}
-use Rattle.dap_http.specs.Following.{Follows, body_coding}
+use Rattle.dap_http.specs.Following.{Follows, IsInTime, body_coding}
 use Rattle.dap_client.specs.After.{StandsAfter}
 use Rattle.dap_client.proofs.reply.read_parts.Given as goal
 
@@ -13,12 +13,13 @@ invariant-loop-reader g l =
           × Consumes (from.left l.fn.source) (from.left l.source) taken
           × Appends (to.written l.fn.out) (to.written l.out) text
           × ((bytes : List ℕ) → Follows l.fn.parts bytes [] → Follows l.parts (bytes ++ taken) body)
+          × ((bytes : List ℕ) → Follows l.fn.parts bytes [] → IsInTime (body_coding l.fn.parts) bytes [] → IsInTime (body_coding l.fn.parts) (bytes ++ taken) body)
           × StandsAfter l.reader body text;
       short : l.reader.taken < 2 ^ 40;
       kind : l.reader.kind ≡ l.fn.reader.kind;
       coding : body_coding l.parts ≡ body_coding l.fn.parts;
-      later_reading : from.take_faults l.fn.source ≤ from.take_faults l.source;
-      later_writing : to.put_faults l.fn.out ≤ to.put_faults l.out;
+      reading : from.take_faults l.source ≡ from.take_faults l.fn.source;
+      writing : to.put_faults l.out ≡ to.put_faults l.fn.out;
       stays : IsTrue (from.ended l.fn.source) → IsTrue (from.ended l.source);
       whole : from.whole l.source ≡ from.whole l.fn.source;
       beside_reading : from.beside_reading l.source ≡ from.beside_reading l.fn.source;

@@ -13,8 +13,9 @@ invariant-loop-reader g l =
       room : length l.room ≡ 65536;
       quiet : HasPutNothing l.reader → sink.written l.out ≡ sink.written l.fn.out;
       failed : HasFailed l.reader → HasFailed l.fn.reader ⊎ Rose (sink.put_faults l.fn.out) (sink.put_faults l.out);
+      kept : ¬ (HasFailed l.reader) → sink.put_faults l.out ≡ sink.put_faults l.fn.out;
       puts : sink.put_faults l.fn.out ≤ sink.put_faults l.out;
-      takes : source.take_faults l.fn.source ≤ source.take_faults l.source;
+      takes : source.take_faults l.source ≡ source.take_faults l.fn.source;
       whole : source.whole l.source ≡ source.whole l.fn.source;
       beside_reading : source.beside_reading l.source ≡ source.beside_reading l.fn.source;
       beside_writing : sink.beside_writing l.out ≡ sink.beside_writing l.fn.out;

@@ -1,5 +1,6 @@
+use Rattle.std.proofs.Common.{◌∙◌}
 use Rattle.dap_client.proofs.Few.{no_more, none_more}
-use Rattle.dap_client.proofs.Told.{none_taken, on_bad_reply, on_complete, on_write_fault, only_answers, stopped, told, where_whole}
+use Rattle.dap_client.proofs.Told.{err_of, none_taken, on_bad_reply, on_complete, on_write_fault, only_answers, stopped, told, where_whole}
 use Rattle.dap_client.proofs.showing.show.Goals as goal
 
 pub returns-in_default-clause-memory : goal.returns-in_default-clause-memory
@@ -37,3 +38,9 @@ returns-in-Ok-read_body-clause-most g c = no_more _ _ _ _ c.read_body.new.reader
 
 pub returns-clause-most : goal.returns-clause-most
 returns-clause-most g c = no_more _ _ _ _ c.read_body.new.reader c.read_body.ensures.reads
+
+pub returns-in-Ok-read_body-clause-kept_writing : goal.returns-in-Ok-read_body-clause-kept_writing
+returns-in-Ok-read_body-clause-kept_writing g c = λ n. c.finish.ensures.kept n ∙ c.read_body.ensures.kept (λ failed. n (c.finish.ensures.failed failed))
+
+pub returns-clause-kept_writing : goal.returns-clause-kept_writing
+returns-clause-kept_writing g c = λ n. err_of _ _ c.in-Err.is c.read_body.ensures.none_put

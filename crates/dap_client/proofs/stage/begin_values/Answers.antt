@@ -31,3 +31,9 @@ returns-in-Err-clause-stage g c bytes long none h =
     let d = dataset_view c.args.dataset in
     let (k, le, sent) = c.in-Err.ensures.err in
     (take k c.bytes.result.now, sent, subst (λ l. StopsWithin (bytes ++ c.args.piece.now) (take k l)) (sym (c.bytes.ensures ∙ c.in-Ok.ensures.text)) (dds_fault d bytes c.args.piece.now k h))
+
+pub returns-in-Ok-put_all-clause-kept : goal.returns-in-Ok-put_all-clause-kept
+returns-in-Ok-put_all-clause-kept g c = λ n. c.read_values.ensures.kept n ∙ c.in-Ok-put_all.ensures.cause.kept
+
+pub returns-in-Err-clause-kept : goal.returns-in-Err-clause-kept
+returns-in-Err-clause-kept g c = λ n. absurd (n refl)

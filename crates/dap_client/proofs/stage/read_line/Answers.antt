@@ -3,7 +3,7 @@ use Rattle.std.proofs.KnownBytes.{Appends-nil}
 use Rattle.dap_types.specs.View.{dataset_view}
 use Rattle.dap_client.proofs.Lines.{differs_within, line_head, line_on, line_refused}
 use Rattle.dap_client.proofs.Values.{slice_seam, slice_small, taken_front}
-use Rattle.dap_client.specs.inner.FirstWords.{IsNoError}
+use Rattle.error_word.specs.inner.FirstWords.{IsNoError}
 use Rattle.dap_client.specs.inner.Stages.{IsStage, Moves}
 use Rattle.dap_client.proofs.stage.read_line.Goals as goal
 

@@ -2,7 +2,7 @@ use Rattle.std.proofs.Common.{arith, ◌+◌, ◌^◌, ◌++◌, [], take, refl,
 use Rattle.std.proofs.KnownBytes.{Appends-nil}
 use Rattle.dap_client.proofs.Texts.{done_in_piece, few_in_piece, text_refused}
 use Rattle.dap_client.proofs.Values.{slice_seam, slice_small, taken_front}
-use Rattle.dap_client.specs.inner.FirstWords.{IsNoError}
+use Rattle.error_word.specs.inner.FirstWords.{IsNoError}
 use Rattle.dap_client.specs.inner.Stages.{IsStage, Moves}
 use Rattle.dap_client.proofs.stage.read_text.Goals as goal
 

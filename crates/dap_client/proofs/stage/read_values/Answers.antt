@@ -3,7 +3,7 @@ use Rattle.dap_outside.specs.Causes.{Rose}
 use Rattle.dap_client.proofs.Values.{fault_piece, on_end, on_piece, refused_piece, rose_here, trailing_piece}
 use Rattle.dap_client.specs.inner.Stages.{IsStage}
 use Rattle.dap_client.proofs.stage.read_values.Goals as goal
-use Rattle.std.proofs.Common.{inl}
+use Rattle.std.proofs.Common.{inl, refl}
 
 pub returns-then-used-piece-clause-stage : goal.returns-then-used-piece-clause-stage
 returns-then-used-piece-clause-stage g c bytes put long none o =
@@ -38,3 +38,6 @@ pub returns-in-WriteFault-clause-cause : goal.returns-in-WriteFault-clause-cause
 returns-in-WriteFault-clause-cause g c =
     let (bytes, put, long, o) = c.requires.stands in
     rose_here c.args.decoder bytes put (Rose (g.O.Sink.put_faults c.args.out.now) (g.O.Sink.put_faults c.push.new.out)) o c.in-WriteFault.ensures.cause
+
+pub returns-in-WriteFault-clause-kept : goal.returns-in-WriteFault-clause-kept
+returns-in-WriteFault-clause-kept g c = λ n. absurd (n refl)

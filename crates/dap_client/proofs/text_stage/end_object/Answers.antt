@@ -1,6 +1,7 @@
 use Rattle.std.proofs.Common.{[], append-nil, refl, sym, subst, ◌∙◌, inl, inr}
 use Rattle.dap_errors.specs.Reading as errors
-use Rattle.dap_client.proofs.Filling.{behind_error, error_here}
+use Rattle.error_word.proofs.InMemory.{error_here}
+use Rattle.dap_client.proofs.Filling.{behind_error}
 use Rattle.dap_client.specs.inner.TextBodies.{IsTextEnded}
 use Rattle.dap_client.proofs.text_stage.end_object.Goals as goal
 

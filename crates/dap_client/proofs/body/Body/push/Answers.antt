@@ -1,5 +1,5 @@
 use Rattle.std.proofs.Common.{◌+◌, length, length-append, ap, sym, subst, ◌∙◌}
-use Rattle.dap_client.proofs.Wrapped.{err_some}
+use Rattle.dap_client.proofs.Wrapped.{err_some, some_err}
 use Rattle.dap_client.specs.After.{IsPart, StandsAfter, form_in}
 use Rattle.dap_client.proofs.body.Body.push.Goals as goal
 
@@ -28,3 +28,9 @@ returns-in-Ok-clause-open g c = λ none. c.in-Ok.ensures.goes_on
 
 pub returns-in-Err-clause-fault : goal.returns-in-Err-clause-fault
 returns-in-Err-clause-fault g c = λ is. c.read-read.ensures.fault (c.in-Err.is ∙ err_some _ _ is)
+
+pub returns-in-Ok-clause-kept : goal.returns-in-Ok-clause-kept
+returns-in-Ok-clause-kept g c = λ n. c.in-Ok.ensures.kept (λ e. cc)
+
+pub returns-in-Err-clause-kept : goal.returns-in-Err-clause-kept
+returns-in-Err-clause-kept g c = λ n. c.in-Err.ensures.kept (λ e. n (some_err _ _ e))

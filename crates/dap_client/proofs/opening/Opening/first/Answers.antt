@@ -1,5 +1,5 @@
 use Rattle.std.proofs.Common.{◌∙◌, sym}
-use Rattle.dap_client.proofs.FirstWords.{plain_byte}
+use Rattle.error_word.proofs.FirstWords.{plain_byte}
 use Rattle.dap_client.proofs.Openings.{sign_whole, white_on, word_begins}
 use Rattle.dap_client.proofs.opening.Opening.first.Goals as goal
 

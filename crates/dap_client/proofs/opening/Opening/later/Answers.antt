@@ -1,5 +1,5 @@
 use Rattle.std.proofs.Common.{◌∙◌, sym}
-use Rattle.dap_client.proofs.FirstWords.{plain_byte}
+use Rattle.error_word.proofs.FirstWords.{plain_byte}
 use Rattle.dap_client.proofs.Openings.{word_on, word_sign, word_white}
 use Rattle.dap_client.proofs.opening.Opening.later.Goals as goal
 

@@ -35,3 +35,6 @@ read-stage-requires-clause-still_open g c = ap is_open_stage c.replace-stage.ens
 
 pub read-stage-requires-clause-small : goal.read-stage-requires-clause-small
 read-stage-requires-clause-small g c = omega (arith, c.requires.within)
+
+pub returns-clause-kept : goal.returns-clause-kept
+returns-clause-kept g c = λ n. c.read-stage.ensures.kept (λ failed. n (c.stage_at.ensures.failed failed))

@@ -7,7 +7,7 @@ use Rattle.dap_client.proofs.replies.Replies.next.Goals as goal
 
 pub returns-clause-only : goal.returns-clause-only
 returns-clause-only g c none left behind coding n v is has given =
-    let (t, x, before, put, told, few) = c.read_one-outcome.ensures.tells in
+    let (t, x, before, put, told, stops) = c.read_one-outcome.ensures.tells in
     let form = form_of c.args.kind in
     let (more, now, whole) = left_over _ _ left t is before in
     let all = ap (λ l. rest_of c.args.self.now.heads ++ l) whole ∙ sym (append_assoc (rest_of c.args.self.now.heads) t more) in

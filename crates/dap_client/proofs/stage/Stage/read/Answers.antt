@@ -66,3 +66,6 @@ read_line-requires-clause-stands g c = let (bytes, put, long, o) = c.requires.st
 
 pub read_values-requires-clause-stands : goal.read_values-requires-clause-stands
 read_values-requires-clause-stands g c = let (bytes, put, long, o) = c.requires.stands in let (none, values) = rw c.in-Values.is at o in (bytes, put, long, values.begun)
+
+pub returns-in-Failed-clause-kept : goal.returns-in-Failed-clause-kept
+returns-in-Failed-clause-kept g c = absurd (false≢true (rw c.in-Failed.is at c.requires.still_open))

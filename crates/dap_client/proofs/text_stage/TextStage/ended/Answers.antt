@@ -1,5 +1,5 @@
 use Rattle.std.proofs.Common.{[], append-nil, subst}
-use Rattle.dap_client.proofs.Filling.{no_error, no_error_here}
+use Rattle.error_word.proofs.InMemory.{no_error, no_error_here}
 use Rattle.dap_client.specs.Verdict.{Judges, bad}
 use Rattle.dap_client.proofs.text_stage.TextStage.ended.Goals as goal
 

@@ -1,9 +1,0 @@
-use Rattle.std.proofs.Common.{refl}
-use Rattle.dap_client.proofs.TextBodies.{das_whole}
-use Rattle.dap_client.proofs.text_body.end_whole.Goals as goal
-
-pub returns-in-Ok : goal.returns-in-Ok
-returns-in-Ok c bytes long none whole o = (refl, das_whole bytes _ none whole (c.in-Ok.ensures.good bytes long o))
-
-pub returns-in-Err-Refused : goal.returns-in-Err-Refused
-returns-in-Err-Refused c bytes long none whole o = das_whole bytes _ none whole (rw c.in-Err-Refused.field-0-is at (c.in-Err-Refused.ensures.bad bytes long o))
