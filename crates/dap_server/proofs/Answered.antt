@@ -1,5 +1,5 @@
 -- The answer to a request, from what was put of it.
-use Rattle.std.proofs.Common.{◌≡◌, ◌≢◌, ℕ, ◌+◌, ◌-◌, ◌≤◌, Bool, false, true, List, ◌++◌, Option, Some, None, IsTrue, Ok, Err, refl, sym, ap, ◌∙◌, subst, arith, append_assoc, inl, inr, ◌⊎◌}
+use Rattle.std.proofs.Common.{◌≡◌, ◌≢◌, ℕ, ◌+◌, ◌≤◌, Bool, false, true, List, ◌++◌, Option, Some, None, IsTrue, Ok, Err, refl, sym, ◌∙◌, subst, arith, inl, inr, ◌⊎◌}
 use Rattle.std.proofs.KnownBytes.{Appends-trans}
 use Rattle.std.specs.Io.KnownBytes.{Appends}
 use Rattle.dap_errors.specs.declared.cause.Cause.{Cause}
@@ -10,17 +10,20 @@ use Rattle.dap_http.specs.declared.kind.Kind.{Kind}
 use Rattle.dap_http.specs.declared.kind.Kind.TheVariants.{Dods, Dds, Das, Ver}
 use Rattle.dap_outside.specs.Causes.{Rose}
 use Rattle.dap_outside.specs.Files.{Told}
+use Rattle.dap_outside.specs.Streams.{AppendsFront}
 use Rattle.xdr_encode.specs.Streamed.{HasStreamCauses}
 use Rattle.xdr_encode.specs.declared.streamed.Streamed.{Streamed}
 use Rattle.xdr_encode.specs.declared.streamed.Streamed.TheVariants as streamed
-use Rattle.dap_server.specs.Connections.{IsPart, MayAnswer, MayAsk, RoseBy, has_failed}
+use Rattle.dap_server.specs.Connections.{FailedBy, MayAnswer, MayAsk, has_failed}
 use Rattle.dap_server.specs.Costs.{IsCost, asks_shelf, most_first}
 use Rattle.dap_server.specs.Prepared.{MayGive}
 use Rattle.dap_server.specs.Replies.{Request, is_head}
 use Rattle.dap_server.specs.Results.{text_of}
 use Rattle.dap_server.specs.declared.turn.Answered.{Answered}
 use Rattle.dap_server.specs.declared.turn.Answered.TheVariants as answered
-use Rattle.dap_server.specs.inner.Serving.{Answers, AnswersWith, Costs, PutsCause, PutsFramed, PutsReply, PutsText, PutsValues, SaysWhole, Stand, answered_by, broken, data_front}
+use Rattle.dap_server.specs.inner.Serving.{Answers, AnswersWith, Costs, PutsCause, PutsFramed, PutsReply, PutsText, PutsValues, SaysWhole, ShelfRose, SinkRose, Stand, answered_by, broken, data_front, is_open}
+use Rattle.dap_server.proofs.Failing.{calm, failed-once, failed-open}
+use Rattle.dap_server.proofs.Puts.{part-behind, part-longer, part-of}
 use Rattle.dap_server.proofs.Refusals.{refused-calm}
 use Rattle.dap_server.proofs.Replying.{bad-method, bad-target, failed, gives, head-reply, memory-answer, not-broken, or-false, reply-known, reply-put}
 use Rattle.dap_server.proofs.Requesting.{cause-asks, nothing-asked, stand, text-asks}
@@ -29,27 +32,29 @@ use Rattle.dap_server.proofs.Requesting.{cause-asks, nothing-asked, stand, text-
 
 pub values-put : (front text : List ℕ) (ends : Bool) (w w1 w2 : Option (List ℕ)) (s : Streamed) (r : Answered) → r ≡ answered_by ends s → Appends w w1 front → PutsFramed text w1 w2 s → PutsValues front text ends w w2 r
 values-put front text ends w w1 w2 streamed.Sent r is first puts = subst (PutsValues front text ends w w2) (sym is) (Appends-trans w w1 w2 front text first puts)
-values-put front text ends w w1 w2 streamed.ShelfFault r is first (part, appends, more) = subst (PutsValues front text ends w w2) (sym is) (part, Appends-trans w w1 w2 front part first appends, more)
-values-put front text ends w w1 w2 streamed.WriteFault r is first (part, appends, (rest, e)) =
-    subst (PutsValues front text ends w w2) (sym is) (front ++ part, Appends-trans w w1 w2 front part first appends, (rest, ap (λ t. front ++ t) e ∙ sym (append_assoc front part rest)))
+values-put front text ends w w1 w2 streamed.ShelfFault r is first (part, more, appends) = subst (PutsValues front text ends w w2) (sym is) (part, more, Appends-trans w w1 w2 front part first appends)
+values-put front text ends w w1 w2 streamed.WriteFault r is first (part, more, appends) =
+    subst (PutsValues front text ends w w2) (sym is) (front ++ part, part-behind front part text more, Appends-trans w w1 w2 front part first appends)
 
-pub values-front : (front text : List ℕ) (ends : Bool) (w w1 : Option (List ℕ)) → ((part : List ℕ) × IsPart front part × Appends w w1 part) → PutsValues front text ends w w1 answered.WriteFault
-values-front front text ends w w1 (part, (rest, is, some), appends) = (part, appends, (rest ++ text, ap (λ f. f ++ text) is ∙ append_assoc part rest text))
+pub values-front : (front text : List ℕ) (ends : Bool) (w w1 : Option (List ℕ)) → AppendsFront w w1 front → PutsValues front text ends w w1 answered.WriteFault
+values-front front text ends w w1 front_only =
+    let (part, cut, appends) = part-of w w1 front front_only in
+    (part, part-longer part front text cut, appends)
 
 pub says-whole : (ends : Bool) (s : Streamed) (r : Answered) → r ≡ answered_by ends s → SaysWhole ends r
 says-whole ends streamed.Sent r is = subst (SaysWhole ends) (sym is) (refl, refl)
 says-whole ends streamed.ShelfFault r is = subst (SaysWhole ends) (sym is) tt
 says-whole ends streamed.WriteFault r is = subst (SaysWhole ends) (sym is) tt
 
-pub shelf-rose : (ends : Bool) (s : Streamed) (r : Answered) (f f' p p' : ℕ) → r ≡ answered_by ends s → HasStreamCauses s f f' p p' → r ≡ answered.Broken → Rose f f'
-shelf-rose ends streamed.Sent r f f' p p' is cause e = cc (is, e)
-shelf-rose ends streamed.ShelfFault r f f' p p' is cause e = cause.failed
-shelf-rose ends streamed.WriteFault r f f' p p' is cause e = cc (is, e)
+pub shelf-rose : (ends : Bool) (s : Streamed) (r : Answered) (f f' p p' : ℕ) → r ≡ answered_by ends s → HasStreamCauses s f f' p p' → ShelfRose r f f'
+shelf-rose ends streamed.Sent r f f' p p' is cause = subst (λ x. ShelfRose x f f') (sym is) cause.failed.0
+shelf-rose ends streamed.ShelfFault r f f' p p' is cause = subst (λ x. ShelfRose x f f') (sym is) cause.failed.0
+shelf-rose ends streamed.WriteFault r f f' p p' is cause = subst (λ x. ShelfRose x f f') (sym is) cause.reads_later
 
-pub sink-rose : (ends : Bool) (s : Streamed) (r : Answered) (f f' p0 p p' : ℕ) → r ≡ answered_by ends s → HasStreamCauses s f f' p p' → p0 ≤ p → r ≡ answered.WriteFault → Rose p0 p'
-sink-rose ends streamed.Sent r f f' p0 p p' is cause le e = cc (is, e)
-sink-rose ends streamed.ShelfFault r f f' p0 p p' is cause le e = cc (is, e)
-sink-rose ends streamed.WriteFault r f f' p0 p p' is cause le e = omega (arith, le, cause.failed)
+pub sink-rose : (ends : Bool) (s : Streamed) (r : Answered) (f f' p0 p p' : ℕ) → r ≡ answered_by ends s → HasStreamCauses s f f' p p' → p ≡ p0 → SinkRose r p0 p'
+sink-rose ends streamed.Sent r f f' p0 p p' is cause same = subst (λ x. SinkRose x p0 p') (sym is) (cause.failed.1 ∙ same)
+sink-rose ends streamed.ShelfFault r f f' p0 p p' is cause same = subst (λ x. SinkRose x p0 p') (sym is) (cause.failed.1 ∙ same)
+sink-rose ends streamed.WriteFault r f f' p0 p p' is cause same = subst (λ x. SinkRose x p0 p') (sym is) (subst (λ m. Rose m p') same cause.failed.0)
 
 -- ---- one request
 
@@ -57,15 +62,16 @@ pub costs-less : (told : Told) (a : Asked) (most asked asked' : ℕ) → ((cost 
 costs-less told a most asked asked' (cost, is, le) few = (cost, is, omega (arith, le, few))
 
 pub head-answer : (told : Told) (q : Request) (a : Asked) (front : List ℕ) (s z : Stand) (result : Answered) → is_head q ≡ true → front ≡ data_front q → is_other q.method ≡ false → target_of q.target ≡ Some a
-    → PutsText front 200 q.ends s.written z.written result → ((text : List ℕ) × MayGive told a (Ok (text_of Dods text))) → s.faults ≤ z.faults
+    → PutsText front 200 q.ends s.written z.written result → ((text : List ℕ) × MayGive told a (Ok (text_of Dods text))) → z.faults ≡ s.faults
     → ((cost : ℕ) × IsCost told a cost × (z.asked ≤ s.asked + cost)) → AnswersWith (Costs told a) told q s z result
-head-answer told q a front s z result head is served target puts (text, may) later costs =
+head-answer told q a front s z result head is served target puts (text, may) same costs =
     let put : PutsReply q (Ok (text_of Dods text)) s.written z.written result =
-    reply-put q (Ok (text_of Dods text)) front 200 q.ends s.written z.written result (head-reply q text front head is) refl (or-false q.ends) puts in (
+    reply-put q (Ok (text_of Dods text)) front 200 q.ends s.written z.written result (head-reply q text front head is) refl (or-false q.ends) puts in
+    let none : broken result ≡ 0 = whole-only front 200 q.ends s.written z.written result puts in (
       Ok (text_of Dods text),
       gives told q a _ served target may,
       reply-known told q (Ok (text_of Dods text)) s.written z.written result put,
-      (let none : broken result ≡ 0 = whole-only front 200 q.ends s.written z.written result puts in omega (arith, later, none)),
+      calm _ _ s.faults z.faults (omega (arith, none)) same,
       costs,
     )
   where
@@ -75,27 +81,28 @@ head-answer told q a front s z result head is served target puts (text, may) lat
     whole-only bytes status last old new answered.WriteFault p = refl
 
 -- behind the first read of its file
-pub with-first : (told told1 : Told) (q : Request) (a : Asked) (w : Option (List ℕ)) (f f1 s s1 : ℕ) (z : Stand) (result : Answered) → target_of q.target ≡ Some a → f ≤ f1 → s1 ≤ s + most_first told a.name → told1 ≡ told
+pub with-first : (told told1 : Told) (q : Request) (a : Asked) (w : Option (List ℕ)) (f f1 s s1 : ℕ) (z : Stand) (result : Answered) → target_of q.target ≡ Some a → f1 ≡ f → s1 ≤ s + most_first told a.name → told1 ≡ told
     → AnswersWith (Costs told1 a) told1 q (stand w f1 s1) z result → Answers told q (stand w f s) z result
-with-first told told1 q a w f f1 s s1 z result target later few same answers =
-    let (answer, may, puts, rose, (cost, costs, asked)) = subst (λ t. AnswersWith (Costs t a) t q (stand w f1 s1) z result) same answers in (
+with-first told told1 q a w f f1 s s1 z result target calmly few same answers =
+    let (answer, may, puts, failed, (cost, costs, asked)) = subst (λ t. AnswersWith (Costs t a) t q (stand w f1 s1) z result) same answers in (
       answer,
       may,
       puts,
-      omega (arith, later, rose),
+      subst (λ n. FailedBy (has_failed answer + broken result) (is_open q answer result) n z.faults) calmly failed,
       (most_first told a.name + cost, subst (λ o. MayAsk told o answer (most_first told a.name + cost)) (sym target) (cost, costs, refl), omega (arith, few, asked)),
     )
 
 pub text-answer : (told : Told) (q : Request) (a : Asked) (kind : Kind) (text : List ℕ) (w w2 : Option (List ℕ)) (f f1 s s1 : ℕ) (result : Answered) → kind ≢ Dods → is_other q.method ≡ false → target_of q.target ≡ Some a
-    → MayGive told a (Ok (text_of kind text)) → f ≤ f1 → s1 ≤ s + most_first told a.name
+    → MayGive told a (Ok (text_of kind text)) → f1 ≡ f → s1 ≤ s + most_first told a.name
     → (PutsReply q (Ok (text_of kind text)) w w2 result ⊎ PutsReply q (Err OutOfMemory) w w2 result) → Answers told q (stand w f s) (stand w2 f1 s1) result
-text-answer told q a kind text w w2 f f1 s s1 result other served target may later few (inl puts) = (
-  Ok (text_of kind text),
-  gives told q a _ served target may,
-  reply-known told q (Ok (text_of kind text)) w w2 result puts,
-  (let none : broken result ≡ 0 = text-whole kind text w w2 result other puts in omega (arith, later, none)),
-  text-asks told (target_of q.target) a kind text s s1 other target few,
-)
+text-answer told q a kind text w w2 f f1 s s1 result other served target may same few (inl puts) =
+    let none : broken result ≡ 0 = text-whole kind text w w2 result other puts in (
+      Ok (text_of kind text),
+      gives told q a _ served target may,
+      reply-known told q (Ok (text_of kind text)) w w2 result puts,
+      calm _ _ f f1 (omega (arith, none)) same,
+      text-asks told (target_of q.target) a kind text s s1 other target few,
+    )
   where
     text-whole : (k : Kind) (t : List ℕ) (old new : Option (List ℕ)) (r : Answered) → k ≢ Dods → PutsReply q (Ok (text_of k t)) old new r → broken r ≡ 0
     text-whole k t old new (answered.Whole status last) o p = refl
@@ -104,48 +111,60 @@ text-answer told q a kind text w w2 f f1 s s1 result other served target may lat
     text-whole Dds t old new answered.Broken o (part, is, appends) = cc is.values
     text-whole Das t old new answered.Broken o (part, is, appends) = cc is.values
     text-whole Ver t old new answered.Broken o (part, is, appends) = cc is.values
-text-answer told q a kind text w w2 f f1 s s1 result other served target may later few (inr puts) =
-    memory-answer (MayAsk told (target_of q.target)) told q (stand w f s) (stand w2 f1 s1) result puts later (cause-asks told (target_of q.target) a OutOfMemory s s1 target few)
+text-answer told q a kind text w w2 f f1 s s1 result other served target may same few (inr puts) =
+    memory-answer (MayAsk told (target_of q.target)) told q (stand w f s) (stand w2 f1 s1) result puts same (cause-asks told (target_of q.target) a OutOfMemory s s1 target few)
 
-cause-put : (told : Told) (q : Request) (cause : Cause) (w w2 : Option (List ℕ)) (f f1 s s1 : ℕ) (result : Answered) → MayAnswer told q (Err cause) → RoseBy (has_failed (Err cause)) f f1
+cause-put : (told : Told) (q : Request) (cause : Cause) (w w2 : Option (List ℕ)) (f f1 s s1 : ℕ) (result : Answered) → MayAnswer told q (Err cause)
+    → ((n : ℕ) → n ≡ has_failed (Err cause) → FailedBy n (is_open q (Err cause) result) f f1)
     → ((k : Cause) → (n : ℕ) × MayAsk told (target_of q.target) (Err k) n × (s1 ≤ s + n)) → PutsReply q (Err cause) w w2 result → Answers told q (stand w f s) (stand w2 f1 s1) result
-cause-put told q cause w w2 f f1 s s1 result may rose asks puts =
-    (Err cause, may, reply-known told q (Err cause) w w2 result puts, (let none : broken result ≡ 0 = not-broken q cause w w2 result puts in omega (arith, rose, none)), asks cause)
+cause-put told q cause w w2 f f1 s s1 result may failed asks puts =
+    let none : broken result ≡ 0 = not-broken q cause w w2 result puts in
+    (Err cause, may, reply-known told q (Err cause) w w2 result puts, failed (has_failed (Err cause) + broken result) (omega (arith, none)), asks cause)
 
 -- a cause, or a want of memory in its place
-pub cause-answer : (told : Told) (q : Request) (cause : Cause) (w w2 : Option (List ℕ)) (f f1 s s1 : ℕ) (result : Answered) → MayAnswer told q (Err cause) → RoseBy (has_failed (Err cause)) f f1 → f ≤ f1
+pub cause-answer : (told : Told) (q : Request) (cause : Cause) (w w2 : Option (List ℕ)) (f f1 s s1 : ℕ) (result : Answered) → MayAnswer told q (Err cause) → has_failed (Err cause) ≡ 0 → f1 ≡ f
     → ((k : Cause) → (n : ℕ) × MayAsk told (target_of q.target) (Err k) n × (s1 ≤ s + n)) → PutsCause q cause w w2 result → Answers told q (stand w f s) (stand w2 f1 s1) result
-cause-answer told q cause w w2 f f1 s s1 result may rose later asks (final, inl is, puts) =
-    cause-put told q cause w w2 f f1 s s1 result may rose asks (subst (λ k. PutsReply q (Err k) w w2 result) is puts)
-cause-answer told q cause w w2 f f1 s s1 result may rose later asks (final, inr is, puts) =
-    cause-put told q OutOfMemory w w2 f f1 s s1 result (inr (inr refl)) (omega (arith, later)) asks (subst (λ k. PutsReply q (Err k) w w2 result) is puts)
+cause-answer told q cause w w2 f f1 s s1 result may none same asks (final, inl is, puts) =
+    cause-put told q cause w w2 f f1 s s1 result may (λ n e. calm n _ f f1 (e ∙ none) same) asks (subst (λ k. PutsReply q (Err k) w w2 result) is puts)
+cause-answer told q cause w w2 f f1 s s1 result may none same asks (final, inr is, puts) =
+    cause-put told q OutOfMemory w w2 f f1 s s1 result (inr (inr refl)) (λ n e. calm n _ f f1 e same) asks (subst (λ k. PutsReply q (Err k) w w2 result) is puts)
 
 pub refused-answer : (told : Told) (q : Request) (a : Asked) (cause : Cause) (w w2 : Option (List ℕ)) (f f1 s s1 : ℕ) (result : Answered) → is_other q.method ≡ false → target_of q.target ≡ Some a
-    → MayGive told a (Err cause) → f ≤ f1 → s1 ≤ s + most_first told a.name → PutsCause q cause w w2 result → Answers told q (stand w f s) (stand w2 f1 s1) result
-refused-answer told q a cause w w2 f f1 s s1 result served target (files, has, answers) later few puts =
-    let calm : has_failed (Err cause) ≡ 0 = refused-calm files a cause answers in
-    cause-answer told q cause w w2 f f1 s s1 result (gives told q a _ served target (files, has, answers)) (omega (arith, later, calm)) later
+    → MayGive told a (Err cause) → f1 ≡ f → s1 ≤ s + most_first told a.name → PutsCause q cause w w2 result → Answers told q (stand w f s) (stand w2 f1 s1) result
+refused-answer told q a cause w w2 f f1 s s1 result served target (files, has, answers) same few puts =
+    cause-answer told q cause w w2 f f1 s s1 result (gives told q a _ served target (files, has, answers)) (refused-calm files a cause answers) same
     (λ k. cause-asks told (target_of q.target) a k s s1 target few) puts
 
+-- a failed read, or a want of memory in its place
 pub failed-answer : (told : Told) (q : Request) (a : Asked) (w w2 : Option (List ℕ)) (f f1 s s1 : ℕ) (result : Answered) → is_other q.method ≡ false → target_of q.target ≡ Some a
     → (IsTrue (asks_shelf a) × Rose f f1) → f ≤ f1 → s1 ≤ s + most_first told a.name → PutsCause q ReadFailed w w2 result → Answers told q (stand w f s) (stand w2 f1 s1) result
-failed-answer told q a w w2 f f1 s s1 result served target (asks, rose) later few puts =
-    cause-answer told q ReadFailed w w2 f f1 s s1 result (failed told q a served target asks) rose later (λ k. cause-asks told (target_of q.target) a k s s1 target few) puts
+failed-answer told q a w w2 f f1 s s1 result served target (asks, rose) later few (final, inl is, puts) =
+    cause-put told q ReadFailed w w2 f f1 s s1 result (failed told q a served target asks) (λ n e. failed-once n _ f f1 e rose)
+    (λ k. cause-asks told (target_of q.target) a k s s1 target few) (subst (λ k. PutsReply q (Err k) w w2 result) is puts)
+failed-answer told q a w w2 f f1 s s1 result served target (asks, rose) later few (final, inr is, puts) =
+    let put : PutsReply q (Err OutOfMemory) w w2 result = subst (λ k. PutsReply q (Err k) w w2 result) is puts in
+    cause-put told q OutOfMemory w w2 f f1 s s1 result (inr (inr refl)) (λ n e. failed-open n _ f f1 e (unsaid q w w2 result put) later)
+    (λ k. cause-asks told (target_of q.target) a k s s1 target few) put
+  where
+    unsaid : (q : Request) (old new : Option (List ℕ)) (r : Answered) → PutsReply q (Err OutOfMemory) old new r → is_open q (Err OutOfMemory) r ≡ true
+    unsaid q old new (answered.Whole status last) p = refl
+    unsaid q old new answered.WriteFault p = refl
+    unsaid q old new answered.Broken (part, broke, appends) = cc broke.values
 
-pub wanted-answer : (told : Told) (q : Request) (a : Asked) (w w2 : Option (List ℕ)) (f f1 s s1 : ℕ) (result : Answered) → target_of q.target ≡ Some a → f ≤ f1 → s1 ≤ s + most_first told a.name
+pub wanted-answer : (told : Told) (q : Request) (a : Asked) (w w2 : Option (List ℕ)) (f f1 s s1 : ℕ) (result : Answered) → target_of q.target ≡ Some a → f1 ≡ f → s1 ≤ s + most_first told a.name
     → PutsReply q (Err OutOfMemory) w w2 result → Answers told q (stand w f s) (stand w2 f1 s1) result
-wanted-answer told q a w w2 f f1 s s1 result target later few puts =
-    memory-answer (MayAsk told (target_of q.target)) told q (stand w f s) (stand w2 f1 s1) result puts later (cause-asks told (target_of q.target) a OutOfMemory s s1 target few)
+wanted-answer told q a w w2 f f1 s s1 result target same few puts =
+    memory-answer (MayAsk told (target_of q.target)) told q (stand w f s) (stand w2 f1 s1) result puts same (cause-asks told (target_of q.target) a OutOfMemory s s1 target few)
 
 -- without a file
 pub method-answer : (told : Told) (q : Request) (w w2 : Option (List ℕ)) (f s : ℕ) (result : Answered) → is_other q.method ≡ true → PutsCause q BadMethod w w2 result → Answers told q (stand w f s) (stand w2 f s) result
 method-answer told q w w2 f s result other puts =
-    cause-answer told q BadMethod w w2 f f s s result (bad-method told q other) (omega arith) (omega arith) (λ k. nothing-asked told (target_of q.target) k s s (omega arith)) puts
+    cause-answer told q BadMethod w w2 f f s s result (bad-method told q other) refl refl (λ k. nothing-asked told (target_of q.target) k s s (omega arith)) puts
 
 pub target-answer : (told : Told) (q : Request) (w w2 : Option (List ℕ)) (f s : ℕ) (result : Answered) → is_other q.method ≡ false → target_of q.target ≡ None → PutsCause q BadTarget w w2 result → Answers told q (stand w f s) (stand w2 f s) result
 target-answer told q w w2 f s result served none puts =
-    cause-answer told q BadTarget w w2 f f s s result (bad-target told q served none) (omega arith) (omega arith) (λ k. nothing-asked told (target_of q.target) k s s (omega arith)) puts
+    cause-answer told q BadTarget w w2 f f s s result (bad-target told q served none) refl refl (λ k. nothing-asked told (target_of q.target) k s s (omega arith)) puts
 
 pub early-answer : (told : Told) (q : Request) (w w2 : Option (List ℕ)) (f s : ℕ) (result : Answered) → PutsReply q (Err OutOfMemory) w w2 result → Answers told q (stand w f s) (stand w2 f s) result
 early-answer told q w w2 f s result puts =
-    memory-answer (MayAsk told (target_of q.target)) told q (stand w f s) (stand w2 f s) result puts (omega arith) (nothing-asked told (target_of q.target) OutOfMemory s s (omega arith))
+    memory-answer (MayAsk told (target_of q.target)) told q (stand w f s) (stand w2 f s) result puts refl (nothing-asked told (target_of q.target) OutOfMemory s s (omega arith))

@@ -15,8 +15,9 @@ pub mod Ends
 pub mod Replying
 pub mod WholeConnections
 pub mod Puts
+pub mod Failing
+pub mod DataText
 pub mod Refusals
-pub mod Fronting
 pub mod Requesting
 pub mod Answered
 pub mod Connecting

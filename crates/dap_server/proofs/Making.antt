@@ -16,10 +16,10 @@ use Rattle.dap_server.proofs.Lying as lying
 use Rattle.dap_server.proofs.OneAnswer.{one_result}
 use Rattle.dap_server.specs.Costs.{IsFormCost, IsFormCostAt, asks_shelf, is_of_file}
 use Rattle.dap_server.specs.Files.{Files, MayHave, Stored, form_of, table}
-use Rattle.dap_server.specs.Prepared.{asked_of, IsFor, IsOver, MayGive, MustGive, WhereBody, WhereRefuse, WhereText}
+use Rattle.dap_server.specs.Prepared.{asked_of, IsFor, IsOver, MayGive, MustGive, WhereBody, WhereNoShelfFault, WhereRefuse, WhereText}
 use Rattle.dap_server.specs.Results.{Opens, Text, das_text, text_of}
 use Rattle.dap_server.specs.Steps.{Is, Then}
-use Rattle.dap_server.specs.inner.Opening.{Lies, OpenedAs, WhereFault, WhereRefused, attributes_in, stored_of}
+use Rattle.dap_server.specs.inner.Opening.{Lies, OpenedAs, StaysBut, WhereFault, WhereRefused, attributes_in, stored_of}
 use Rattle.dap_server.specs.inner.Preparing.{IsMade, MayGiveAs, body_prepared, text_prepared}
 use Rattle.dap_server.specs.declared.open.Opened.{Opened}
 use Rattle.dap_server.specs.declared.open.Opened.TheVariants as opened
@@ -212,3 +212,24 @@ IsText Dods = ⊥
 
 pub no_data : (k : Kind) → IsText k → k ≢ Dods
 no_data k is = λ e. subst IsText e is
+
+-- ---- the shelf's count
+
+-- whatever the step gave
+pub still_stays : {V : Type 0} (r : Result V Stop) (f f1 : ℕ) → f1 ≡ f → StaysBut r f f1
+still_stays (Ok v) f f1 same = same
+still_stays (Err (Refused why)) f f1 same = same
+still_stays (Err ShelfFault) f f1 same = tt
+still_stays (Err Memory) f f1 same = same
+
+pub text_stays : {F : Type 0} (k : Kind) (r : Result (List ℕ) Stop) (p : Prepared F) (f f1 : ℕ) → p ≡ text_prepared k r → StaysBut r f f1 → WhereNoShelfFault p (f1 ≡ f)
+text_stays k (Ok text) p f f1 is stays = rw is stays
+text_stays k (Err (Refused why)) p f f1 is stays = rw is stays
+text_stays k (Err ShelfFault) p f f1 is stays = rw is tt
+text_stays k (Err Memory) p f f1 is stays = rw is stays
+
+pub body_stays : {F : Type 0} (r : Result (Body × F) Stop) (p : Prepared F) (f f1 : ℕ) → p ≡ body_prepared r → StaysBut r f f1 → WhereNoShelfFault p (f1 ≡ f)
+body_stays (Ok (b, file)) p f f1 is stays = rw is stays
+body_stays (Err (Refused why)) p f f1 is stays = rw is stays
+body_stays (Err ShelfFault) p f f1 is stays = rw is tt
+body_stays (Err Memory) p f f1 is stays = rw is stays

@@ -1,29 +1,31 @@
 -- How the bytes that are put are the reply of an answer.
-use Rattle.std.proofs.Common.{◌≡◌, ◌≢◌, ℕ, ◌+◌, ◌≤◌, Bool, false, true, ◌||◌, not, List, [], ◌++◌, length, Option, Some, None, IsSome, IsTrue, if◌then◌else◌, Result, Ok, Err, refl, sym, ap, ◌∙◌, subst, arith, append-nil, append_assoc, inl, inr}
+use Rattle.std.proofs.Common.{◌≡◌, ◌≢◌, ℕ, ◌+◌, ◌<◌, ◌≤◌, Bool, false, true, ◌&&◌, ◌||◌, not, List, [], ◌++◌, length, Option, Some, None, IsSome, IsTrue, if◌then◌else◌, Result, Ok, Err, refl, sym, ap, ◌∙◌, subst, arith, append-nil, append_assoc, length-append, codes, inl, inr, ◌⊎◌}
 use Rattle.std.proofs.lemmas.Bool.{true≢false}
 use Rattle.std.specs.Io.KnownBytes.{Appends}
+use Rattle.std.specs.Option.{option_map_or}
 use Rattle.dap_errors.specs.declared.cause.Cause.{Cause}
 use Rattle.dap_errors.specs.declared.cause.Cause.TheVariants.{BadMethod, BadTarget, OutOfMemory, ReadFailed}
+use Rattle.dap_http.proofs.Fronts.{chunked-some}
 use Rattle.dap_http.specs.Frames.{framed}
 use Rattle.dap_http.specs.Requests.{is_other}
 use Rattle.dap_http.specs.Targets.{Asked, target_of}
-use Rattle.dap_http.specs.Texts.{description_of, head_text, is_chunked, memory_error, memory_text}
+use Rattle.dap_http.specs.Texts.{allow_line, close_line, description_lines, description_of, head_text, is_chunked, length_line, memory_error, memory_text, server_lines, status_line}
 use Rattle.dap_http.specs.declared.kind.Kind.{Kind}
 use Rattle.dap_http.specs.declared.kind.Kind.TheVariants.{Dds, Das, Dods, Ver}
-use Rattle.dap_outside.specs.Causes.{Rose}
 use Rattle.dap_outside.specs.Files.{Told}
-use Rattle.dap_server.specs.Connections.{LooksForFile, MayAnswer, RoseBy, sends_values}
+use Rattle.dap_server.specs.Connections.{FailedBy, LooksForFile, MayAnswer, has_failed, is_hidden, is_read_late, is_table, sends_values}
 use Rattle.dap_server.specs.Costs.{IsCost, asks_shelf}
-use Rattle.dap_server.specs.Files.{Files, MayHave}
-use Rattle.dap_server.specs.Prepared.{MayGive}
+use Rattle.dap_server.specs.Files.{Files, Form, MayHave, form_of, netcdf, table}
+use Rattle.dap_server.specs.Prepared.{IsOver, MayGive}
 use Rattle.dap_server.specs.Replies.{Request, error_head, head_of, is_head, is_last, reply_of, status_of}
-use Rattle.dap_server.specs.Results.{Results, Text, asked, error_object, text_of}
+use Rattle.dap_server.specs.Results.{Results, Text, error_object, text_of}
 use Rattle.dap_server.specs.Steps.{found_or}
 use Rattle.dap_server.specs.declared.turn.Answered.{Answered}
 use Rattle.dap_server.specs.declared.turn.Answered.TheVariants as answered
-use Rattle.dap_server.specs.inner.Serving.{AnswersWith, Costs, PutsReply, PutsText, PutsValues, SaysWhole, Stand, broken, data_front, known}
+use Rattle.dap_server.specs.inner.Serving.{AnswersWith, Costs, IsPutOf, PutsKnown, PutsReply, PutsText, PutsValues, SaysWhole, ShelfRose, Stand, broken, data_front, is_open}
 use Rattle.dap_server.proofs.Choices.{where_true, where_false}
-use Rattle.dap_server.proofs.Ends.{appends-known}
+use Rattle.dap_server.proofs.DataText.{data-some}
+use Rattle.dap_server.proofs.Failing.{calm, failed-once}
 
 -- ---- texts that stand whole
 
@@ -31,7 +33,7 @@ pub reply-put : (q : Request) (answer : Result Text Cause) (bytes : List ℕ) (s
     → bytes ≡ reply_of q answer → status ≡ status_of answer → last ≡ is_last q answer → PutsText bytes status last old new result → PutsReply q answer old new result
 reply-put q answer bytes status last old new (answered.Whole s l) is st la (ps, pl, appends) = (ps ∙ st, pl ∙ la, subst (Appends old new) is appends)
 reply-put q answer bytes status last old new answered.Broken is st la p = absurd p
-reply-put q answer bytes status last old new answered.WriteFault is st la (part, (rest, whole, more), appends) = (part, (rest, sym is ∙ whole, λ _. more), appends)
+reply-put q answer bytes status last old new answered.WriteFault is st la (part, (rest, more, whole), appends) = (part, (rest, more, sym is ∙ whole), appends)
 
 pub or-false : (b : Bool) → b ≡ (b || false)
 or-false true = refl
@@ -81,42 +83,72 @@ get-reply q text front is e =
 values-out : (q : Request) (text : List ℕ) → is_head q ≡ false → sends_values q (Ok (text_of Dods text)) ≡ true
 values-out q text is = ap not is
 
-no-cut : (q : Request) (text rest : List ℕ) → is_head q ≡ false → sends_values q (Ok (text_of Dods text)) ≡ false → rest ≢ []
-no-cut q text rest is f = absurd (true≢false (sym (values-out q text is) ∙ f))
-
 pub values-reply : (q : Request) (text front : List ℕ) (old new : Option (List ℕ)) (result : Answered) → is_head q ≡ false → front ≡ data_front q
     → PutsValues front (framed (is_chunked Dods q.minor) text) q.ends old new result → SaysWhole q.ends result → PutsReply q (Ok (text_of Dods text)) old new result
 values-reply q text front old new (answered.Whole status last) get is appends (s, l) =
     (s, l ∙ or-false q.ends, subst (Appends old new) (sym (get-reply q text front get is)) appends)
-values-reply q text front old new answered.Broken get is (part, appends, (rest, e)) says =
-    let body : List ℕ = framed (is_chunked Dods q.minor) text in
+values-reply q text front old new answered.Broken get is (part, (rest, some, e), appends) says =
     let same : data_front q ≡ head_of q (Ok (text_of Dods text)) = ap (head_text 200 (description_of Dods) None (is_chunked Dods q.minor)) (or-false q.ends) in (
       front ++ part,
       record {
         values = values-out q text get;
         head_is_out = (part, ap (λ f. f ++ part) (is ∙ same));
-        breaks_off = (rest, get-reply q text front get is ∙ ap (λ t. front ++ t) e ∙ sym (append_assoc front part rest), no-cut q text rest get);
+        breaks_off = (rest, some, get-reply q text front get is ∙ ap (λ t. front ++ t) e ∙ sym (append_assoc front part rest));
       },
       appends,
     )
-values-reply q text front old new answered.WriteFault get is (part, appends, (rest, e)) says =
-    (part, (rest, get-reply q text front get is ∙ e, no-cut q text rest get), appends)
+values-reply q text front old new answered.WriteFault get is (part, (rest, some, e), appends) says =
+    (part, (rest, some, get-reply q text front get is ∙ e), appends)
 
--- where nothing is known of the sink
-pub values-unknown : (q : Request) (text front : List ℕ) (new : Option (List ℕ)) (result : Answered) → is_head q ≡ false → front ≡ data_front q
-    → SaysWhole q.ends result → PutsReply q (Ok (text_of Dods text)) None new result
-values-unknown q text front new (answered.Whole status last) get is (s, l) = (s, l ∙ or-false q.ends, tt)
-values-unknown q text front new answered.Broken get is says =
-    values-reply q text front None new answered.Broken get is ([], tt, (framed (is_chunked Dods q.minor) text, refl)) tt
-values-unknown q text front new answered.WriteFault get is says =
-    ([], (reply_of q (Ok (text_of Dods text)), refl, no-cut q text (reply_of q (Ok (text_of Dods text))) get), tt)
+-- what ends with some bytes has some
+longer : (xs ys : List ℕ) → 0 < length ys → 0 < length (xs ++ ys)
+longer xs ys some = omega (arith, some, length-append xs ys)
+
+head-some : (status : ℕ) (description : List ℕ) (len : Option ℕ) (in_chunks close : Bool) → 0 < length (head_text status description len in_chunks close)
+unfolding head_text
+head-some status description len in_chunks close =
+    longer (status_line status ++ server_lines ++ allow_line status ++ description_lines description ++ length_line len in_chunks ++ close_line close) (codes "\r\n") (omega arith)
+
+framed-some : (in_chunks : Bool) (text : List ℕ) → 0 < length text → 0 < length (framed in_chunks text)
+framed-some true text some = chunked-some text
+framed-some false text some = some
+
+pub front-some : (q : Request) → 0 < length (data_front q)
+front-some q = head-some 200 (description_of Dods) None (is_chunked Dods q.minor) q.ends
+
+-- where its values are hidden
+values-hidden : (told : Told) (q : Request) (text put : List ℕ) (result : Answered) → is_head q ≡ false → 0 < length text → is_hidden told q (Ok (text_of Dods text)) ≡ true
+    → SaysWhole q.ends result → IsPutOf told q (Ok (text_of Dods text)) put result
+values-hidden told q text put (answered.Whole status last) get some hidden (s, l) = (s, l ∙ or-false q.ends, λ e. absurd (true≢false (sym hidden ∙ e)))
+values-hidden told q text put answered.Broken get some hidden says =
+    let head : List ℕ = head_of q (Ok (text_of Dods text)) in
+    let body : List ℕ = framed (is_chunked Dods q.minor) text in (
+      head,
+      record {
+        values = values-out q text get;
+        head_is_out = ([], sym (append-nil head));
+        breaks_off = (body, framed-some (is_chunked Dods q.minor) text some, ap (λ b. head ++ (if b then [] else body)) get);
+      },
+      λ e. absurd (true≢false (sym hidden ∙ e)),
+    )
+values-hidden told q text put answered.WriteFault get some hidden says = (
+  [],
+  (
+    reply_of q (Ok (text_of Dods text)),
+    (let head = head-some 200 (description_of Dods) None (is_chunked Dods q.minor) (is_last q (Ok (text_of Dods text))) in
+        omega (arith, head, length-append (head_of q (Ok (text_of Dods text))) (if is_head q then [] else framed (is_chunked Dods q.minor) text))),
+    refl,
+  ),
+  λ e. absurd (true≢false (sym hidden ∙ e)),
+)
 
 -- ---- what a request may be answered
 
-pub reply-known : (told : Told) (q : Request) (answer : Result Text Cause) (old new : Option (List ℕ)) (result : Answered) → PutsReply q answer old new result → PutsReply q answer (known told old) new result
-reply-known told q answer old new (answered.Whole status last) (s, l, appends) = (s, l, appends-known told old new _ appends)
-reply-known told q answer old new answered.Broken (part, is, appends) = (part, is, appends-known told old new part appends)
-reply-known told q answer old new answered.WriteFault (part, is, appends) = (part, is, appends-known told old new part appends)
+-- whatever the shelf tells
+pub reply-known : (told : Told) (q : Request) (answer : Result Text Cause) (old new : Option (List ℕ)) (result : Answered) → PutsReply q answer old new result → PutsKnown told q answer old new result
+reply-known told q answer old new (answered.Whole status last) (s, l, appends) = (reply_of q answer, appends, (s, l, λ _. refl))
+reply-known told q answer old new answered.Broken (part, is, appends) = (part, appends, (part, is, λ _. refl))
+reply-known told q answer old new answered.WriteFault (part, is, appends) = (part, appends, (part, is, λ _. refl))
 
 pub gives : (told : Told) (q : Request) (a : Asked) (answer : Result Text Cause) → is_other q.method ≡ false → target_of q.target ≡ Some a → MayGive told a answer → MayAnswer told q answer
 gives told q a answer served is (files, may, answers) =
@@ -139,28 +171,62 @@ failed told q a served is asks = inr (inl (refl, served, subst LooksForFile (sym
 
 -- ---- one request
 
-rose-values : (result : Answered) (faults faults' : ℕ) → faults ≤ faults' → (result ≡ answered.Broken → Rose faults faults') → RoseBy (0 + broken result) faults faults'
-rose-values (answered.Whole status last) faults faults' later rose = omega (arith, later)
-rose-values answered.Broken faults faults' later rose = rose refl
-rose-values answered.WriteFault faults faults' later rose = omega (arith, later)
+failed-values : (q : Request) (text : List ℕ) (result : Answered) (f f1 : ℕ) → is_head q ≡ false → ShelfRose result f f1
+    → FailedBy (has_failed (Ok (text_of Dods text)) + broken result) (is_open q (Ok (text_of Dods text)) result) f f1
+failed-values q text (answered.Whole status last) f f1 get same = calm (0 + 0) false f f1 (omega arith) same
+failed-values q text answered.Broken f f1 get rose = failed-once (0 + 1) false f f1 (omega arith) rose
+failed-values q text answered.WriteFault f f1 get later = (omega (arith, later), λ _ sent. absurd (true≢false (sym (values-out q text get) ∙ sent)))
 
--- the values of a data response, where its file's bytes are known or not
-pub values-answer : (told : Told) (q : Request) (a : Asked) (front : List ℕ) (content : Option (List ℕ)) (text_over : List ℕ → List ℕ) (s z : Stand) (result : Answered)
+known-values : (told : Told) (q : Request) (a : Asked) (front text : List ℕ) (s z : Stand) (result : Answered)
     → is_head q ≡ false → front ≡ data_front q → is_other q.method ≡ false → target_of q.target ≡ Some a
-    → ((bytes : List ℕ) → content ≡ Some bytes → PutsValues front (framed (is_chunked Dods q.minor) (text_over bytes)) q.ends s.written z.written result) → SaysWhole q.ends result
-    → ((bytes : List ℕ) → content ≡ Some bytes → MayGive told a (Ok (text_of Dods (text_over bytes)))) → ((text : List ℕ) × MayGive told a (Ok (text_of Dods text)))
-    → (IsSome told → IsSome content) → s.faults ≤ z.faults → (result ≡ answered.Broken → Rose s.faults z.faults)
-    → ((cost : ℕ) × IsCost told a cost × (z.asked ≤ s.asked + cost)) → AnswersWith (Costs told a) told q s z result
-values-answer None q a front content text_over s z result get is served target puts says over (text, may) tells later rose costs =
-    (Ok (text_of Dods text), gives None q a _ served target may, values-unknown q text front z.written result get is says, rose-values result s.faults z.faults later rose, costs)
-values-answer (Some files) q a front (Some bytes) text_over s z result get is served target puts says over accepted tells later rose costs = (
-  Ok (text_of Dods (text_over bytes)),
-  gives (Some files) q a _ served target (over bytes refl),
-  values-reply q (text_over bytes) front s.written z.written result get is (puts bytes refl) says,
-  rose-values result s.faults z.faults later rose,
+    → PutsValues front (framed (is_chunked Dods q.minor) text) q.ends s.written z.written result → SaysWhole q.ends result → MayGive told a (Ok (text_of Dods text))
+    → ShelfRose result s.faults z.faults → ((cost : ℕ) × IsCost told a cost × (z.asked ≤ s.asked + cost)) → AnswersWith (Costs told a) told q s z result
+known-values told q a front text s z result get is served target puts says may rose costs = (
+  Ok (text_of Dods text),
+  gives told q a (Ok (text_of Dods text)) served target may,
+  reply-known told q (Ok (text_of Dods text)) s.written z.written result (values-reply q text front s.written z.written result get is puts says),
+  failed-values q text result s.faults z.faults get rose,
   costs,
 )
-values-answer (Some files) q a front None text_over s z result get is served target puts says over accepted tells later rose costs = cc (tells refl)
+
+cases-bool : (b : Bool) → (b ≡ true) ⊎ (b ≡ false)
+cases-bool true = inl refl
+cases-bool false = inr refl
+
+table-form : (f : Option Form) → is_table f ≡ true → f ≡ Some table
+table-form None is = cc is
+table-form (Some table) is = refl
+table-form (Some netcdf) is = cc is
+
+late : (q : Request) (a : Asked) (text : List ℕ) → is_head q ≡ false → target_of q.target ≡ Some a → is_table (form_of a.name) ≡ false → is_hidden None q (Ok (text_of Dods text)) ≡ true
+late q a text get target other =
+    ap (λ b. b && is_read_late q.target) (values-out q text get)
+    ∙ ap (λ o. option_map_or (λ (a : Asked). not (is_table (form_of a.name))) o false) target ∙ ap not other
+
+-- the values of a data response, where its file's bytes are known or not
+pub values-answer : (told : Told) (q : Request) (a : Asked) (front : List ℕ) (content : Option (List ℕ)) (Alone : Type 0) (text_over : List ℕ → List ℕ) (s z : Stand) (result : Answered)
+    → is_head q ≡ false → front ≡ data_front q → is_other q.method ≡ false → target_of q.target ≡ Some a
+    → ((bytes : List ℕ) → (content ≡ Some bytes) ⊎ Alone → PutsValues front (framed (is_chunked Dods q.minor) (text_over bytes)) q.ends s.written z.written result) → SaysWhole q.ends result
+    → ((put : List ℕ) × Appends s.written z.written put)
+    → ((bytes : List ℕ) → IsOver a.name content bytes → MayGive told a (Ok (text_of Dods (text_over bytes)))) → ((text : List ℕ) × MayGive told a (Ok (text_of Dods text)))
+    → (form_of a.name ≡ Some table → Alone) → (IsSome told → IsSome content) → ShelfRose result s.faults z.faults
+    → ((cost : ℕ) × IsCost told a cost × (z.asked ≤ s.asked + cost)) → AnswersWith (Costs told a) told q s z result
+values-answer None q a front content Alone text_over s z result get is served target puts says (put, appends) over (text, may) alone tells rose costs =
+    elim (cases-bool (is_table (form_of a.name))) [
+      | inl is_one ↦
+          let named : form_of a.name ≡ Some table = table-form (form_of a.name) is_one in
+          known-values None q a front (text_over []) s z result get is served target (puts [] (inr (alone named))) says (over [] (inr named)) rose costs
+      | inr other ↦ (
+        Ok (text_of Dods text),
+        gives None q a (Ok (text_of Dods text)) served target may,
+        (put, appends, values-hidden None q text put result get (data-some None a text may) (late q a text get target other) says),
+        failed-values q text result s.faults z.faults get rose,
+        costs,
+      )
+    ]
+values-answer (Some files) q a front (Some bytes) Alone text_over s z result get is served target puts says grows over accepted alone tells rose costs =
+    known-values (Some files) q a front (text_over bytes) s z result get is served target (puts bytes (inl refl)) says (over bytes (inl refl)) rose costs
+values-answer (Some files) q a front None Alone text_over s z result get is served target puts says grows over accepted alone tells rose costs = cc (tells refl)
 
 pub not-broken : (q : Request) (cause : Cause) (old new : Option (List ℕ)) (result : Answered) → PutsReply q (Err cause) old new result → broken result ≡ 0
 not-broken q cause old new (answered.Whole status last) p = refl
@@ -168,8 +234,8 @@ not-broken q cause old new answered.Broken (part, is, appends) = cc is.values
 not-broken q cause old new answered.WriteFault p = refl
 
 -- a want of memory, before anything was asked
-pub memory-answer : (Asks : Result Text Cause → ℕ → Type 0) (told : Told) (q : Request) (s z : Stand) (result : Answered) → PutsReply q (Err OutOfMemory) s.written z.written result → s.faults ≤ z.faults
+pub memory-answer : (Asks : Result Text Cause → ℕ → Type 0) (told : Told) (q : Request) (s z : Stand) (result : Answered) → PutsReply q (Err OutOfMemory) s.written z.written result → z.faults ≡ s.faults
     → ((n : ℕ) × Asks (Err OutOfMemory) n × (z.asked ≤ s.asked + n)) → AnswersWith Asks told q s z result
-memory-answer Asks told q s z result puts later asks =
+memory-answer Asks told q s z result puts same asks =
     let none : broken result ≡ 0 = not-broken q OutOfMemory s.written z.written result puts in
-    (Err OutOfMemory, inr (inr refl), reply-known told q (Err OutOfMemory) s.written z.written result puts, omega (arith, later, none), asks)
+    (Err OutOfMemory, inr (inr refl), reply-known told q (Err OutOfMemory) s.written z.written result puts, calm _ _ s.faults z.faults (omega (arith, none)) same, asks)

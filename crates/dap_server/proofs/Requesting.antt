@@ -13,19 +13,20 @@ use Rattle.dap_http.specs.declared.head_reader.Head.{Head}
 use Rattle.dap_http.specs.declared.kind.Kind.{Kind}
 use Rattle.dap_http.specs.declared.kind.Kind.TheVariants.{Dds, Das, Dods, Ver}
 use Rattle.dap_outside.specs.Files.{Told}
-use Rattle.dap_server.specs.Connections.{MayAsk, nothing}
+use Rattle.dap_server.specs.Connections.{IsPutBehind, MayAsk, nothing}
 use Rattle.dap_server.specs.Costs.{most_first}
 use Rattle.dap_server.specs.Replies.{Request, last_reply, reply_of, request}
 use Rattle.dap_server.specs.Results.{text_of}
-use Rattle.dap_server.specs.declared.served.Ending.TheVariants.{Gone, ReadFault, WriteFault}
+use Rattle.dap_server.specs.declared.served.Ending.TheVariants.{Gone, ReadFault}
 use Rattle.dap_server.specs.declared.served.Served.{Served}
 use Rattle.dap_server.specs.declared.turn.Answered.{Answered}
 use Rattle.dap_server.specs.declared.turn.Answered.TheVariants as answered
 use Rattle.dap_server.specs.declared.turn.Next.{Next}
-use Rattle.dap_server.specs.inner.Serving.{Answers, PutsLast, PutsRefusal, Serves, ServesFrom, Stand, known, next_of, request_in}
-use Rattle.dap_server.proofs.Ends.{answered-head, appends-known, one-turn, refuses, stopped}
+use Rattle.dap_server.specs.inner.Serving.{Answers, PutsLast, PutsRefusal, Serves, ServesFrom, Stand, next_of, request_in}
+use Rattle.dap_server.proofs.Ends.{answered-head, one-turn, refuses, stopped}
+use Rattle.dap_server.proofs.Failing.{calm}
 use Rattle.dap_server.proofs.Replying.{memory-last, memory-reply}
-use Rattle.dap_server.proofs.Turning.{known-nil}
+use Rattle.dap_server.proofs.Turning.{nothing-put}
 
 abbrev pub stand : Option (List ℕ) → ℕ → ℕ → Stand
 stand written faults asked = record { written = written; faults = faults; asked = asked }
@@ -64,20 +65,20 @@ serve-head n before told kept kept' taken l l1 l2 w w1 w2 f f2 s s2 ended h ends
     subst (Serves n before told kept kept' l l2 (stand w f s) (stand w2 f2 s2) ended) (sym is) (answered-head n before told kept kept' taken l l2 (stand w f s) (stand w2 f2 s2) ended h ends result gives (subst (λ o. Consumes l o taken) (sym sl) consumes) e
     (subst (λ o. Answers told (request_in h ends) (stand o f s) (stand w2 f2 s2) result) sw answers))
 
-still : (told : Told) (w w1 : Option (List ℕ)) → w1 ≡ w → Appends (known told w) w1 []
-still told w w1 is = subst (λ o. Appends (known told w) o []) (sym is) (known-nil told w)
+still : (told : Told) (n : ℕ) (w w1 : Option (List ℕ)) → w1 ≡ w → (put : List ℕ) × Appends w w1 put × IsPutBehind told n nothing put
+still told n w w1 is = ([], subst (λ o. Appends w o []) (sym is) (nothing-put w), refl)
 
 pub serve-gone : (n before : ℕ) (told : Told) (kept taken : List ℕ) (l l1 w w1 : Option (List ℕ)) (f s : ℕ) (ended : Bool)
     → Consumes l l1 taken → w1 ≡ w → IsTrue ended → IsGone (kept ++ taken) → ServesFrom n before told kept l l1 (stand w f s) (stand w1 f s) ended (record { replies = n; status = before; ending = Gone })
 serve-gone n before told kept taken l l1 w w1 f s ended consumes sw mark gone =
-    stopped n before told kept taken l l1 (stand w f s) (stand w1 f s) ended Gone nothing _ consumes (still told w w1 sw) (mark, gone)
-    (ap (λ k. record { replies = k; status = before; ending = Gone }) (omega arith)) (omega arith) (0, refl, omega arith)
+    stopped n before told kept taken l l1 (stand w f s) (stand w1 f s) ended Gone nothing _ consumes (still told (n + 1) w w1 sw) (mark, gone)
+    (ap (λ k. record { replies = k; status = before; ending = Gone }) (omega arith)) (calm (0 + 0) _ f f refl refl) (0, refl, omega arith)
 
 pub serve-fault : (n before : ℕ) (told : Told) (kept taken : List ℕ) (l l1 w w1 : Option (List ℕ)) (f s : ℕ) (ended : Bool)
     → Consumes l l1 taken → w1 ≡ w → HasNoRequest (kept ++ taken) → ServesFrom n before told kept l l1 (stand w f s) (stand w1 f s) ended (record { replies = n; status = before; ending = ReadFault })
 serve-fault n before told kept taken l l1 w w1 f s ended consumes sw none =
-    stopped n before told kept taken l l1 (stand w f s) (stand w1 f s) ended ReadFault nothing _ consumes (still told w w1 sw) none
-    (ap (λ k. record { replies = k; status = before; ending = ReadFault }) (omega arith)) (omega arith) (0, refl, omega arith)
+    stopped n before told kept taken l l1 (stand w f s) (stand w1 f s) ended ReadFault nothing _ consumes (still told (n + 1) w w1 sw) none
+    (ap (λ k. record { replies = k; status = before; ending = ReadFault }) (omega arith)) (calm (0 + 0) _ f f refl refl) (0, refl, omega arith)
 
 -- ---- replies that end a connection
 
@@ -97,18 +98,18 @@ memory-turn n before told kept rest taken l l1 l2 w w1 w2 f s ended tree h bytes
     let q : Request = request (n + 1) tree in
     let text : bytes ≡ reply_of q (Err OutOfMemory) = e ∙ memory-reply q h is in
     let (m, may) = least-asked told (target_of tree.target) OutOfMemory in
-    let put : Appends (known told w) w2 (reply_of q (Err OutOfMemory)) = appends-known told w w2 _ (subst (λ o. Appends o w2 (reply_of q (Err OutOfMemory))) sw (subst (Appends w1 w2) text appends)) in
+    let put : Appends w w2 (reply_of q (Err OutOfMemory)) = subst (λ o. Appends o w2 (reply_of q (Err OutOfMemory))) sw (subst (Appends w1 w2) text appends) in
     subst (ServesFrom n before told kept l l2 (stand w f s) (stand w2 f s) ended) (sym so)
     (one-turn n before told kept rest taken l l2 (stand w f s) (stand w2 f s) ended tree (answered.Whole 503 true) (subst (λ o. Consumes l o taken) (sym sl) consumes) first
-    (Err OutOfMemory, inr (inr refl), (refl, memory-last q, put), omega arith, (m, may, omega arith)))
-memory-turn n before told kept rest taken l l1 l2 w w1 w2 f s ended tree h bytes served first is consumes sl sw e (inr (so, (part, (more, cut, some), appends))) =
+    (Err OutOfMemory, inr (inr refl), (reply_of q (Err OutOfMemory), put, (refl, memory-last q, λ _. refl)), calm (0 + 0) _ f f refl refl, (m, may, omega arith)))
+memory-turn n before told kept rest taken l l1 l2 w w1 w2 f s ended tree h bytes served first is consumes sl sw e (inr (so, (part, (more, some, cut), appends))) =
     let q : Request = request (n + 1) tree in
     let text : bytes ≡ reply_of q (Err OutOfMemory) = e ∙ memory-reply q h is in
     let (m, may) = least-asked told (target_of tree.target) OutOfMemory in
-    let put : Appends (known told w) w2 part = appends-known told w w2 part (subst (λ o. Appends o w2 part) sw appends) in
+    let put : Appends w w2 part = subst (λ o. Appends o w2 part) sw appends in
     subst (ServesFrom n before told kept l l2 (stand w f s) (stand w2 f s) ended) (sym so)
     (one-turn n before told kept rest taken l l2 (stand w f s) (stand w2 f s) ended tree answered.WriteFault (subst (λ o. Consumes l o taken) (sym sl) consumes) first
-    (Err OutOfMemory, inr (inr refl), (part, (more, sym text ∙ cut, λ _. some), put), omega arith, (m, may, omega arith)))
+    (Err OutOfMemory, inr (inr refl), (part, put, (part, (more, some, sym text ∙ cut), λ _. refl)), calm (0 + 0) _ f f refl refl, (m, may, omega arith)))
 
 -- bytes that are no request
 pub serve-refused : (n before : ℕ) (told : Told) (kept taken : List ℕ) (l l1 l2 w w1 w2 : Option (List ℕ)) (f s : ℕ) (ended : Bool) (cause : Cause) (served : Served)
@@ -116,4 +117,4 @@ pub serve-refused : (n before : ℕ) (told : Told) (kept taken : List ℕ) (l l1
     → PutsRefusal cause n before w1 w2 served → ServesFrom n before told kept l l2 (stand w f s) (stand w2 f s) ended served
 serve-refused n before told kept taken l l1 l2 w w1 w2 f s ended cause served why consumes sl sw puts =
     refuses n before told kept taken l l2 (stand w f s) (stand w2 f s) ended cause served (subst (λ o. Consumes l o taken) (sym sl) consumes) why
-    (subst (λ o. PutsRefusal cause n before o w2 served) sw puts) (omega arith) (omega arith)
+    (subst (λ o. PutsRefusal cause n before o w2 served) sw puts) refl (omega arith)

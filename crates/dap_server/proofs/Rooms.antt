@@ -1,5 +1,5 @@
 -- What a sink behind a room has gained of the bytes that are put through the room.
-use Rattle.std.proofs.Common.{◌≡◌, ℕ, ◌+◌, List, [], ◌++◌, length, take, drop, Option, Some, None, Result, Ok, Err, OnErr, refl, sym, ap, ◌∙◌, append_assoc, append-nil, take-append-drop}
+use Rattle.std.proofs.Common.{◌≡◌, ℕ, ◌+◌, ◌<◌, List, [], ◌++◌, length, take, drop, Option, Some, None, Result, Ok, Err, OnErr, refl, sym, ap, ◌∙◌, append_assoc, append-nil, take-append-drop, arith, length-drop, subst}
 use Rattle.std.specs.Prelude.{IfOk, IsTrue}
 use Rattle.std.specs.Io.KnownBytes.{Appends}
 use Rattle.std.proofs.Math.Seq.{drop-append_seam, drop-length}
@@ -8,7 +8,7 @@ use Rattle.std.proofs.lemmas.List.{drop-drop}
 use Rattle.std.proofs.lemmas.Slice.Eq.{bytes_eq-Decides}
 use Rattle.dap_outside.specs.Buffered.{Passes}
 use Rattle.dap_outside.proofs.Passing.{passes_two}
-use Rattle.dap_server.specs.inner.Roomed.{HasFront, has_grown, put_through}
+use Rattle.dap_server.specs.inner.Roomed.{HasFront, HasPart, has_grown, put_through}
 
 -- ---- a room
 
@@ -20,6 +20,10 @@ part-passes a b items sent n appends =
       sent = appends;
       rest = append-nil (drop sent items) ∙ sym (take-append-drop n (drop sent items)) ∙ ap (λ t. take n (drop sent items) ++ t) (drop-drop n sent items);
     }
+
+-- not all of them were put yet
+pub some-left : (items : List ℕ) (sent : ℕ) → sent < length items → 0 < length (drop sent items)
+some-left items sent less = omega (arith, length-drop sent items, less)
 
 -- ---- a sink behind it
 
@@ -66,20 +70,39 @@ call-grows (Err v) start old new held left bytes e p q = grows-on start old new 
 
 -- ---- what the sink has at the end
 
+-- what was put is what the sink has, and what the room holds
+put-is : (s n held all : List ℕ) → IsTrue (has_grown (Some s) (Some n)) → put_through (Some s) (Some n) held ≡ Some all → all ≡ s ++ (drop (length s) n ++ held)
+put-is s n held all e is = sym (some-list (n ++ held) all is) ∙ ap (λ t. t ++ held) (has-grown s n e) ∙ append_assoc s (drop (length s) n) held
+  where
+    some-list : (a b : List ℕ) → Some a ≡ Some b → a ≡ b
+    some-list a b e = cc e
+
 -- a front of what was put
 pub has-front : (start now : Option (List ℕ)) (held : List ℕ) → IsTrue (has_grown start now) → (all : List ℕ) → put_through start now held ≡ Some all → HasFront start now all
 has-front None now held e all is = tt
 has-front (Some s) None held e all is = absurd (false≢true e)
-has-front (Some s) (Some n) held e all is =
-    let d = drop (length s) n in
-    (d, held, has-grown s n e, sym (some-list (n ++ held) all is) ∙ ap (λ t. t ++ held) (has-grown s n e) ∙ append_assoc s d held) where
-      some-list : (a b : List ℕ) → Some a ≡ Some b → a ≡ b
-      some-list a b e = cc e
+has-front (Some s) (Some n) held e all is = (drop (length s) n, held, has-grown s n e, put-is s n held all e is)
 
-pub ends-front : {T E : Type 0} (r : Result T E) (start now new : Option (List ℕ)) (held left : List ℕ) → IsTrue (has_grown start now) → Passes now held new left []
-    → OnErr r ((all : List ℕ) → put_through start now held ≡ Some all → HasFront start new all)
-ends-front (Ok x) start now new held left e p = tt
-ends-front (Err v) start now new held left e p = λ all is. has-front start new left (grows-on start now new held left [] e p) all (stays-through start now new held left e p ∙ is)
+has-part : (start now : Option (List ℕ)) (held : List ℕ) → IsTrue (has_grown start now) → 0 < length held → (all : List ℕ) → put_through start now held ≡ Some all → HasPart start now all
+has-part None now held e some all is = tt
+has-part (Some s) None held e some all is = absurd (false≢true e)
+has-part (Some s) (Some n) held e some all is = (drop (length s) n, held, has-grown s n e, put-is s n held all e is, some)
+
+-- what the room could not put
+pub ends-part : {T E : Type 0} (r : Result T E) (start now new : Option (List ℕ)) (held left : List ℕ) → IsTrue (has_grown start now) → Passes now held new left [] → OnErr r (0 < length left)
+    → OnErr r ((all : List ℕ) → put_through start now held ≡ Some all → HasPart start new all)
+ends-part (Ok x) start now new held left e p some = tt
+ends-part (Err v) start now new held left e p some = λ all is.
+    has-part start new left (grows-on start now new held left [] e p) some all (stays-through start now new held left e p ∙ is)
+
+-- it has gained some bytes
+pub gained : (w start now : Option (List ℕ)) → start ≡ w → IsTrue (has_grown start now) → (put : List ℕ) × Appends w now put
+gained w start now same e = subst (λ o. (put : List ℕ) × Appends o now put) same (go start now e)
+  where
+    go : (start now : Option (List ℕ)) → IsTrue (has_grown start now) → (put : List ℕ) × Appends start now put
+    go None now e = ([], tt)
+    go (Some s) None e = absurd (false≢true e)
+    go (Some s) (Some n) e = (drop (length s) n, has-grown s n e)
 
 -- behind a room that was emptied
 pub ok-behind : {E : Type 0} (r : Result ℕ E) (a b c : Option (List ℕ)) (held mid left bytes : List ℕ) → Passes a held b mid [] → IfOk r (λ n. Passes b mid c left (take n bytes)) → IfOk r (λ n. Passes a held c left (take n bytes))

@@ -1,29 +1,22 @@
 -- Requests in turn: one that was answered, and those behind it.
-use Rattle.std.proofs.Common.{◌≡◌, ℕ, ◌+◌, ◌-◌, Bool, false, List, [], ◌∷◌, ◌++◌, length, Option, Some, None, MatchBool, refl, sym, ap, subst, arith, append_assoc, append-nil, length-append}
+use Rattle.std.proofs.Common.{◌≡◌, ℕ, ◌+◌, Bool, false, List, [], ◌∷◌, ◌++◌, length, Option, Some, None, MatchBool, refl, sym, ap, subst, arith, append_assoc, append-nil, length-append}
 use Rattle.std.proofs.KnownBytes.{Appends-trans, Consumes-trans}
 use Rattle.std.specs.Io.KnownBytes.{Appends}
 use Rattle.httparse.specs.Grammar.{RequestHead}
 use Rattle.httparse.proofs.GrammarLemmas.{ReadsRequest-append}
 use Rattle.dap_http.specs.Requests.{FirstRequest}
 use Rattle.dap_outside.specs.Files.{Told}
-use Rattle.dap_server.specs.Connections.{Connection, IsClosed, IsServedFrom, RoseBy, Stops, ends_after, is_last_turn}
-use Rattle.dap_server.specs.Replies.{Turn, replies, reply_of, request}
+use Rattle.dap_server.specs.Connections.{Connection, IsClosed, IsServedFrom, Stops, ends_after, failures, has_failed, is_last_turn, leaves_open}
+use Rattle.dap_server.specs.Replies.{Turn, request, wants}
 use Rattle.dap_server.specs.declared.served.Served.{Served}
-use Rattle.dap_server.specs.inner.Serving.{GoesOn, ServesFrom, Stand, known}
+use Rattle.dap_server.specs.inner.Serving.{GoesOn, ServesFrom, Stand}
 use Rattle.dap_server.proofs.Choices.{where_false}
+use Rattle.dap_server.proofs.Failing.{failed-as, failed-more}
 
-pub known-nil : (told : Told) (a : Option (List ℕ)) → Appends (known told a) a []
-known-nil None a = tt
-known-nil (Some files) None = tt
-known-nil (Some files) (Some xs) = sym (append-nil xs)
-
-pub known-more : (told : Told) (a b c : Option (List ℕ)) (xs ys : List ℕ) → Appends (known told a) b xs → Appends (known told b) c ys → Appends (known told a) c (xs ++ ys)
-known-more None a b c xs ys p q = tt
-known-more (Some files) a b c xs ys p q = Appends-trans a b c xs ys p q
-
--- counts
-pub rose-more : (m n a b c : ℕ) → RoseBy m a b → RoseBy n b c → RoseBy (m + n) a c
-rose-more m n a b c p q = omega (arith, p, q)
+-- nothing was put
+pub nothing-put : (a : Option (List ℕ)) → Appends a a []
+nothing-put None = tt
+nothing-put (Some xs) = sym (append-nil xs)
 
 pub request-stays : (input rest more : List ℕ) (head : RequestHead) → FirstRequest input head rest → FirstRequest (input ++ more) head (rest ++ more)
 request-stays input rest more head first =
@@ -49,15 +42,14 @@ turn-before n before told kept kept' taken taken' t ended c served status first 
 
 pub goes-on : (n before : ℕ) (told : Told) (kept kept' : List ℕ) (l l' l'' : Option (List ℕ)) (a b z : Stand) (ended : Bool) (served : Served) (status : ℕ)
     → GoesOn n told kept kept' l l' a b status → ServesFrom (n + 1) status told kept' l' l'' b z ended served → ServesFrom n before told kept l l'' a z ended served
-goes-on n before told kept kept' l l' l'' a b z ended served status (t, taken, consumes, appends, (first, may), goes, is, rose, (m, asks, asked))
-    (c, taken', consumes', appends', s, rose', (m', (own, last, turns, behind, sum), asked')) = (
+goes-on n before told kept kept' l l' l'' a b z ended served status (t, taken, consumes, (put, appends, known), (first, may), goes, is, failed, (m, asks, asked))
+    (c, taken', consumes', (put', appends', others), s, failed', (m', (own, last, turns, behind, sum), asked')) = (
       record { turns = t ∷ c.turns; left = c.left; behind = c.behind },
       taken ++ taken',
       Consumes-trans l l' l'' taken taken' consumes consumes',
-      subst (Appends (known told a.written) z.written)
-          (sym (append_assoc (reply_of (request (n + 1) t.head) t.answer) (replies (n + 1 + 1) c.turns) (Rattle.dap_server.specs.Connections.behind_text c.behind)))
-          (known-more told a.written b.written z.written _ _ appends appends'),
+      (put ++ put', Appends-trans a.written b.written z.written put put' appends appends', (put, put', refl, known, others)),
       turn-before n before told kept kept' taken taken' t ended c served status first may goes is s,
-      omega (arith, rose, rose'),
+      failed-as (has_failed t.answer + failures c served.ending) (failures (record { turns = t ∷ c.turns; left = c.left; behind = c.behind }) served.ending) _ a.faults z.faults (omega arith)
+          (failed-more (has_failed t.answer) (failures c served.ending) (wants t.answer) (leaves_open c.turns served.ending c.behind) a.faults b.faults z.faults failed failed'),
       (m + m', ((m + own), last, (m, own, asks, turns, refl), behind, omega (arith, sum)), omega (arith, asked, asked')),
     )

@@ -1,5 +1,5 @@
 -- A connection on which no fault came and memory was had answers all requests of its input.
-use Rattle.std.proofs.Common.{◌≡◌, ◌≢◌, ℕ, zero, suc, ◌+◌, ◌-◌, ◌≤◌, Bool, false, true, ◌||◌, List, [], ◌∷◌, ◌++◌, length, map, if◌then◌else◌, ◌==◌, Option, Some, MatchBool, IsTrue, Result, Ok, Err, refl, sym, ap, ◌∙◌, subst, arith, append_assoc, append-nil, length-append, inl, inr, ◌⊎◌}
+use Rattle.std.proofs.Common.{◌≡◌, ◌≢◌, ℕ, zero, suc, ◌+◌, ◌≤◌, Bool, false, true, ◌||◌, List, [], ◌∷◌, ◌++◌, length, map, if◌then◌else◌, ◌==◌, Option, Some, MatchBool, IsTrue, Result, Ok, Err, refl, sym, ap, ◌∙◌, subst, arith, append_assoc, append-nil, length-append, inl, inr, ◌⊎◌}
 use Rattle.std.proofs.lemmas.Bool.{true≢false}
 use Rattle.std.proofs.lemmas.List.Sums.{sum_by-append}
 use Rattle.std.specs.Io.KnownBytes.{Appends, Consumes, IsAtEnd}
@@ -209,7 +209,7 @@ served-is s n status ending a b e = ap (λ m. record { replies = m; status = s.s
 no-read : (ending : Ending) (a b c d : ℕ) → RoseFor ending a b c d → ¬ (Rose a b) → ending ≢ ReadFault
 no-read Closed a b c d rose none = λ is. cc is
 no-read Gone a b c d rose none = λ is. cc is
-no-read ReadFault a b c d rose none = λ is. none rose
+no-read ReadFault a b c d rose none = λ is. none rose.0
 no-read WriteFault a b c d rose none = λ is. cc is
 no-read Broken a b c d rose none = λ is. cc is
 
@@ -217,7 +217,7 @@ no-write : (ending : Ending) (a b c d : ℕ) → RoseFor ending a b c d → ¬ (
 no-write Closed a b c d rose none = λ is. cc is
 no-write Gone a b c d rose none = λ is. cc is
 no-write ReadFault a b c d rose none = λ is. cc is
-no-write WriteFault a b c d rose none = λ is. none rose
+no-write WriteFault a b c d rose none = λ is. none rose.0
 no-write Broken a b c d rose none = λ is. cc is
 
 no-break : (ending : Ending) (n : ℕ) → n + Rattle.dap_server.specs.Connections.breaks ending ≡ 0 → ending ≢ Broken

@@ -1,16 +1,18 @@
 -- What a connection has answered of the bytes that were taken from it, and how it ended (RFC 9112, section
 -- 9; the causes of each end are this project's).
-use Rattle.std.specs.Prelude.{◌≡◌, ◌≢◌, ℕ, ◌+◌, ◌-◌, ◌^◌, ◌≤◌, ⊤, ◌⊎◌, Bool, false, ◌&&◌, not, List, [], ◌∷◌, ◌++◌, length, min, IsTrue, MatchBool, Option, Some, None, Result, Ok, Err}
+use Rattle.std.specs.Prelude.{◌≡◌, ℕ, ◌+◌, ◌-◌, ◌^◌, ◌≤◌, ⊤, ◌⊎◌, Bool, true, false, ◌&&◌, ◌||◌, not, List, [], ◌∷◌, ◌++◌, length, min, IsTrue, MatchBool, Option, Some, None, Result, Ok, Err}
+use Rattle.std.specs.Option.{option_map_or}
 use Rattle.dap_outside.specs.Causes.{Rose}
 use Rattle.dap_outside.specs.Files.{Told}
 use Rattle.dap_errors.specs.Causes.{http_status}
 use Rattle.dap_errors.specs.declared.cause.Cause.{Cause}
 use Rattle.dap_errors.specs.declared.cause.Cause.TheVariants.{BadRequest, HeadTooLong, OutOfMemory, ReadFailed}
+use Rattle.dap_http.specs.Frames.{IsProperFront}
 use Rattle.dap_http.specs.Requests.{FirstRequest, HasNoRequest, IsBadRequest, IsGone, IsTooLong, is_other}
 use Rattle.dap_http.specs.Targets.{Asked, target_of}
 use Rattle.dap_server.specs.Costs.{IsCost, asks_shelf, most_first}
-use Rattle.dap_server.specs.Files.{Files, MayHave}
-use Rattle.dap_server.specs.Replies.{IsAnswered, Request, Turn, head_of, is_data, is_head, is_last, last_reply, replies, reply_of, request, status_of}
+use Rattle.dap_server.specs.Files.{Files, Form, MayHave, form_of, table}
+use Rattle.dap_server.specs.Replies.{IsAnswered, Request, Turn, head_of, is_data, is_head, is_last, last_reply, replies, reply_of, request, status_of, wants}
 use Rattle.dap_server.specs.Results.{Text}
 use Rattle.dap_server.specs.declared.served.Ending.{Ending}
 use Rattle.dap_server.specs.declared.served.Ending.TheVariants.{Closed, Gone, ReadFault, WriteFault, Broken}
@@ -79,10 +81,6 @@ behind_text (refusal cause) = last_reply cause
 behind_text (part_of_reply t part) = part
 behind_text (part_of_refusal cause part) = part
 
--- some bytes from the front of others, but not all
-abbrev pub IsPart : List ℕ → List ℕ → Type 0
-IsPart all part = (rest : List ℕ) × (all ≡ part ++ rest) × (rest ≢ [])
-
 abbrev pub sends_data : Result Text Cause → Bool
 sends_data (Ok t) = is_data t.kind
 sends_data (Err cause) = false
@@ -91,23 +89,19 @@ sends_data (Err cause) = false
 abbrev pub sends_values : Request → Result Text Cause → Bool
 sends_values q answer = sends_data answer && not (is_head q)
 
--- The reply broke off. Where values go out the sink may have failed at the last of them.
-abbrev pub BreaksOff : Request → Result Text Cause → List ℕ → Type 0
-BreaksOff q answer part = (rest : List ℕ) × (reply_of q answer ≡ part ++ rest) × (sends_values q answer ≡ false → rest ≢ [])
-
 -- the file could not be read further: its values go out, and the head is out
 pub record IsBroken (q : Request) (answer : Result Text Cause) (part : List ℕ) : Type 0 where
   pub values : IsTrue (sends_values q answer)
   pub head_is_out : (more : List ℕ) × (part ≡ head_of q answer ++ more)
-  pub breaks_off : BreaksOff q answer part
+  pub breaks_off : IsProperFront part (reply_of q answer)
 
 -- how a connection that goes on behind so many turns may end, where the end mark stands or not
 abbrev pub Stops : Told → ℕ → List ℕ → Bool → Ending → Behind → Type 0
 Stops told k left ended Closed (refusal cause) = MayRefuse left cause
 Stops told k left ended Gone nothing = IsTrue ended × IsGone left
 Stops told k left ended ReadFault nothing = HasNoRequest left
-Stops told k left ended WriteFault (part_of_reply t part) = ((rest : List ℕ) × IsTurn told k left t rest) × BreaksOff (request k t.head) t.answer part
-Stops told k left ended WriteFault (part_of_refusal cause part) = MayRefuse left cause × IsPart (last_reply cause) part
+Stops told k left ended WriteFault (part_of_reply t part) = ((rest : List ℕ) × IsTurn told k left t rest) × IsProperFront part (reply_of (request k t.head) t.answer)
+Stops told k left ended WriteFault (part_of_refusal cause part) = MayRefuse left cause × IsProperFront part (last_reply cause)
 Stops told k left ended Broken (part_of_reply t part) = ((rest : List ℕ) × IsTurn told k left t rest) × IsBroken (request k t.head) t.answer part
 Stops told k left ended ending behind = ⊥
 
@@ -124,6 +118,39 @@ pub record Connection : Type 0 where
 -- all that it put, where the first turn answers request k
 abbrev pub put_from : ℕ → Connection → List ℕ
 put_from k c = replies k c.turns ++ behind_text c.behind
+
+-- The values of a table are read before they go out, those of another file as they go out.
+abbrev pub is_table : Option Form → Bool
+is_table (Some table) = true
+is_table other = false
+
+abbrev pub is_read_late : List ℕ → Bool
+is_read_late target = option_map_or (λ a. not (is_table (form_of a.name))) (target_of target) false
+
+-- values go out that are read from a file that the shelf does not tell
+abbrev pub is_hidden : Told → Request → Result Text Cause → Bool
+is_hidden None q answer = sends_values q answer && is_read_late q.target
+is_hidden (Some files) q answer = false
+
+-- What was put of what stands behind the turns: all of it, unless it has hidden values.
+abbrev pub IsPutBehind : Told → ℕ → Behind → List ℕ → Type 0
+IsPutBehind told k nothing put = put ≡ []
+IsPutBehind told k (refusal cause) put = put ≡ last_reply cause
+IsPutBehind told k (part_of_reply t part) put = is_hidden told (request k t.head) t.answer ≡ false → put ≡ part
+IsPutBehind told k (part_of_refusal cause part) put = put ≡ part
+
+-- What was put of turns, of which the first answers request k, and of what stands behind them: the reply of
+-- each in order, where it has no hidden values, and some bytes where it has.
+abbrev pub ArePut : Told → ℕ → List Turn → Behind → List ℕ → Type 0
+ArePut told k [] behind put = IsPutBehind told k behind put
+ArePut told k (t ∷ turns) behind put =
+    (own : List ℕ) × (others : List ℕ) × (put ≡ own ++ others)
+    × (is_hidden told (request k t.head) t.answer ≡ false → own ≡ reply_of (request k t.head) t.answer)
+    × ArePut told (k + 1) turns behind others
+
+-- of a connection. Where the shelf tells its files it is `put_from`
+abbrev pub IsPut : Told → ℕ → Connection → List ℕ → Type 0
+IsPut told k c put = ArePut told k c.turns c.behind put
 
 abbrev pub whole_behind : Behind → ℕ
 whole_behind nothing = 0
@@ -181,13 +208,22 @@ failures c ending = failed_turns c.turns + failed_behind c.behind + breaks endin
 abbrev pub RoseBy : ℕ → ℕ → ℕ → Type 0
 RoseBy n before now = min (before + n) (2 ^ 64 - 1) ≤ now
 
--- a fault comes only where the count of its object rose
+-- Whether the answers leave open that the shelf failed: a want of memory may come in place of a failed read,
+-- and the sink may fail once more where a reply with values breaks off.
+abbrev pub leaves_open : List Turn → Ending → Behind → Bool
+leaves_open [] WriteFault (part_of_reply t part) = wants t.answer || sends_values (request 1 t.head) t.answer
+leaves_open [] ending behind = false
+leaves_open (t ∷ turns) ending behind = wants t.answer || leaves_open turns ending behind
+
+-- The shelf failed at least so often. Where it is said that it never did, its count is as it was.
+abbrev pub FailedBy : ℕ → Bool → ℕ → ℕ → Type 0
+FailedBy n open_end before now = RoseBy n before now × (n ≡ 0 → open_end ≡ false → now ≡ before)
+
+-- a fault of the link comes only where the count of that side rose, and no count rises without its fault
 abbrev pub RoseFor : Ending → ℕ → ℕ → ℕ → ℕ → Type 0
-RoseFor Closed takes takes' puts puts' = ⊤
-RoseFor Gone takes takes' puts puts' = ⊤
-RoseFor ReadFault takes takes' puts puts' = Rose takes takes'
-RoseFor WriteFault takes takes' puts puts' = Rose puts puts'
-RoseFor Broken takes takes' puts puts' = ⊤
+RoseFor ReadFault takes takes' puts puts' = Rose takes takes' × (puts' ≡ puts)
+RoseFor WriteFault takes takes' puts puts' = Rose puts puts' × (takes' ≡ takes)
+RoseFor ending takes takes' puts puts' = (takes' ≡ takes) × (puts' ≡ puts)
 
 -- What an answer to a target may have asked: the first read of its file, and where it is data the cost of
 -- its values.

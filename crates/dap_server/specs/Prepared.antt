@@ -57,6 +57,13 @@ WhereShelfFault (prepared.Body b file) P = ⊤
 WhereShelfFault (prepared.Refuse cause) P = ⊤
 WhereShelfFault prepared.Memory P = ⊤
 
+abbrev pub WhereNoShelfFault : {F : Type 0} → Prepared F → Type 0 → Type 0
+WhereNoShelfFault (prepared.Text kind text) P = P
+WhereNoShelfFault (prepared.Body b file) P = P
+WhereNoShelfFault (prepared.Refuse cause) P = P
+WhereNoShelfFault prepared.ShelfFault P = ⊤
+WhereNoShelfFault prepared.Memory P = P
+
 -- it is this answer, unless the shelf failed or memory was wanted
 abbrev pub IsFor : {F : Type 0} → Result Text Cause → Prepared F → Type 0
 IsFor answer (prepared.Text kind text) = answer ≡ Ok (text_of kind text)

@@ -1,7 +1,7 @@
 -- The reply to a request (RFC 9112, sections 2 to 7; DAP 2.0, HTTP headers of responses; the lines and the
 -- statuses are this project's): a head, and behind it the text, in chunks where it is data, or the Error
 -- object of the cause. To HEAD it is the head alone.
-use Rattle.std.specs.Prelude.{◌≡◌, ℕ, ◌+◌, ⊤, Bool, true, false, ◌||◌, List, [], ◌∷◌, ◌++◌, length, map, if◌then◌else◌, codes, MatchBool, Option, Some, None, Result, Ok, Err}
+use Rattle.std.specs.Prelude.{◌≡◌, ℕ, ◌+◌, ⊤, Bool, true, false, ◌||◌, List, [], ◌∷◌, ◌++◌, map, if◌then◌else◌, codes, MatchBool, Option, Result, Ok, Err}
 use Rattle.std.specs.Str.{bytes_eq}
 use Rattle.httparse.specs.Grammar.{RequestHead}
 use Rattle.dap_errors.specs.Causes.{http_status}
@@ -9,9 +9,9 @@ use Rattle.dap_errors.specs.declared.cause.Cause.{Cause}
 use Rattle.dap_errors.specs.declared.cause.Cause.TheVariants.{BadMethod, OutOfMemory}
 use Rattle.dap_http.specs.Frames.{framed}
 use Rattle.dap_http.specs.Requests.{Requests, ends_connection, is_other}
+pub use Rattle.dap_http.specs.Sent.{error_head, is_data}
+use Rattle.dap_http.specs.Sent as sent
 use Rattle.dap_http.specs.Texts.{description_of, head_text, is_chunked}
-use Rattle.dap_http.specs.declared.kind.Kind.{Kind}
-use Rattle.dap_http.specs.declared.kind.Kind.TheVariants.{Dds, Das, Dods, Ver}
 use Rattle.dap_server.specs.Files.{Files}
 use Rattle.dap_server.specs.Results.{Results, Text, error_object}
 
@@ -34,14 +34,8 @@ abbrev pub IsAnswered : Files → Request → Result Text Cause → Type 0
 IsAnswered files q answer = MatchBool (is_other q.method) (answer ≡ Err BadMethod) (Results q.target files answer)
 
 -- data has no stated length
-abbrev pub is_data : Kind → Bool
-is_data Dods = true
-is_data Dds = false
-is_data Das = false
-is_data Ver = false
-
 abbrev pub stated_length : Text → Option ℕ
-stated_length t = if is_data t.kind then None else Some (length t.text)
+stated_length t = sent.stated_length t.kind t.text
 
 -- behind a want of memory the connection ends
 abbrev pub wants_memory : Cause → Bool
@@ -51,10 +45,6 @@ wants_memory cause = false
 abbrev pub wants : Result Text Cause → Bool
 wants (Ok t) = false
 wants (Err cause) = wants_memory cause
-
--- the head before an Error object
-abbrev pub error_head : Bool → Cause → List ℕ
-error_head ends cause = head_text (http_status cause) (codes "dods_error") (Some (length (error_object cause))) false ends
 
 -- the connection ends behind the reply
 abbrev pub is_last : Request → Result Text Cause → Bool

@@ -12,8 +12,6 @@ use Rattle.dap_model.specs.Dds.{dds}
 use Rattle.dap_model.specs.Filter.{constrained, constrained_trees}
 use Rattle.dap_model.specs.Rows.{kept}
 use Rattle.das_text.specs.Das.{das}
-use Rattle.dap_errors.specs.Causes.{error_code, message_text}
-use Rattle.dap_errors.specs.Printed.{error_text}
 use Rattle.dap_errors.specs.declared.cause.Cause.{Cause}
 use Rattle.dap_errors.specs.declared.cause.Cause.TheVariants.{Syntax, TooLarge, BadTarget, NoFile}
 use Rattle.constraint_parse.specs.Values.{Spells}
@@ -21,6 +19,7 @@ use Rattle.constraint_parse.specs.declared.constraint.Constraint.{Constraint}
 use Rattle.grid_projection.specs.Marks.{marks}
 use Rattle.grid_projection.specs.Resolved.{cause}
 use Rattle.sequence_select.specs.Selections.{selections}
+pub use Rattle.dap_http.specs.Sent.{error_object}
 use Rattle.dap_http.specs.Targets.{Asked, target_of}
 use Rattle.dap_http.specs.Texts.{version}
 use Rattle.dap_http.specs.declared.kind.Kind.{Kind}
@@ -102,10 +101,6 @@ AnswersAsked files a = Answers a.kind files a.name a.query
 -- the text or the first cause of a target
 abbrev pub Results : List ℕ → Files → Result Text Cause → Type 0
 Results target files = Then (Is (asked target)) (AnswersAsked files)
-
--- the Error object for a cause (DAP 2.0, Error objects)
-abbrev pub error_object : Cause → List ℕ
-error_object cause = error_text (error_code cause) (message_text cause)
 
 -- what is put of an answer: its text, or the Error object for its cause
 abbrev pub put_of : Result Text Cause → List ℕ

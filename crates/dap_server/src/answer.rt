@@ -1,25 +1,26 @@
 //! The answer to one request.
 
 ghost use Rattle.std.specs.Prelude.{◌≡◌, ◌≢◌, ◌≤◌, ◌+◌, ◌⊎◌, ℕ, List, Bool, Some, IsSome, Ok, Err, false, ◌||◌};
-ghost use Rattle.dap_outside.specs.Causes.{Rose};
 ghost use Rattle.dap_http.specs.Requests.{is_other};
 ghost use Rattle.dap_http.specs.Targets.{target_of};
-ghost use Rattle.xdr_encode.specs.Bodies.{FitsFile, cost_in, text_in};
+ghost use Rattle.xdr_encode.specs.Bodies.{FitsFile, HasNoFile, cost_in, text_in};
 ghost use Rattle.dap_server.specs.Costs.{IsCost};
-ghost use Rattle.dap_server.specs.Prepared.{MayGive, asked_of};
+ghost use Rattle.dap_server.specs.Files.{form_of, table};
+ghost use Rattle.dap_server.specs.Prepared.{IsOver, MayGive, asked_of};
 ghost use Rattle.dap_server.specs.Replies.{is_head, wants_memory};
 ghost use Rattle.dap_server.specs.Results.{text_of};
-ghost use Rattle.dap_server.specs.inner.Serving.{Answers, AnswersWith, Costs, PutsCause, PutsReply, data_front, request_in};
+ghost use Rattle.dap_server.specs.inner.Serving.{Answers, AnswersWith, Costs, PutsCause, PutsReply, SinkRose, data_front, request_in};
 
 use crate::prepared::Prepared;
 use crate::preparing::prepare;
 use crate::put::put_reply;
-use crate::reply::{data_head, error_reply, text_reply};
 use crate::turn::Answered;
 use crate::values::put_values;
 use crate::way::Way;
 use dap_errors::{Cause, status};
-use dap_http::{Head, Kind, Target, TargetRefusal, memory_reply};
+use dap_http::{
+    Head, Kind, Target, TargetRefusal, data_head, error_reply, memory_reply, text_reply,
+};
 use dap_outside::{Shelf, Sink};
 use dap_types::{Bytes, Memory};
 use std::alloc::Global;
@@ -44,7 +45,7 @@ fn is_other(head: &Head) -> bool
 /// Puts the reply for a want of memory. It takes none.
 fn put_memory<O: Sink>(out: &mut O, head: &Head, ends: bool) -> Answered
     ensures puts { PutsReply (request_in head.now ends) (Err Cause.OutOfMemory) (O.written out.old) (O.written out.new) result }
-    ensures fault { result ≡ Answered.WriteFault → Rose (O.put_faults out.old) (O.put_faults out.new) }
+    ensures fault { SinkRose result (O.put_faults out.old) (O.put_faults out.new) }
     ensures later { O.put_faults out.old ≤ O.put_faults out.new }
     ensures beside { O.beside_writing out.new ≡ O.beside_writing out.old }
 {
@@ -67,7 +68,7 @@ fn put_cause<O: Sink>(
     cause: &Cause,
 ) -> Answered
     ensures puts { PutsCause (request_in head.now ends) cause.now (O.written out.old) (O.written out.new) result }
-    ensures fault { result ≡ Answered.WriteFault → Rose (O.put_faults out.old) (O.put_faults out.new) }
+    ensures fault { SinkRose result (O.put_faults out.old) (O.put_faults out.new) }
     ensures later { O.put_faults out.old ≤ O.put_faults out.new }
     ensures beside { O.beside_writing out.new ≡ O.beside_writing out.old }
 {
@@ -90,7 +91,7 @@ fn put_text<O: Sink>(
     requires { kind ≢ Kind.Dods }
     ensures puts { (PutsReply (request_in head.now ends) (Ok (text_of kind text.now)) (O.written out.old) (O.written out.new) result)
         ⊎ PutsReply (request_in head.now ends) (Err Cause.OutOfMemory) (O.written out.old) (O.written out.new) result }
-    ensures fault { result ≡ Answered.WriteFault → Rose (O.put_faults out.old) (O.put_faults out.new) }
+    ensures fault { SinkRose result (O.put_faults out.old) (O.put_faults out.new) }
     ensures later { O.put_faults out.old ≤ O.put_faults out.new }
     ensures beside { O.beside_writing out.new ≡ O.beside_writing out.old }
 {
@@ -102,8 +103,8 @@ fn put_text<O: Sink>(
 
 /// Answers a request of a data response with the values that are read from its file.
 fn answer_values<R: Threads + Sync, S: Shelf, O: Sink>(
-    alloc: Global,
     rt: &R,
+    alloc: Global,
     shelf: &mut S,
     file: &mut S::File,
     body: &mut Body,
@@ -119,8 +120,9 @@ fn answer_values<R: Threads + Sync, S: Shelf, O: Sink>(
     requires get { is_head (request_in head.now ends) ≡ false }
     requires front { front.now ≡ data_front (request_in head.now ends) }
     requires fits { FitsFile body.old (S.size_of shelf.old file.old) }
-    requires body { (bytes : List ℕ) → S.content shelf.old file.old ≡ Some bytes → MayGive (S.files shelf.old) (asked_of target.now) (Ok (text_of Kind.Dods (text_in body.old bytes))) }
+    requires body { (bytes : List ℕ) → IsOver target.now.name (S.content shelf.old file.old) bytes → MayGive (S.files shelf.old) (asked_of target.now) (Ok (text_of Kind.Dods (text_in body.old bytes))) }
     requires accepted { (text : List ℕ) × MayGive (S.files shelf.old) (asked_of target.now) (Ok (text_of Kind.Dods text)) }
+    requires alone { form_of target.now.name ≡ Some table → HasNoFile body.old }
     requires tells { IsSome (S.files shelf.old) → IsSome (S.content shelf.old file.old) }
     requires cost { (cost : ℕ) × IsCost (S.files shelf.old) (asked_of target.now) cost × (cost_in body.old ≤ cost) }
     requires some { 1 ≤ workers }
@@ -130,7 +132,7 @@ fn answer_values<R: Threads + Sync, S: Shelf, O: Sink>(
         (record { written = O.written out.new; faults = S.faults shelf.new; asked = S.asked shelf.new }) result }
     ensures files { S.files shelf.new ≡ S.files shelf.old }
     ensures shelf_later { S.faults shelf.old ≤ S.faults shelf.new }
-    ensures fault { result ≡ Answered.WriteFault → Rose (O.put_faults out.old) (O.put_faults out.new) }
+    ensures fault { SinkRose result (O.put_faults out.old) (O.put_faults out.new) }
     ensures later { O.put_faults out.old ≤ O.put_faults out.new }
     ensures beside { O.beside_writing out.new ≡ O.beside_writing out.old }
 {
@@ -143,8 +145,8 @@ fn answer_values<R: Threads + Sync, S: Shelf, O: Sink>(
 
 /// Answers a request of a data response.
 fn answer_data<R: Threads + Sync, S: Shelf, O: Sink>(
-    alloc: Global,
     rt: &R,
+    alloc: Global,
     shelf: &mut S,
     file: &mut S::File,
     body: &mut Body,
@@ -157,8 +159,9 @@ fn answer_data<R: Threads + Sync, S: Shelf, O: Sink>(
     requires target { target_of head.now.target ≡ Some (asked_of target.now) }
     requires served { is_other head.now.method ≡ false }
     requires fits { FitsFile body.old (S.size_of shelf.old file.old) }
-    requires body { (bytes : List ℕ) → S.content shelf.old file.old ≡ Some bytes → MayGive (S.files shelf.old) (asked_of target.now) (Ok (text_of Kind.Dods (text_in body.old bytes))) }
+    requires body { (bytes : List ℕ) → IsOver target.now.name (S.content shelf.old file.old) bytes → MayGive (S.files shelf.old) (asked_of target.now) (Ok (text_of Kind.Dods (text_in body.old bytes))) }
     requires accepted { (text : List ℕ) × MayGive (S.files shelf.old) (asked_of target.now) (Ok (text_of Kind.Dods text)) }
+    requires alone { form_of target.now.name ≡ Some table → HasNoFile body.old }
     requires tells { IsSome (S.files shelf.old) → IsSome (S.content shelf.old file.old) }
     requires cost { (cost : ℕ) × IsCost (S.files shelf.old) (asked_of target.now) cost × (cost_in body.old ≤ cost) }
     requires some { 1 ≤ workers }
@@ -168,7 +171,7 @@ fn answer_data<R: Threads + Sync, S: Shelf, O: Sink>(
         (record { written = O.written out.new; faults = S.faults shelf.new; asked = S.asked shelf.new }) result }
     ensures files { S.files shelf.new ≡ S.files shelf.old }
     ensures shelf_later { S.faults shelf.old ≤ S.faults shelf.new }
-    ensures fault { result ≡ Answered.WriteFault → Rose (O.put_faults out.old) (O.put_faults out.new) }
+    ensures fault { SinkRose result (O.put_faults out.old) (O.put_faults out.new) }
     ensures later { O.put_faults out.old ≤ O.put_faults out.new }
     ensures beside { O.beside_writing out.new ≡ O.beside_writing out.old }
 {
@@ -178,8 +181,8 @@ fn answer_data<R: Threads + Sync, S: Shelf, O: Sink>(
                 return put_reply(out, front.bytes(), 200, ends);
             }
             answer_values(
-                alloc,
                 rt,
+                alloc,
                 shelf,
                 file,
                 body,
@@ -197,8 +200,8 @@ fn answer_data<R: Threads + Sync, S: Shelf, O: Sink>(
 
 /// Answers a request whose target was read.
 fn answer_target<R: Threads + Sync, S: Shelf, O: Sink>(
-    alloc: Global,
     rt: &R,
+    alloc: Global,
     shelf: &mut S,
     out: &mut O,
     head: &Head,
@@ -215,14 +218,14 @@ fn answer_target<R: Threads + Sync, S: Shelf, O: Sink>(
         (record { written = O.written out.new; faults = S.faults shelf.new; asked = S.asked shelf.new }) result }
     ensures files { S.files shelf.new ≡ S.files shelf.old }
     ensures shelf_later { S.faults shelf.old ≤ S.faults shelf.new }
-    ensures fault { result ≡ Answered.WriteFault → Rose (O.put_faults out.old) (O.put_faults out.new) }
+    ensures fault { SinkRose result (O.put_faults out.old) (O.put_faults out.new) }
     ensures later { O.put_faults out.old ≤ O.put_faults out.new }
     ensures beside { O.beside_writing out.new ≡ O.beside_writing out.old }
 {
-    match prepare(alloc, rt, shelf, target, workers) {
+    match prepare(rt, alloc, shelf, target, workers) {
         Prepared::Text { kind, text } => put_text(alloc, out, head, ends, kind, text.bytes()),
         Prepared::Body { mut body, mut file } => answer_data(
-            alloc, rt, shelf, &mut file, &mut body, out, head, ends, target, workers,
+            rt, alloc, shelf, &mut file, &mut body, out, head, ends, target, workers,
         ),
         Prepared::Refuse(cause) => put_cause(alloc, out, head, ends, &cause),
         Prepared::ShelfFault => put_cause(alloc, out, head, ends, &Cause::ReadFailed),
@@ -232,8 +235,8 @@ fn answer_target<R: Threads + Sync, S: Shelf, O: Sink>(
 
 /// Answers a request.
 pub fn answer<R: Threads + Sync, S: Shelf, O: Sink>(
-    alloc: Global,
     rt: &R,
+    alloc: Global,
     shelf: &mut S,
     out: &mut O,
     head: &Head,
@@ -247,7 +250,7 @@ pub fn answer<R: Threads + Sync, S: Shelf, O: Sink>(
         (record { written = O.written out.new; faults = S.faults shelf.new; asked = S.asked shelf.new }) result }
     ensures files { S.files shelf.new ≡ S.files shelf.old }
     ensures shelf_later { S.faults shelf.old ≤ S.faults shelf.new }
-    ensures fault { result ≡ Answered.WriteFault → Rose (O.put_faults out.old) (O.put_faults out.new) }
+    ensures fault { SinkRose result (O.put_faults out.old) (O.put_faults out.new) }
     ensures later { O.put_faults out.old ≤ O.put_faults out.new }
     ensures beside { O.beside_writing out.new ≡ O.beside_writing out.old }
 {
@@ -255,7 +258,7 @@ pub fn answer<R: Threads + Sync, S: Shelf, O: Sink>(
         return put_cause(alloc, out, head, ends, &Cause::BadMethod);
     }
     match Target::read(alloc, head.target.bytes()) {
-        Ok(target) => answer_target(alloc, rt, shelf, out, head, ends, &target, workers),
+        Ok(target) => answer_target(rt, alloc, shelf, out, head, ends, &target, workers),
         Err(TargetRefusal::BadTarget) => put_cause(alloc, out, head, ends, &Cause::BadTarget),
         Err(TargetRefusal::Memory) => put_memory(out, head, ends),
     }

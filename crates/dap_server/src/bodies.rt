@@ -79,8 +79,8 @@ fn all_rows(alloc: Global, count: u32) -> Result<List<bool>, Memory>
 
 /// The rows of a table in which the clauses of a constraint hold.
 fn rows_kept<R: Threads + Sync>(
-    alloc: Global,
     rt: &R,
+    alloc: Global,
     table: &Table,
     dataset: &Dataset,
     index: &Index,
@@ -102,8 +102,8 @@ fn rows_kept<R: Threads + Sync>(
 
 /// The body for what a query leaves of a table.
 pub fn table_body<R: Threads + Sync>(
-    alloc: Global,
     rt: &R,
+    alloc: Global,
     table: Table,
     query: &[u8],
     workers: u32,
@@ -120,8 +120,8 @@ pub fn table_body<R: Threads + Sync>(
     let dataset = table.dataset(alloc)?;
     let marked = marked_by(alloc, &dataset, query)?;
     let rows = rows_kept(
-        alloc,
         rt,
+        alloc,
         &table,
         &dataset,
         &marked.index,
@@ -136,8 +136,8 @@ pub fn table_body<R: Threads + Sync>(
 
 /// The body for what a query leaves of a stored file of that name.
 pub fn body_of<R: Threads + Sync>(
-    alloc: Global,
     rt: &R,
+    alloc: Global,
     opened: Opened,
     name: &str,
     query: &[u8],
@@ -159,6 +159,6 @@ pub fn body_of<R: Threads + Sync>(
 {
     match opened {
         Opened::Netcdf(header) => cdf_body(alloc, &header, name, query),
-        Opened::Table(table) => table_body(alloc, rt, table, query, workers),
+        Opened::Table(table) => table_body(rt, alloc, table, query, workers),
     }
 }

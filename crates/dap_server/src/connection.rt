@@ -1,23 +1,23 @@
 //! The requests of a connection.
 
-ghost use Rattle.std.specs.Prelude.{◌≡◌, ◌≢◌, ◌+◌, ◌<◌, ◌≤◌, ◌++◌, [], ℕ, List, Some, IsSome, true, false, ◌||◌, ◌==◌};
+ghost use Rattle.std.specs.Prelude.{◌≡◌, ◌≢◌, ◌+◌, ◌<◌, ◌≤◌, ◌++◌, [], ℕ, List, Some, true, false, ◌||◌, ◌==◌};
 ghost use Rattle.std.specs.Io.KnownBytes.{Appends, Consumes};
 ghost use Rattle.dap_outside.specs.Causes.{Rose};
 ghost use Rattle.dap_errors.specs.Causes.{http_status};
+ghost use Rattle.httparse.specs.Grammar.{RequestHead};
 ghost use Rattle.dap_http.specs.Reading.{kept_by};
-ghost use Rattle.dap_server.specs.Connections.{Connection, ConnectionMayAsk, IsServed, RoseBy, RoseFor, failures, put_from};
+ghost use Rattle.dap_http.specs.Requests.{FirstRequest};
+ghost use Rattle.dap_server.specs.Connections.{Connection, ConnectionMayAsk, FailedBy, IsPut, IsServed, RoseFor, failures, leaves_open};
 ghost use Rattle.dap_server.specs.Files.{Files};
 ghost use Rattle.dap_server.specs.Whole.{AnswersAll};
 ghost use Rattle.dap_server.specs.inner.Serving.{GoesOnFew, PutsLast, PutsRefusal, RoseNext, Serves, ServesFrom, next_of};
 
 use crate::answer::answer;
-use crate::put::put_whole;
-use crate::reply::error_reply;
 use crate::served::{Ending, Served};
 use crate::turn::{Answered, Next};
 use dap_errors::{Cause, status};
-use dap_http::{Head, HeadRead, HeadReader, memory_reply};
-use dap_outside::{Link, Shelf, Sink};
+use dap_http::{Head, HeadRead, HeadReader, error_reply, memory_reply};
+use dap_outside::{Link, Shelf, Sink, put_all};
 use dap_types::Memory;
 use std::alloc::Global;
 use std::thread::Threads;
@@ -33,7 +33,7 @@ fn put_last<O: Sink>(out: &mut O, bytes: &[u8], status: u16, answered: u32, befo
     ensures later { O.put_faults out.old ≤ O.put_faults out.new }
     ensures beside { O.beside_writing out.new ≡ O.beside_writing out.old }
 {
-    match put_whole(out, bytes) {
+    match put_all(out, bytes) {
         Ok(()) => Served {
             replies: answered + 1,
             status,
@@ -99,8 +99,8 @@ fn next_of(reply: Answered, answered: u32, before: u16) -> Next
 
 /// Reads a request behind so many that were answered, the last of which with that status, and answers it.
 fn serve_next<R: Threads + Sync, S: Shelf, L: Link>(
-    alloc: Global,
     rt: &R,
+    alloc: Global,
     shelf: &mut S,
     link: &mut L,
     reader: &mut HeadReader,
@@ -119,6 +119,9 @@ fn serve_next<R: Threads + Sync, S: Shelf, L: Link>(
     ensures shelf_later { S.faults shelf.old ≤ S.faults shelf.new }
     ensures takes_later { L.take_faults link.old ≤ L.take_faults link.new }
     ensures puts_later { L.put_faults link.old ≤ L.put_faults link.new }
+    // With a whole request at hand nothing is taken.
+    ensures at_hand { (head : RequestHead) (rest : List ℕ) → FirstRequest (kept_by reader.old) head rest →
+        (L.left link.new ≡ L.left link.old) × (L.ended link.new ≡ L.ended link.old) × (L.take_faults link.new ≡ L.take_faults link.old) }
     ensures files { S.files shelf.new ≡ S.files shelf.old }
     ensures whole { L.whole link.new ≡ L.whole link.old }
 {
@@ -126,7 +129,7 @@ fn serve_next<R: Threads + Sync, S: Shelf, L: Link>(
         HeadRead::Head(head) => {
             let ends = ends_at(&head, answered);
             next_of(
-                answer(alloc, rt, shelf, link, &head, ends, workers),
+                answer(rt, alloc, shelf, link, &head, ends, workers),
                 answered,
                 before,
             )
@@ -167,8 +170,8 @@ fn serve_next<R: Threads + Sync, S: Shelf, L: Link>(
 
 /// Answers the requests that a reader finds.
 fn serve_requests<R: Threads + Sync, S: Shelf, L: Link>(
-    alloc: Global,
     rt: &R,
+    alloc: Global,
     shelf: &mut S,
     link: &mut L,
     mut reader: HeadReader,
@@ -189,8 +192,8 @@ fn serve_requests<R: Threads + Sync, S: Shelf, L: Link>(
     let mut before = 0;
     'requests: loop {
         match serve_next(
-            alloc,
             rt,
+            alloc,
             shelf,
             link,
             &mut reader,
@@ -214,8 +217,8 @@ fn serve_requests<R: Threads + Sync, S: Shelf, L: Link>(
 /// A failed read of a file before the head of a reply is answered with status 500; behind it the reply
 /// breaks off. A want of memory is answered with status 503, which is whole and ends the connection.
 pub fn serve_connection<R: Threads + Sync, S: Shelf, L: Link>(
-    alloc: Global,
     rt: &R,
+    alloc: Global,
     shelf: &mut S,
     link: &mut L,
     workers: u32,
@@ -224,14 +227,15 @@ pub fn serve_connection<R: Threads + Sync, S: Shelf, L: Link>(
     requires many { workers ≤ 64 }
 
     // In every run: the first requests of what was taken are answered in order, each by its reply over
-    // files that the shelf may have, or as a failed read or a want of memory; where the shelf tells its
-    // files, that is what the link gained; the connection ends as it is said; so often failed the shelf;
-    // and no more was asked of it than those answers may ask.
+    // files that the shelf may have, or as a failed read or a want of memory; that is what the link gained,
+    // but for values of files that the shelf does not tell; the connection ends as it is said; so often
+    // failed the shelf, and never where no answer leaves it open; and no more was asked of it than those
+    // answers may ask.
     ensures served { (c : Connection) × (taken : List ℕ)
         × Consumes (L.left link.old) (L.left link.new) taken
-        × (IsSome (S.files shelf.old) → Appends (L.written link.old) (L.written link.new) (put_from 1 c))
+        × ((put : List ℕ) × Appends (L.written link.old) (L.written link.new) put × IsPut (S.files shelf.old) 1 c put)
         × IsServed (S.files shelf.old) taken (L.ended link.new) c result
-        × RoseBy (failures c result.ending) (S.faults shelf.old) (S.faults shelf.new)
+        × FailedBy (failures c result.ending) (leaves_open c.turns result.ending c.behind) (S.faults shelf.old) (S.faults shelf.new)
         × ((n : ℕ) × ConnectionMayAsk (S.files shelf.old) c n × (S.asked shelf.new ≤ S.asked shelf.old + n)) }
 
     // Where the shelf tells its files and the link its input, no count of a fault rose and memory was
@@ -247,7 +251,7 @@ pub fn serve_connection<R: Threads + Sync, S: Shelf, L: Link>(
     ensures whole { L.whole link.new ≡ L.whole link.old }
 {
     match HeadReader::new(alloc) {
-        Ok(reader) => serve_requests(alloc, rt, shelf, link, reader, workers),
+        Ok(reader) => serve_requests(rt, alloc, shelf, link, reader, workers),
         Err(Memory) => put_last(link, memory_reply(false), 503, 0, 0),
     }
 }

@@ -1,10 +1,10 @@
 //! Data on its way to a sink, framed.
 
-ghost use Rattle.std.specs.Prelude.{◌≡◌, ◌≤◌, ◌+◌, ℕ, List, Some};
+ghost use Rattle.std.specs.Prelude.{◌≡◌, ◌≤◌, ◌+◌, ℕ, List};
 ghost use Rattle.dap_http.specs.Frames.{framed};
 ghost use Rattle.xdr_encode.specs.Bodies.{FitsFile, cost_in, text_in};
 ghost use Rattle.xdr_encode.specs.Streamed.{HasStreamCauses};
-ghost use Rattle.dap_server.specs.inner.Serving.{PutsFramed};
+ghost use Rattle.dap_server.specs.inner.Serving.{GoesOver, PutsFramed};
 
 use dap_http::Framer;
 use dap_outside::{Shelf, Sink};
@@ -25,7 +25,7 @@ pub fn put_framed<R: Threads + Sync, S: Shelf, O: Sink>(
     requires fits { FitsFile body.old (S.size_of shelf.old file.old) }
     requires some { 1 ≤ workers }
     requires many { workers ≤ 64 }
-    ensures puts { (bytes : List ℕ) → S.content shelf.old file.old ≡ Some bytes →
+    ensures puts { (bytes : List ℕ) → GoesOver body.old (S.content shelf.old file.old) bytes →
         PutsFramed (framed framer.chunked (text_in body.old bytes)) (O.written out.old) (O.written out.new) result }
     ensures files { S.files shelf.new ≡ S.files shelf.old }
     ensures asked { S.asked shelf.new ≤ S.asked shelf.old + cost_in body.old }

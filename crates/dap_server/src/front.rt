@@ -5,7 +5,7 @@ ghost use Rattle.dap_outside.specs.Causes.{Rose};
 ghost use Rattle.dap_outside.specs.Files.{HasSize, Reads};
 ghost use Rattle.netcdf_source.specs.Header.{IsCut, IsHeader};
 ghost use Rattle.dap_server.specs.Files.{IsHeaderCause, front, header_cause};
-ghost use Rattle.dap_server.specs.inner.Opening.{IsRead, IsWanted, WhereFault, WhereRefused, stop_of};
+ghost use Rattle.dap_server.specs.inner.Opening.{IsRead, IsWanted, StaysBut, WhereFault, WhereRefused, stop_of};
 
 use crate::stop::{Stop, damaged};
 use dap_errors::FileCause;
@@ -64,6 +64,7 @@ fn read_on<S: Shelf>(
     ensures why { IfErr result (WhereFault (Rose (S.faults shelf.old) (S.faults shelf.new))) }
     ensures no_cause { IfErr result (WhereRefused (λ cause. ⊥)) }
     ensures later { S.faults shelf.old ≤ S.faults shelf.new }
+    ensures stays { StaysBut result (S.faults shelf.old) (S.faults shelf.new) }
     ensures files { S.files shelf.new ≡ S.files shelf.old }
     ensures content { S.content shelf.new file.new ≡ S.content shelf.old file.old }
     ensures sizes { S.size_of shelf.new file.new ≡ S.size_of shelf.old file.old }
@@ -106,6 +107,7 @@ fn read_header_on<S: Shelf>(
         × ((more : List ℕ) → length (held.new.items ++ more) ≡ min size 1048576 → IsHeaderCause (held.new.items ++ more) size cause))) }
     ensures why { IfErr result (WhereFault (Rose (S.faults shelf.old) (S.faults shelf.new))) }
     ensures later { S.faults shelf.old ≤ S.faults shelf.new }
+    ensures stays { StaysBut result (S.faults shelf.old) (S.faults shelf.new) }
     ensures files { S.files shelf.new ≡ S.files shelf.old }
     ensures content { S.content shelf.new file.new ≡ S.content shelf.old file.old }
     ensures sizes { S.size_of shelf.new file.new ≡ S.size_of shelf.old file.old }
@@ -126,6 +128,7 @@ pub fn open_netcdf<S: Shelf>(
     ensures refused { IfErr result (WhereRefused (λ cause. (bytes : List ℕ) × IsRead (S.content shelf.old file.old) bytes × IsHeaderCause (front bytes) (length bytes) cause)) }
     ensures why { IfErr result (WhereFault (Rose (S.faults shelf.old) (S.faults shelf.new))) }
     ensures later { S.faults shelf.old ≤ S.faults shelf.new }
+    ensures stays { StaysBut result (S.faults shelf.old) (S.faults shelf.new) }
     ensures files { S.files shelf.new ≡ S.files shelf.old }
     ensures content { S.content shelf.new file.new ≡ S.content shelf.old file.old }
     ensures sizes { S.size_of shelf.new file.new ≡ S.size_of shelf.old file.old }

@@ -8,7 +8,7 @@ ghost use Rattle.dap_server.specs.Costs.{IsFormCost, IsFormCostAt, most_first};
 ghost use Rattle.dap_server.specs.Files.{form_of, table};
 ghost use Rattle.dap_server.specs.Prepared.{IsOver};
 ghost use Rattle.dap_server.specs.Results.{text_of};
-ghost use Rattle.dap_server.specs.inner.Opening.{WhereFault, WhereRefused};
+ghost use Rattle.dap_server.specs.inner.Opening.{StaysBut, WhereFault, WhereRefused};
 ghost use Rattle.dap_server.specs.inner.Preparing.{MayGiveAs};
 
 use crate::bodies::body_of;
@@ -37,6 +37,7 @@ pub fn das_answer<S: Shelf>(alloc: Global, shelf: &mut S, name: &str) -> Result<
     ensures refused { IfErr result (WhereRefused (λ why. (query : List ℕ) → MayGiveAs (S.files shelf.old) Kind.Das name.now query (Err why))) }
     ensures why { IfErr result (WhereFault (IsTrue (is_some (form_of name.now)) × Rose (S.faults shelf.old) (S.faults shelf.new))) }
     ensures later { S.faults shelf.old ≤ S.faults shelf.new }
+    ensures stays { StaysBut result (S.faults shelf.old) (S.faults shelf.new) }
     ensures files { S.files shelf.new ≡ S.files shelf.old }
     ensures asked { S.asked shelf.new ≤ S.asked shelf.old + most_first (S.files shelf.old) name.now }
     ensures untouched { form_of name.now ≡ None → shelf.new ≡ shelf.old }
@@ -56,6 +57,7 @@ pub fn dds_answer<S: Shelf>(
     ensures refused { IfErr result (WhereRefused (λ why. MayGiveAs (S.files shelf.old) Kind.Dds name.now query.now (Err why))) }
     ensures why { IfErr result (WhereFault (IsTrue (is_some (form_of name.now)) × Rose (S.faults shelf.old) (S.faults shelf.new))) }
     ensures later { S.faults shelf.old ≤ S.faults shelf.new }
+    ensures stays { StaysBut result (S.faults shelf.old) (S.faults shelf.new) }
     ensures files { S.files shelf.new ≡ S.files shelf.old }
     ensures asked { S.asked shelf.new ≤ S.asked shelf.old + most_first (S.files shelf.old) name.now }
     ensures untouched { form_of name.now ≡ None → shelf.new ≡ shelf.old }
@@ -66,8 +68,8 @@ pub fn dds_answer<S: Shelf>(
 
 /// The body for what a query leaves of the file of a name, and that file.
 pub fn dods_answer<R: Threads + Sync, S: Shelf>(
-    alloc: Global,
     rt: &R,
+    alloc: Global,
     shelf: &mut S,
     name: &str,
     query: &[u8],
@@ -88,11 +90,12 @@ pub fn dods_answer<R: Threads + Sync, S: Shelf>(
     ensures refused { IfErr result (WhereRefused (λ why. MayGiveAs (S.files shelf.old) Kind.Dods name.now query.now (Err why))) }
     ensures why { IfErr result (WhereFault (IsTrue (is_some (form_of name.now)) × Rose (S.faults shelf.old) (S.faults shelf.new))) }
     ensures later { S.faults shelf.old ≤ S.faults shelf.new }
+    ensures stays { StaysBut result (S.faults shelf.old) (S.faults shelf.new) }
     ensures files { S.files shelf.new ≡ S.files shelf.old }
     ensures asked { S.asked shelf.new ≤ S.asked shelf.old + most_first (S.files shelf.old) name.now }
     ensures untouched { form_of name.now ≡ None → shelf.new ≡ shelf.old }
 {
     let (opened, file) = open_named(alloc, shelf, name)?;
-    let body = body_of(alloc, rt, opened, name, query, workers)?;
+    let body = body_of(rt, alloc, opened, name, query, workers)?;
     Ok((body, file))
 }

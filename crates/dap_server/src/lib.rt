@@ -15,7 +15,6 @@ mod open;
 mod prepared;
 mod preparing;
 mod put;
-mod reply;
 mod room;
 mod roomed;
 mod served;

@@ -7,7 +7,7 @@ ghost use Rattle.dap_outside.specs.Files.{Finds, HasSize, Reads};
 ghost use Rattle.dap_server.specs.Costs.{most_first, most_of_form};
 ghost use Rattle.dap_server.specs.Files.{Files, IsStored, IsTableCause, MayHave, form_of, has_end, table, table_cause};
 ghost use Rattle.dap_server.specs.Results.{Opens};
-ghost use Rattle.dap_server.specs.inner.Opening.{IsMissing, IsRead, Lies, OpenedAs, WhereFault, WhereRefused, form_view, stop_of};
+ghost use Rattle.dap_server.specs.inner.Opening.{IsMissing, IsRead, Lies, OpenedAs, StaysBut, WhereFault, WhereRefused, form_view, stop_of};
 
 use crate::front::open_netcdf;
 use crate::stop::{Stop, damaged};
@@ -47,6 +47,7 @@ fn read_front<S: Shelf>(
     ensures why { IfErr result (WhereFault (Rose (S.faults shelf.old) (S.faults shelf.new))) }
     ensures no_cause { IfErr result (WhereRefused (λ cause. ⊥)) }
     ensures later { S.faults shelf.old ≤ S.faults shelf.new }
+    ensures stays { StaysBut result (S.faults shelf.old) (S.faults shelf.new) }
     ensures files { S.files shelf.new ≡ S.files shelf.old }
     ensures content { S.content shelf.new file.new ≡ S.content shelf.old file.old }
     ensures sizes { S.size_of shelf.new file.new ≡ S.size_of shelf.old file.old }
@@ -99,6 +100,7 @@ fn open_table<S: Shelf>(
     ensures refused { IfErr result (WhereRefused (λ cause. (bytes : List ℕ) × IsRead (S.content shelf.old file.old) bytes × IsTableCause name.now bytes cause)) }
     ensures why { IfErr result (WhereFault (Rose (S.faults shelf.old) (S.faults shelf.new))) }
     ensures later { S.faults shelf.old ≤ S.faults shelf.new }
+    ensures stays { StaysBut result (S.faults shelf.old) (S.faults shelf.new) }
     ensures files { S.files shelf.new ≡ S.files shelf.old }
     ensures content { S.content shelf.new file.new ≡ S.content shelf.old file.old }
     ensures sizes { S.size_of shelf.new file.new ≡ S.size_of shelf.old file.old }
@@ -139,6 +141,7 @@ fn find<S: Shelf>(shelf: &mut S, name: &str) -> Result<S::File, Stop>
     ensures refused { IfErr result (WhereRefused (λ cause. (cause ≡ Cause.NoFile) × IsMissing (S.files shelf.old) name.now)) }
     ensures why { IfErr result (WhereFault (Rose (S.faults shelf.old) (S.faults shelf.new))) }
     ensures later { S.faults shelf.old ≤ S.faults shelf.new }
+    ensures stays { StaysBut result (S.faults shelf.old) (S.faults shelf.new) }
     ensures files { S.files shelf.new ≡ S.files shelf.old }
     ensures asked { S.asked shelf.new ≡ S.asked shelf.old }
 {
@@ -162,6 +165,7 @@ fn open_file<S: Shelf>(
     ensures refused { IfErr result (WhereRefused (λ cause. (bytes : List ℕ) × IsRead (S.content shelf.old file.old) bytes × IsStored (form_view form) name.now bytes (Err cause))) }
     ensures why { IfErr result (WhereFault (Rose (S.faults shelf.old) (S.faults shelf.new))) }
     ensures later { S.faults shelf.old ≤ S.faults shelf.new }
+    ensures stays { StaysBut result (S.faults shelf.old) (S.faults shelf.new) }
     ensures files { S.files shelf.new ≡ S.files shelf.old }
     ensures content { S.content shelf.new file.new ≡ S.content shelf.old file.old }
     ensures sizes { S.size_of shelf.new file.new ≡ S.size_of shelf.old file.old }
@@ -192,6 +196,7 @@ fn open_as<S: Shelf>(
     ensures refused { IfErr result (WhereRefused (λ cause. (files : Files) × MayHave (S.files shelf.old) files × Opens files name.now (Err cause))) }
     ensures why { IfErr result (WhereFault (Rose (S.faults shelf.old) (S.faults shelf.new))) }
     ensures later { S.faults shelf.old ≤ S.faults shelf.new }
+    ensures stays { StaysBut result (S.faults shelf.old) (S.faults shelf.new) }
     ensures files { S.files shelf.new ≡ S.files shelf.old }
     ensures asked { S.asked shelf.new ≤ S.asked shelf.old + most_first (S.files shelf.old) name.now }
 {
@@ -210,6 +215,7 @@ pub fn open_named<S: Shelf>(
     ensures refused { IfErr result (WhereRefused (λ cause. (files : Files) × MayHave (S.files shelf.old) files × Opens files name.now (Err cause))) }
     ensures why { IfErr result (WhereFault (IsTrue (is_some (form_of name.now)) × Rose (S.faults shelf.old) (S.faults shelf.new))) }
     ensures later { S.faults shelf.old ≤ S.faults shelf.new }
+    ensures stays { StaysBut result (S.faults shelf.old) (S.faults shelf.new) }
     ensures files { S.files shelf.new ≡ S.files shelf.old }
     ensures asked { S.asked shelf.new ≤ S.asked shelf.old + most_first (S.files shelf.old) name.now }
     ensures untouched { form_of name.now ≡ None → shelf.new ≡ shelf.old }

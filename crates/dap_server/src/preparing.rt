@@ -7,7 +7,7 @@ ghost use Rattle.dap_outside.specs.Files.{IsBytes};
 ghost use Rattle.xdr_encode.specs.Bodies.{FitsFile, HasNoFile, MayAsk, cost_in, text_in};
 ghost use Rattle.dap_server.specs.Costs.{IsCost, IsCostAt, asks_shelf, most_first};
 ghost use Rattle.dap_server.specs.Files.{form_of, table};
-ghost use Rattle.dap_server.specs.Prepared.{IsFor, IsOver, MayGive, MustGive, WhereBody, WhereRefuse, WhereShelfFault, WhereText, asked_of};
+ghost use Rattle.dap_server.specs.Prepared.{IsFor, IsOver, MayGive, MustGive, WhereBody, WhereNoShelfFault, WhereRefuse, WhereShelfFault, WhereText, asked_of};
 ghost use Rattle.dap_server.specs.Results.{Text, text_of};
 ghost use Rattle.dap_server.specs.inner.Preparing.{IsMade, body_prepared, stopped, text_prepared};
 
@@ -58,8 +58,8 @@ fn are_bytes(bytes: &[u8])
 
 /// The answer to a target.
 fn answer_of<R: Threads + Sync, S: Shelf>(
-    alloc: Global,
     rt: &R,
+    alloc: Global,
     shelf: &mut S,
     target: &Target,
     workers: u32,
@@ -68,6 +68,7 @@ fn answer_of<R: Threads + Sync, S: Shelf>(
     requires many { workers ≤ 64 }
     ensures made { IsMade (S.files shelf.old) (S.content shelf.new) (S.size_of shelf.new) (asked_of target.now) (Rose (S.faults shelf.old) (S.faults shelf.new)) result }
     ensures later { S.faults shelf.old ≤ S.faults shelf.new }
+    ensures kept { WhereNoShelfFault result (S.faults shelf.new ≡ S.faults shelf.old) }
     ensures files { S.files shelf.new ≡ S.files shelf.old }
     ensures asked { S.asked shelf.new ≤ S.asked shelf.old + most_first (S.files shelf.old) target.now.name }
     ensures untouched { asks_shelf (asked_of target.now) ≡ false → shelf.new ≡ shelf.old }
@@ -78,7 +79,7 @@ fn answer_of<R: Threads + Sync, S: Shelf>(
         Kind::Ver => text_prepared(Kind::Ver, version_answer(alloc)),
         Kind::Das => text_prepared(Kind::Das, das_answer(alloc, shelf, name)),
         Kind::Dds => text_prepared(Kind::Dds, dds_answer(alloc, shelf, name, query)),
-        Kind::Dods => body_prepared(dods_answer(alloc, rt, shelf, name, query, workers)),
+        Kind::Dods => body_prepared(dods_answer(rt, alloc, shelf, name, query, workers)),
     }
 }
 
@@ -90,8 +91,8 @@ fn answer_of<R: Threads + Sync, S: Shelf>(
 /// `ShelfFault` comes only where the shelf's count of faults rose, and only for a target that looks for a
 /// file.
 pub fn prepare<R: Threads + Sync, S: Shelf>(
-    alloc: Global,
     rt: &R,
+    alloc: Global,
     shelf: &mut S,
     target: &Target,
     workers: u32,
@@ -121,10 +122,11 @@ pub fn prepare<R: Threads + Sync, S: Shelf>(
     ensures only { (answer : Result Text Cause) → MustGive (S.files shelf.old) (asked_of target.now) answer → IsFor answer result }
 
     ensures later { S.faults shelf.old ≤ S.faults shelf.new }
+    ensures kept { WhereNoShelfFault result (S.faults shelf.new ≡ S.faults shelf.old) }
     ensures files { S.files shelf.new ≡ S.files shelf.old }
     ensures asked { S.asked shelf.new ≤ S.asked shelf.old + most_first (S.files shelf.old) target.now.name }
     ensures untouched { asks_shelf (asked_of target.now) ≡ false → shelf.new ≡ shelf.old }
 {
     are_bytes(target.query.bytes());
-    answer_of(alloc, rt, shelf, target, workers)
+    answer_of(rt, alloc, shelf, target, workers)
 }

@@ -55,6 +55,7 @@ impl Room {
     pub fn flush<O: Sink>(&mut self, out: &mut O) -> Result<(), Failed>
         ensures passes { Passes (O.written out.old) (held_in self.old) (O.written out.new) (held_in self.new) [] }
         ensures empty { OnOk result (self.new.bytes.items ≡ []) }
+        ensures left { OnErr result (0 < length (held_in self.new)) }
         ensures cause { HasCause (O.put_faults out.old) (O.put_faults out.new) result }
         ensures beside { O.beside_writing out.new ≡ O.beside_writing out.old }
     {
@@ -71,6 +72,7 @@ impl Room {
         ensures passes { Passes (O.written out.old) (held_in self.old) (O.written out.new) (held_in self.new) [] }
         ensures bytes { self.new.bytes ≡ self.old.bytes }
         ensures sent { OnOk result (self.old.sent < self.new.sent) }
+        ensures left { OnErr result (0 < length (held_in self.new)) }
         ensures cause { HasCause (O.put_faults out.old) (O.put_faults out.new) result }
         ensures beside { O.beside_writing out.new ≡ O.beside_writing out.old }
     {

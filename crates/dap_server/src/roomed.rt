@@ -3,7 +3,7 @@
 ghost use Rattle.std.specs.Prelude.{◌≡◌, List, ℕ, Some, IsTrue, OnOk, OnErr};
 ghost use Rattle.dap_outside.specs.Causes.{HasCause};
 ghost use Rattle.dap_http.specs.Framings.{start_of};
-ghost use Rattle.dap_server.specs.inner.Roomed.{HasFront, has_grown, held_in};
+ghost use Rattle.dap_server.specs.inner.Roomed.{HasFront, HasPart, has_grown, held_in};
 
 use crate::room::Room;
 use dap_outside::{Failed, Sink};
@@ -45,14 +45,16 @@ impl<'a, O: Sink> Roomed<'a, O, Room> {
         ensures same { self.exit.0.now ≡ self.entry.out.now }
         ensures part { (all : List ℕ) → ⟦<Roomed<'a, O, Room> as Sink>⟧.written self.entry ≡ Some all →
             HasFront (start_of O.written self.entry.began.items) (O.written self.exit.0.now) all }
+        ensures grown { IsTrue (has_grown (start_of O.written self.entry.began.items) (O.written self.exit.0.now)) }
     {}
 
     /// Puts what the room holds. Behind an `Ok` the other sink has gained all that was put here, and else a
-    /// front of it.
+    /// front of it that is not all.
     pub fn end(self) -> Result<(), Failed>
         ensures ok { OnOk result ((all : List ℕ) → ⟦<Roomed<'a, O, Room> as Sink>⟧.written self.entry ≡ Some all → O.written self.exit.0.now ≡ Some all) }
         ensures err { OnErr result ((all : List ℕ) → ⟦<Roomed<'a, O, Room> as Sink>⟧.written self.entry ≡ Some all →
-            HasFront (start_of O.written self.entry.began.items) (O.written self.exit.0.now) all) }
+            HasPart (start_of O.written self.entry.began.items) (O.written self.exit.0.now) all) }
+        ensures grown { IsTrue (has_grown (start_of O.written self.entry.began.items) (O.written self.exit.0.now)) }
         ensures cause { HasCause (O.put_faults self.entry.out.now) (O.put_faults self.exit.0.now) result }
         ensures beside { O.beside_writing self.exit.0.now ≡ O.beside_writing self.entry.out.now }
     {

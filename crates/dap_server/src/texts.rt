@@ -20,9 +20,7 @@ use dap_types::{Bytes, Dataset, Memory};
 use das_text::Attributes;
 use grid_projection::Marks;
 use std::alloc::Global;
-
-/// The most bytes of a DDS.
-const DDS_MAX: usize = 16_777_216;
+use xdr_encode::{BodyRefusal, left_dds};
 
 fn attributes_in(alloc: Global, opened: &Opened) -> Result<Attributes, Memory>
     ensures { IfOk result (λ a. attributes_view a ≡ attributes_in opened.now) }
@@ -52,23 +50,19 @@ pub fn das_of(alloc: Global, opened: &Opened) -> Result<Bytes, Memory>
     das_text::print(alloc, &attributes)
 }
 
-/// A DDS is refused where it is too long.
-fn check_dds(text: &[u8]) -> Result<(), Stop>
-    ensures { MatchResult result (λ _. length text.now ≤ 16777216) (λ stop. (stop ≡ Stop.Refused (Cause.TooLarge 0)) × (16777216 < length text.now)) }
-{
-    if text.len() > DDS_MAX {
-        return Err(Stop::Refused(Cause::TooLarge { leaf: 0 }));
-    }
-    Ok(())
-}
-
-/// The DDS of what marks leave of a dataset, of any length.
-fn dds_left(alloc: Global, dataset: &Dataset, marks: &Marks) -> Result<Bytes, Memory>
+/// The DDS of what marks leave of a dataset. One that is too long is refused before it is printed.
+fn dds_left(alloc: Global, dataset: &Dataset, marks: &Marks) -> Result<Bytes, Stop>
     requires { IsWellFormed (dataset_view dataset.now) }
-    ensures { IfOk result (λ text. text ≡ dds (constrained (marks_in marks.now) (dataset_view dataset.now))) }
+    ensures text { IfOk result (λ text. text ≡ dds (constrained (marks_in marks.now) (dataset_view dataset.now))) }
+    ensures short { IfOk result (λ text. length text ≤ 16777216) }
+    ensures refused { IfErr result (WhereRefused (λ why. (why ≡ Cause.TooLarge 0) × (16777216 < length (dds (constrained (marks_in marks.now) (dataset_view dataset.now)))))) }
+    ensures no_fault { IfErr result (WhereFault ⊥) }
 {
-    let left = marks.constrained(alloc, dataset)?;
-    dds_text::print(alloc, &left)
+    match left_dds(alloc, dataset, marks) {
+        Ok(text) => Ok(text),
+        Err(BodyRefusal::TooLarge { leaf }) => Err(Stop::Refused(Cause::TooLarge { leaf })),
+        Err(BodyRefusal::Memory) => Err(Stop::Memory),
+    }
 }
 
 /// The DDS of what a query leaves of a stored file.
@@ -80,6 +74,5 @@ pub fn dds_of(alloc: Global, opened: &Opened, name: &str, query: &[u8]) -> Resul
     let dataset = dataset_in(alloc, opened, name)?;
     let marked = marked_by(alloc, &dataset, query)?;
     let text = dds_left(alloc, &dataset, &marked.marks)?;
-    check_dds(text.bytes())?;
     Ok(text)
 }

@@ -1,17 +1,16 @@
 //! Data on its way to a sink: a head and the values behind it.
 
-ghost use Rattle.std.specs.Prelude.{◌≡◌, ◌≤◌, ◌+◌, ℕ, List, Some};
-ghost use Rattle.dap_outside.specs.Causes.{Rose};
+ghost use Rattle.std.specs.Prelude.{◌≡◌, ◌<◌, ◌≤◌, ◌+◌, ℕ, List, length};
+ghost use Rattle.std.specs.Io.KnownBytes.{Appends};
 ghost use Rattle.dap_http.specs.Frames.{framed};
 ghost use Rattle.xdr_encode.specs.Bodies.{FitsFile, cost_in, text_in};
-ghost use Rattle.dap_server.specs.inner.Serving.{PutsValues, SaysWhole, answered_by};
+ghost use Rattle.dap_server.specs.inner.Serving.{GoesOver, PutsValues, SaysWhole, ShelfRose, SinkRose, answered_by};
 
 use crate::framed::put_framed;
-use crate::put::put_whole;
 use crate::turn::Answered;
 use crate::way::Way;
 use dap_http::Framer;
-use dap_outside::{Shelf, Sink};
+use dap_outside::{Shelf, Sink, put_all};
 use std::thread::Threads;
 use xdr_encode::{Body, Streamed};
 
@@ -44,18 +43,18 @@ fn put_streamed<R: Threads + Sync, S: Shelf, O: Sink>(
     requires fits { FitsFile body.old (S.size_of shelf.old file.old) }
     requires some { 1 ≤ workers }
     requires many { workers ≤ 64 }
-    ensures puts { (bytes : List ℕ) → S.content shelf.old file.old ≡ Some bytes →
+    ensures puts { (bytes : List ℕ) → GoesOver body.old (S.content shelf.old file.old) bytes →
         PutsValues front.now (framed framer.chunked (text_in body.old bytes)) ends (O.written out.old) (O.written out.new) result }
     ensures last { SaysWhole ends result }
     ensures shelf_later { S.faults shelf.old ≤ S.faults shelf.new }
-    ensures shelf_fault { result ≡ Answered.Broken → Rose (S.faults shelf.old) (S.faults shelf.new) }
+    ensures shelf_fault { ShelfRose result (S.faults shelf.old) (S.faults shelf.new) }
     ensures files { S.files shelf.new ≡ S.files shelf.old }
     ensures asked { S.asked shelf.new ≤ S.asked shelf.old + cost_in body.old }
-    ensures fault { result ≡ Answered.WriteFault → Rose (O.put_faults out.old) (O.put_faults out.new) }
+    ensures fault { SinkRose result (O.put_faults out.old) (O.put_faults out.new) }
     ensures later { O.put_faults out.old ≤ O.put_faults out.new }
     ensures beside { O.beside_writing out.new ≡ O.beside_writing out.old }
 {
-    match put_whole(out, front) {
+    match put_all(out, front) {
         Ok(()) => answered_by(
             put_framed(rt, shelf, file, body, framer, out, workers),
             ends,
@@ -77,17 +76,20 @@ pub fn put_values<R: Threads + Sync, S: Shelf, O: Sink>(
     ends: bool,
     workers: u32,
 ) -> Answered
+    requires front { 0 < length front.now }
     requires fits { FitsFile body.old (S.size_of shelf.old file.old) }
     requires some { 1 ≤ workers }
     requires many { workers ≤ 64 }
-    ensures puts { (bytes : List ℕ) → S.content shelf.old file.old ≡ Some bytes →
+    ensures puts { (bytes : List ℕ) → GoesOver body.old (S.content shelf.old file.old) bytes →
         PutsValues front.now (framed way.framer.chunked (text_in body.old bytes)) ends (O.written out.old) (O.written out.new) result }
+    // Whatever the shelf tells of its file, the sink keeps what it had.
+    ensures grows { (put : List ℕ) × Appends (O.written out.old) (O.written out.new) put }
     ensures last { SaysWhole ends result }
     ensures shelf_later { S.faults shelf.old ≤ S.faults shelf.new }
-    ensures shelf_fault { result ≡ Answered.Broken → Rose (S.faults shelf.old) (S.faults shelf.new) }
+    ensures shelf_fault { ShelfRose result (S.faults shelf.old) (S.faults shelf.new) }
     ensures files { S.files shelf.new ≡ S.files shelf.old }
     ensures asked { S.asked shelf.new ≤ S.asked shelf.old + cost_in body.old }
-    ensures fault { result ≡ Answered.WriteFault → Rose (O.put_faults out.old) (O.put_faults out.new) }
+    ensures fault { SinkRose result (O.put_faults out.old) (O.put_faults out.new) }
     ensures later { O.put_faults out.old ≤ O.put_faults out.new }
     ensures beside { O.beside_writing out.new ≡ O.beside_writing out.old }
 {

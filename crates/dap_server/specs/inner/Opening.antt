@@ -1,5 +1,5 @@
 -- A stored file that was opened, and why none was.
-use Rattle.std.specs.Prelude.{◌≡◌, ℕ, ◌≤◌, ◌*◌, ⊤, List, length, max, Option, Some, None, IsSome, Ok}
+use Rattle.std.specs.Prelude.{◌≡◌, ℕ, ◌≤◌, ◌*◌, ⊤, List, length, max, Option, Some, None, IsSome, Result, Ok, Err}
 use Rattle.dap_outside.specs.Files.{IsBytes, Reads, Told}
 use Rattle.das_text.specs.Model.{Attributes}
 use Rattle.dap_types.specs.Model.{Dataset}
@@ -104,3 +104,8 @@ abbrev pub WhereFault : Type 0 → Stop → Type 0
 WhereFault P ShelfFault = P
 WhereFault P (Refused cause) = ⊤
 WhereFault P Memory = ⊤
+
+-- the shelf's count stayed, but where the stop is its fault
+abbrev pub StaysBut : {V : Type 0} → Result V Stop → ℕ → ℕ → Type 0
+StaysBut (Err ShelfFault) before now = ⊤
+StaysBut other before now = now ≡ before

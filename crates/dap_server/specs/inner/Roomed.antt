@@ -1,5 +1,5 @@
 -- What a sink behind a room has of the bytes that are put through the room.
-use Rattle.std.specs.Prelude.{◌≡◌, ℕ, ⊤, Bool, true, false, List, ◌++◌, length, drop, Option, Some, None}
+use Rattle.std.specs.Prelude.{◌≡◌, ◌<◌, ℕ, ⊤, Bool, true, false, List, ◌++◌, length, drop, Option, Some, None}
 use Rattle.std.specs.Str.{bytes_eq}
 use Rattle.std.specs.Io.KnownBytes.{Appends}
 use Rattle.dap_server.specs.declared.room.Room.{Room}
@@ -24,3 +24,8 @@ put_through (Some start) (Some now) held = Some (now ++ held)
 abbrev pub HasFront : Option (List ℕ) → Option (List ℕ) → List ℕ → Type 0
 HasFront None now all = ⊤
 HasFront (Some start) now all = (part : List ℕ) × (rest : List ℕ) × Appends (Some start) now part × (all ≡ start ++ (part ++ rest))
+
+-- and it is not all
+abbrev pub HasPart : Option (List ℕ) → Option (List ℕ) → List ℕ → Type 0
+HasPart None now all = ⊤
+HasPart (Some start) now all = (part : List ℕ) × (rest : List ℕ) × Appends (Some start) now part × (all ≡ start ++ (part ++ rest)) × (0 < length rest)

@@ -1,20 +1,23 @@
 -- How the requests of a connection are served one by one.
-use Rattle.std.specs.Prelude.{◌≡◌, ℕ, ◌+◌, ◌<◌, ◌≤◌, ⊤, ◌⊎◌, Bool, true, false, List, ◌++◌, MatchBool, Option, Some, None, Result, Err}
+use Rattle.std.specs.Prelude.{◌≡◌, ℕ, ◌+◌, ◌<◌, ◌≤◌, ⊤, ◌⊎◌, Bool, true, false, ◌||◌, List, ◌++◌, MatchBool, Option, Some, None, Result, Err}
 use Rattle.std.specs.Io.KnownBytes.{Appends, Consumes}
 use Rattle.dap_errors.specs.Causes.{http_status}
 use Rattle.dap_errors.specs.declared.cause.Cause.{Cause}
 use Rattle.dap_errors.specs.declared.cause.Cause.TheVariants.{OutOfMemory}
-use Rattle.dap_http.specs.Frames.{IsFront}
+use Rattle.dap_http.specs.Frames.{IsProperFront}
 use Rattle.dap_http.specs.Texts.{description_of, head_text, is_chunked}
 use Rattle.dap_http.specs.declared.kind.Kind.TheVariants.{Dods}
 use Rattle.dap_http.specs.Targets.{Asked, target_of}
 use Rattle.dap_http.specs.declared.head_reader.Head.{Head}
+use Rattle.dap_outside.specs.Causes.{Rose}
 use Rattle.dap_outside.specs.Files.{Told}
+use Rattle.xdr_encode.specs.Bodies.{HasNoFile}
+use Rattle.xdr_encode.specs.declared.body.Body.{Body}
 use Rattle.xdr_encode.specs.declared.streamed.Streamed.{Streamed}
 use Rattle.xdr_encode.specs.declared.streamed.Streamed.TheVariants as streamed
-use Rattle.dap_server.specs.Connections.{BreaksOff, Connection, ConnectionMayAsk, IsBroken, IsPart, IsServedFrom, IsTurn, MayAnswer, MayAsk, RoseBy, RoseFor, failures, has_failed, is_last_turn, put_from, sends_data}
+use Rattle.dap_server.specs.Connections.{Connection, ConnectionMayAsk, FailedBy, IsBroken, IsPut, IsServedFrom, IsTurn, MayAnswer, MayAsk, RoseFor, failures, has_failed, is_hidden, is_last_turn, leaves_open, sends_data, sends_values}
 use Rattle.dap_server.specs.Costs.{IsCost}
-use Rattle.dap_server.specs.Replies.{Request, Turn, is_last, last_reply, reply_of, request, status_of}
+use Rattle.dap_server.specs.Replies.{Request, Turn, is_last, last_reply, reply_of, request, status_of, wants}
 use Rattle.dap_server.specs.Results.{Text}
 use Rattle.dap_server.specs.declared.served.Ending.TheVariants.{Closed, WriteFault, Broken}
 use Rattle.dap_server.specs.declared.served.Served.{Served}
@@ -29,19 +32,23 @@ use Rattle.dap_server.specs.declared.turn.Next.TheVariants as next
 abbrev pub PutsText : List ℕ → ℕ → Bool → Option (List ℕ) → Option (List ℕ) → Answered → Type 0
 PutsText bytes status last old new (answered.Whole s l) = (s ≡ status) × (l ≡ last) × Appends old new bytes
 PutsText bytes status last old new answered.Broken = ⊥
-PutsText bytes status last old new answered.WriteFault = (part : List ℕ) × IsPart bytes part × Appends old new part
+PutsText bytes status last old new answered.WriteFault = (part : List ℕ) × IsProperFront part bytes × Appends old new part
 
--- a framed body is put, or a front of it
+-- a body goes out over these bytes: they are those of its file, or it has no values of one
+abbrev pub GoesOver : Body → Option (List ℕ) → List ℕ → Type 0
+GoesOver b content bytes = (content ≡ Some bytes) ⊎ HasNoFile b
+
+-- a framed body is put, or a part of it
 abbrev pub PutsFramed : List ℕ → Option (List ℕ) → Option (List ℕ) → Streamed → Type 0
 PutsFramed text old new streamed.Sent = Appends old new text
-PutsFramed text old new streamed.ShelfFault = (part : List ℕ) × Appends old new part × IsFront part text
-PutsFramed text old new streamed.WriteFault = (part : List ℕ) × Appends old new part × IsFront part text
+PutsFramed text old new streamed.ShelfFault = (part : List ℕ) × IsProperFront part text × Appends old new part
+PutsFramed text old new streamed.WriteFault = (part : List ℕ) × IsProperFront part text × Appends old new part
 
--- a head and a framed body are put, or a front of them. It breaks off behind the head
+-- a head and a framed body are put, or a part of them. It breaks off behind the head
 abbrev pub PutsValues : List ℕ → List ℕ → Bool → Option (List ℕ) → Option (List ℕ) → Answered → Type 0
 PutsValues front text ends old new (answered.Whole status last) = Appends old new (front ++ text)
-PutsValues front text ends old new answered.Broken = (part : List ℕ) × Appends old new (front ++ part) × IsFront part text
-PutsValues front text ends old new answered.WriteFault = (part : List ℕ) × Appends old new part × IsFront part (front ++ text)
+PutsValues front text ends old new answered.Broken = (part : List ℕ) × IsProperFront part text × Appends old new (front ++ part)
+PutsValues front text ends old new answered.WriteFault = (part : List ℕ) × IsProperFront part (front ++ text) × Appends old new part
 
 -- the status of what is put whole, and whether it is the last
 abbrev pub SaysWhole : Bool → Answered → Type 0
@@ -58,16 +65,34 @@ answered_by ends streamed.WriteFault = answered.WriteFault
 abbrev pub PutsReply : Request → Result Text Cause → Option (List ℕ) → Option (List ℕ) → Answered → Type 0
 PutsReply q answer old new (answered.Whole status last) = (status ≡ status_of answer) × (last ≡ is_last q answer) × Appends old new (reply_of q answer)
 PutsReply q answer old new answered.Broken = (part : List ℕ) × IsBroken q answer part × Appends old new part
-PutsReply q answer old new answered.WriteFault = (part : List ℕ) × BreaksOff q answer part × Appends old new part
+PutsReply q answer old new answered.WriteFault = (part : List ℕ) × IsProperFront part (reply_of q answer) × Appends old new part
 
 -- that of a cause, or of a want of memory in its place
 abbrev pub PutsCause : Request → Cause → Option (List ℕ) → Option (List ℕ) → Answered → Type 0
 PutsCause q cause old new result = (final : Cause) × ((final ≡ cause) ⊎ (final ≡ OutOfMemory)) × PutsReply q (Err final) old new result
 
--- what is known of a sink where the shelf tells its files
-abbrev pub known : Told → Option (List ℕ) → Option (List ℕ)
-known None written = None
-known (Some files) written = written
+-- what was put of the reply of an answer, by what became of it: the reply or some of it, and any bytes
+-- where it has hidden values
+abbrev pub IsPutOf : Told → Request → Result Text Cause → List ℕ → Answered → Type 0
+IsPutOf told q answer put (answered.Whole status last) = (status ≡ status_of answer) × (last ≡ is_last q answer) × (is_hidden told q answer ≡ false → put ≡ reply_of q answer)
+IsPutOf told q answer put answered.Broken = (part : List ℕ) × IsBroken q answer part × (is_hidden told q answer ≡ false → put ≡ part)
+IsPutOf told q answer put answered.WriteFault = (part : List ℕ) × IsProperFront part (reply_of q answer) × (is_hidden told q answer ≡ false → put ≡ part)
+
+abbrev pub PutsKnown : Told → Request → Result Text Cause → Option (List ℕ) → Option (List ℕ) → Answered → Type 0
+PutsKnown told q answer old new result = (put : List ℕ) × Appends old new put × IsPutOf told q answer put result
+
+-- ---- Faults.
+
+-- the sink's count rose where it failed, and else stayed
+abbrev pub SinkRose : Answered → ℕ → ℕ → Type 0
+SinkRose answered.WriteFault puts puts' = Rose puts puts'
+SinkRose other puts puts' = puts' ≡ puts
+
+-- the shelf's count rose where the file could not be read further, and stayed where all was put
+abbrev pub ShelfRose : Answered → ℕ → ℕ → Type 0
+ShelfRose (answered.Whole status last) reads reads' = reads' ≡ reads
+ShelfRose answered.Broken reads reads' = Rose reads reads'
+ShelfRose answered.WriteFault reads reads' = reads ≤ reads'
 
 -- ---- One request.
 
@@ -84,6 +109,12 @@ broken (answered.Whole status last) = 0
 broken answered.Broken = 1
 broken answered.WriteFault = 0
 
+-- it is left open whether the shelf failed
+abbrev pub is_open : Request → Result Text Cause → Answered → Bool
+is_open q answer (answered.Whole status last) = wants answer
+is_open q answer answered.Broken = false
+is_open q answer answered.WriteFault = wants answer || sends_values q answer
+
 -- how a link and a shelf stand: what the link has written, how often the shelf failed, and what was asked
 -- of it
 pub record Stand : Type 0 where
@@ -98,8 +129,8 @@ Costs told a answer cost = MatchBool (sends_data answer) (IsCost told a cost) (c
 -- a request was answered, and no more was asked than its answer may ask
 abbrev pub AnswersWith : (Result Text Cause → ℕ → Type 0) → Told → Request → Stand → Stand → Answered → Type 0
 AnswersWith Asks told q a b result =
-    (answer : Result Text Cause) × MayAnswer told q answer × PutsReply q answer (known told a.written) b.written result
-    × RoseBy (has_failed answer + broken result) a.faults b.faults
+    (answer : Result Text Cause) × MayAnswer told q answer × PutsKnown told q answer a.written b.written result
+    × FailedBy (has_failed answer + broken result) (is_open q answer result) a.faults b.faults
     × ((n : ℕ) × Asks answer n × (b.asked ≤ a.asked + n))
 
 abbrev pub Answers : Told → Request → Stand → Stand → Answered → Type 0
@@ -113,9 +144,9 @@ abbrev pub ServesFrom : ℕ → ℕ → Told → List ℕ → Option (List ℕ) 
 ServesFrom n before told kept left left' a b ended served =
     (c : Connection) × (taken : List ℕ)
     × Consumes left left' taken
-    × Appends (known told a.written) b.written (put_from (n + 1) c)
+    × ((put : List ℕ) × Appends a.written b.written put × IsPut told (n + 1) c put)
     × IsServedFrom n before told (kept ++ taken) ended c served
-    × RoseBy (failures c served.ending) a.faults b.faults
+    × FailedBy (failures c served.ending) (leaves_open c.turns served.ending c.behind) a.faults b.faults
     × ((m : ℕ) × ConnectionMayAsk told c m × (b.asked ≤ a.asked + m))
 
 -- one of them was answered, and others may follow
@@ -123,11 +154,11 @@ abbrev pub GoesOn : ℕ → Told → List ℕ → List ℕ → Option (List ℕ)
 GoesOn n told kept kept' left left' a b status =
     (t : Turn) × (taken : List ℕ)
     × Consumes left left' taken
-    × Appends (known told a.written) b.written (reply_of (request (n + 1) t.head) t.answer)
+    × ((put : List ℕ) × Appends a.written b.written put × (is_hidden told (request (n + 1) t.head) t.answer ≡ false → put ≡ reply_of (request (n + 1) t.head) t.answer))
     × IsTurn told (n + 1) (kept ++ taken) t kept'
     × (is_last_turn (n + 1) t ≡ false)
     × (status ≡ status_of t.answer)
-    × RoseBy (has_failed t.answer) a.faults b.faults
+    × FailedBy (has_failed t.answer) (wants t.answer) a.faults b.faults
     × ((m : ℕ) × MayAsk told (target_of t.head.target) t.answer m × (b.asked ≤ a.asked + m))
 
 abbrev pub Serves : ℕ → ℕ → Told → List ℕ → List ℕ → Option (List ℕ) → Option (List ℕ) → Stand → Stand → Bool → Next → Type 0
@@ -138,7 +169,7 @@ Serves n before told kept kept' left left' a b ended (next.Ends served) = Serves
 abbrev pub PutsLast : List ℕ → ℕ → ℕ → ℕ → Option (List ℕ) → Option (List ℕ) → Served → Type 0
 PutsLast bytes status n before old new served =
     ((served ≡ record { replies = n + 1; status = status; ending = Closed }) × Appends old new bytes)
-    ⊎ ((served ≡ record { replies = n; status = before; ending = WriteFault }) × ((part : List ℕ) × IsPart bytes part × Appends old new part))
+    ⊎ ((served ≡ record { replies = n; status = before; ending = WriteFault }) × ((part : List ℕ) × IsProperFront part bytes × Appends old new part))
 
 -- that of a refusal, or for a want of memory in its place
 abbrev pub PutsRefusal : Cause → ℕ → ℕ → Option (List ℕ) → Option (List ℕ) → Served → Type 0
@@ -152,9 +183,9 @@ next_of n before (answered.Whole status true) = next.Ends (record { replies = n 
 next_of n before answered.Broken = next.Ends (record { replies = n; status = before; ending = Broken })
 next_of n before answered.WriteFault = next.Ends (record { replies = n; status = before; ending = WriteFault })
 
--- a fault of the link comes only where its count rose
+-- a fault of the link comes only where the count of that side rose, and no count rises without its fault
 abbrev pub RoseNext : Next → ℕ → ℕ → ℕ → ℕ → Type 0
-RoseNext (next.GoesOn status) takes takes' puts puts' = ⊤
+RoseNext (next.GoesOn status) takes takes' puts puts' = (takes' ≡ takes) × (puts' ≡ puts)
 RoseNext (next.Ends served) takes takes' puts puts' = RoseFor served.ending takes takes' puts puts'
 
 -- it is not the last that a connection may have

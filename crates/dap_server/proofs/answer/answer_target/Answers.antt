@@ -1,4 +1,4 @@
-use Rattle.std.proofs.Common.{sym, subst, inl, Ok}
+use Rattle.std.proofs.Common.{sym, subst, Ok}
 use Rattle.dap_server.specs.inner.Serving.{request_in}
 use Rattle.dap_server.specs.Prepared.{MayGive, asked_of}
 use Rattle.dap_server.specs.Results.{text_of}
@@ -11,16 +11,16 @@ pub returns-in-Text-clause-answers : goal.returns-in-Text-clause-answers
 returns-in-Text-clause-answers g c =
     text-answer _ (request_in c.args.head.now c.args.ends) (asked_of c.args.target.now) c.in-Text.kind c.bytes.result.now _ _ _ _ _ _ c.put_text.result c.in-Text.ensures.text.0 c.requires.served c.requires.target
     (subst (λ t. MayGive (g.S.Shelf.files c.args.shelf.now) (asked_of c.args.target.now) (Ok (text_of c.in-Text.kind t))) (sym c.bytes.ensures) c.in-Text.ensures.text.1)
-    c.in-Text.ensures.later c.in-Text.ensures.asked c.put_text.ensures.puts
+    c.in-Text.ensures.kept c.in-Text.ensures.asked c.put_text.ensures.puts
 
 pub answer_data-requires-clause-body : goal.answer_data-requires-clause-body
 answer_data-requires-clause-body g c lifetimes outlive = λ bytes is.
-    subst (λ t. MayGive t (asked_of c.args.target.now) (Ok (text_of Dods (text_in c.in-Body.body bytes)))) (sym c.in-Body.ensures.files) (c.in-Body.ensures.body bytes (inl is))
+    subst (λ t. MayGive t (asked_of c.args.target.now) (Ok (text_of Dods (text_in c.in-Body.body bytes)))) (sym c.in-Body.ensures.files) (c.in-Body.ensures.body bytes is)
 
 pub returns-in-Body-clause-answers : goal.returns-in-Body-clause-answers
 returns-in-Body-clause-answers g c =
     with-first (g.S.Shelf.files c.args.shelf.now) _ (request_in c.args.head.now c.args.ends) (asked_of c.args.target.now) _ _ _ _ _ _ c.answer_data.result c.requires.target
-    c.in-Body.ensures.later c.in-Body.ensures.asked c.in-Body.ensures.files c.answer_data.ensures.answers
+    c.in-Body.ensures.kept c.in-Body.ensures.asked c.in-Body.ensures.files c.answer_data.ensures.answers
 
 pub returns-in-ShelfFault-clause-answers : goal.returns-in-ShelfFault-clause-answers
 returns-in-ShelfFault-clause-answers g c =
@@ -30,9 +30,9 @@ returns-in-ShelfFault-clause-answers g c =
 pub returns-in-Refuse-clause-answers : goal.returns-in-Refuse-clause-answers
 returns-in-Refuse-clause-answers g c =
     refused-answer _ (request_in c.args.head.now c.args.ends) (asked_of c.args.target.now) c.in-Refuse.cause _ _ _ _ _ _ c.put_cause.result c.requires.served c.requires.target
-    c.in-Refuse.ensures.refused c.in-Refuse.ensures.later c.in-Refuse.ensures.asked c.put_cause.ensures.puts
+    c.in-Refuse.ensures.refused c.in-Refuse.ensures.kept c.in-Refuse.ensures.asked c.put_cause.ensures.puts
 
 pub returns-in-Memory-clause-answers : goal.returns-in-Memory-clause-answers
 returns-in-Memory-clause-answers g c =
     wanted-answer _ (request_in c.args.head.now c.args.ends) (asked_of c.args.target.now) _ _ _ _ _ _ c.put_memory.result c.requires.target
-    c.in-Memory.ensures.later c.in-Memory.ensures.asked c.put_memory.ensures.puts
+    c.in-Memory.ensures.kept c.in-Memory.ensures.asked c.put_memory.ensures.puts

@@ -15,7 +15,8 @@ returns-in-Head-clause-few g c =
 
 pub returns-in-Head-clause-causes : goal.returns-in-Head-clause-causes
 returns-in-Head-clause-causes g c =
-    next-rose c.args.answered c.args.before c.answer.result c.next_of.result _ _ _ _ _ c.next_of.ensures (g.met.L.Link.keeps_put_faults _ _ c.in-Head.ensures.beside) c.answer.ensures.fault
+    next-rose c.args.answered c.args.before c.answer.result c.next_of.result _ _ _ _ _ _ c.next_of.ensures (c.in-Head.ensures.kept (λ e. cc e)) (g.met.L.Link.keeps_take_faults _ _ c.answer.ensures.beside)
+    (g.met.L.Link.keeps_put_faults _ _ c.in-Head.ensures.beside) c.answer.ensures.fault
 
 pub returns-in-Gone-clause-serves : goal.returns-in-Gone-clause-serves
 returns-in-Gone-clause-serves g c =
@@ -48,12 +49,15 @@ returns-in-Memory-clause-serves g c =
 
 pub returns-in-BadRequest-clause-causes : goal.returns-in-BadRequest-clause-causes
 returns-in-BadRequest-clause-causes g c =
-    refusal-rose _ _ _ _ _ c.refuse.result _ _ _ _ _ c.refuse.ensures.puts (g.met.L.Link.keeps_put_faults _ _ c.in-BadRequest.ensures.beside) c.refuse.ensures.causes
+    refusal-rose _ _ _ _ _ c.refuse.result _ _ _ _ _ _ c.refuse.ensures.puts (c.in-BadRequest.ensures.kept (λ e. cc e)) (g.met.L.Link.keeps_take_faults _ _ c.refuse.ensures.beside)
+    (g.met.L.Link.keeps_put_faults _ _ c.in-BadRequest.ensures.beside) c.refuse.ensures.causes
 
 pub returns-in-HeadTooLong-clause-causes : goal.returns-in-HeadTooLong-clause-causes
 returns-in-HeadTooLong-clause-causes g c =
-    refusal-rose _ _ _ _ _ c.refuse-in-HeadTooLong.result _ _ _ _ _ c.refuse-in-HeadTooLong.ensures.puts (g.met.L.Link.keeps_put_faults _ _ c.in-HeadTooLong.ensures.beside) c.refuse-in-HeadTooLong.ensures.causes
+    refusal-rose _ _ _ _ _ c.refuse-in-HeadTooLong.result _ _ _ _ _ _ c.refuse-in-HeadTooLong.ensures.puts (c.in-HeadTooLong.ensures.kept (λ e. cc e)) (g.met.L.Link.keeps_take_faults _ _ c.refuse-in-HeadTooLong.ensures.beside)
+    (g.met.L.Link.keeps_put_faults _ _ c.in-HeadTooLong.ensures.beside) c.refuse-in-HeadTooLong.ensures.causes
 
 pub returns-in-Memory-clause-causes : goal.returns-in-Memory-clause-causes
 returns-in-Memory-clause-causes g c =
-    last-rose _ _ _ _ _ _ c.put_last.result _ _ _ _ _ c.put_last.ensures.puts (g.met.L.Link.keeps_put_faults _ _ c.in-Memory.ensures.beside) c.put_last.ensures.causes
+    last-rose _ _ _ _ _ _ c.put_last.result _ _ _ _ _ _ c.put_last.ensures.puts (c.in-Memory.ensures.kept (λ e. cc e)) (g.met.L.Link.keeps_take_faults _ _ c.put_last.ensures.beside)
+    (g.met.L.Link.keeps_put_faults _ _ c.in-Memory.ensures.beside) c.put_last.ensures.causes

@@ -10,8 +10,8 @@ requests-preserved g c =
       few = step.few;
       so_far = loop-step _ _ _ _ _ _ _ _ _ _ _ _ _ kept.files kept.so_far step.serves;
       shelf_later = omega (arith, kept.shelf_later, step.shelf_later);
-      takes_later = omega (arith, kept.takes_later, step.takes_later);
-      puts_later = omega (arith, kept.puts_later, step.puts_later);
+      takes = step.causes.0 ∙ kept.takes;
+      puts = step.causes.1 ∙ kept.puts;
       files = step.files ∙ kept.files;
       whole = step.whole ∙ kept.whole;
     }

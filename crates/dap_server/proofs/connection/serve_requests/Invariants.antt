@@ -14,8 +14,8 @@ invariant-requests g l =
       so_far : Whole-from (shelf.files l.fn.shelf) (source.left l.fn.link) (stand (sink.written l.fn.link) (shelf.faults l.fn.shelf) (shelf.asked l.fn.shelf))
           l.answered l.before (kept_by l.reader) (source.left l.link) (stand (sink.written l.link) (shelf.faults l.shelf) (shelf.asked l.shelf));
       shelf_later : shelf.faults l.fn.shelf ≤ shelf.faults l.shelf;
-      takes_later : source.take_faults l.fn.link ≤ source.take_faults l.link;
-      puts_later : sink.put_faults l.fn.link ≤ sink.put_faults l.link;
+      takes : source.take_faults l.link ≡ source.take_faults l.fn.link;
+      puts : sink.put_faults l.link ≡ sink.put_faults l.fn.link;
       files : shelf.files l.shelf ≡ shelf.files l.fn.shelf;
       whole : source.whole l.link ≡ source.whole l.fn.link;
     }

@@ -11,7 +11,7 @@ invariant-fronts g l =
       reads : Reads (shelf.content l.fn.shelf l.fn.file) 0 l.held.items;
       cut : IsCut l.held.items;
       asked : shelf.asked l.shelf ≤ shelf.asked l.fn.shelf + length l.held.items;
-      later : shelf.faults l.fn.shelf ≤ shelf.faults l.shelf;
+      stays : shelf.faults l.shelf ≡ shelf.faults l.fn.shelf;
       files : shelf.files l.shelf ≡ shelf.files l.fn.shelf;
       content : shelf.content l.shelf l.file ≡ shelf.content l.fn.shelf l.fn.file;
       sizes : shelf.size_of l.shelf l.file ≡ shelf.size_of l.fn.shelf l.fn.file;

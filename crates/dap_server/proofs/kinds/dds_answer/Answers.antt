@@ -24,3 +24,6 @@ returns-in_err-opened-clause-refused g c =
 
 pub returns-clause-why : goal.returns-clause-why
 returns-clause-why g c = making.no_fault c.dds_of.result _ c.dds_of.ensures.no_fault
+
+pub returns-clause-stays : goal.returns-clause-stays
+returns-clause-stays g c = making.still_stays c.dds_of.result _ _ c.in_ok-opened.ensures.stays

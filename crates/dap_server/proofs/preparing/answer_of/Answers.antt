@@ -35,3 +35,15 @@ returns-in-Dods-clause-made g c =
 
 pub returns-in-Dods-clause-untouched : goal.returns-in-Dods-clause-untouched
 returns-in-Dods-clause-untouched g c = λ none. c.dods_answer.ensures.untouched (making.no_form c.args.target.now Dods c.as_str-name.result.now c.in-Dods.is c.as_str-name.ensures refl none)
+
+pub returns-in-Ver-clause-kept : goal.returns-in-Ver-clause-kept
+returns-in-Ver-clause-kept g c = making.text_stays Ver c.version_answer.result c.text_prepared.result _ _ c.text_prepared.ensures (making.still_stays c.version_answer.result _ _ refl)
+
+pub returns-in-Das-clause-kept : goal.returns-in-Das-clause-kept
+returns-in-Das-clause-kept g c = making.text_stays Das c.das_answer.result c.text_prepared-in-Das.result _ _ c.text_prepared-in-Das.ensures c.das_answer.ensures.stays
+
+pub returns-in-Dds-clause-kept : goal.returns-in-Dds-clause-kept
+returns-in-Dds-clause-kept g c = making.text_stays Dds c.dds_answer.result c.text_prepared-in-Dds.result _ _ c.text_prepared-in-Dds.ensures c.dds_answer.ensures.stays
+
+pub returns-in-Dods-clause-kept : goal.returns-in-Dods-clause-kept
+returns-in-Dods-clause-kept g c = making.body_stays c.dods_answer.result c.body_prepared.result _ _ c.body_prepared.ensures c.dods_answer.ensures.stays

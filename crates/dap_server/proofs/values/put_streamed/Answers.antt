@@ -13,7 +13,7 @@ returns-in-Ok-clause-shelf_fault g c = shelf-rose c.args.ends c.put_framed.resul
 
 pub returns-in-Ok-clause-fault : goal.returns-in-Ok-clause-fault
 returns-in-Ok-clause-fault g c =
-    sink-rose c.args.ends c.put_framed.result c.answered_by.result _ _ _ _ _ c.answered_by.ensures c.put_framed.ensures.cause c.in-Ok.ensures.cause.later
+    sink-rose c.args.ends c.put_framed.result c.answered_by.result _ _ _ _ _ c.answered_by.ensures c.put_framed.ensures.cause c.in-Ok.ensures.cause.kept
 
 pub returns-in-Err-clause-puts : goal.returns-in-Err-clause-puts
 returns-in-Err-clause-puts g c = λ bytes is. values-front c.args.front.now _ c.args.ends _ _ c.in-Err.ensures.err

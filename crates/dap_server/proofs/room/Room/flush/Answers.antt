@@ -1,4 +1,4 @@
-use Rattle.std.proofs.Common.{[], arith, ◌∙◌}
+use Rattle.std.proofs.Common.{[], ◌∙◌}
 use Rattle.dap_outside.proofs.Passing.{passes_two}
 use Rattle.dap_server.proofs.room.Room.flush.Goals as goal
 
@@ -7,7 +7,7 @@ loop-self-preserved g c =
     let kept = c.loop-self.invariant in
     record {
       passes = passes_two _ _ _ _ _ _ [] [] kept.passes c.put_part.ensures.passes;
-      later = omega (arith, kept.later, c.put_part.ensures.cause.later);
+      kept = c.in_ok-put_part.ensures.cause.kept ∙ kept.kept;
       beside = c.put_part.ensures.beside ∙ kept.beside;
     }
 

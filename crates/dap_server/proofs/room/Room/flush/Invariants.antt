@@ -1,4 +1,4 @@
-use Rattle.std.proofs.Common.{◌≡◌, ◌-◌, ◌≤◌, [], length}
+use Rattle.std.proofs.Common.{◌≡◌, ◌-◌, [], length}
 use Rattle.dap_outside.specs.Buffered.{Passes}
 use Rattle.dap_server.specs.inner.Roomed.{held_in}
 use Rattle.dap_server.proofs.room.Room.flush.Given as goal
@@ -8,7 +8,7 @@ invariant-loop-self g l =
     let sink = g.O.Sink in
     record {
       passes : Passes (sink.written l.fn.out) (held_in l.fn.self) (sink.written l.out) (held_in l.self) [];
-      later : sink.put_faults l.fn.out ≤ sink.put_faults l.out;
+      kept : sink.put_faults l.out ≡ sink.put_faults l.fn.out;
       beside : sink.beside_writing l.out ≡ sink.beside_writing l.fn.out;
     }
 

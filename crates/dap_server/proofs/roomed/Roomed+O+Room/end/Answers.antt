@@ -1,6 +1,6 @@
 use Rattle.dap_http.specs.Framings.{start_of}
 use Rattle.dap_server.specs.inner.Roomed.{held_in}
-use Rattle.dap_server.proofs.Rooms.{ends-front, grows-on}
+use Rattle.dap_server.proofs.Rooms.{ends-part, grows-on}
 use Rattle.dap_server.proofs.roomed.Roomed+O+Room.end.Goals as goal
 
 pub invariant_of-self : goal.invariant_of-self
@@ -11,4 +11,9 @@ invariant_of-self g c =
 pub returns-clause-err : goal.returns-clause-err
 returns-clause-err g c =
     let s = c.args.self in
-    ends-front c.flush.result (start_of g.O.Sink.written s.began.items) (g.O.Sink.written s.out.now) _ (held_in s.room) _ s.grows c.flush.ensures.passes
+    ends-part c.flush.result (start_of g.O.Sink.written s.began.items) (g.O.Sink.written s.out.now) _ (held_in s.room) _ s.grows c.flush.ensures.passes c.flush.ensures.left
+
+pub returns-clause-grown : goal.returns-clause-grown
+returns-clause-grown g c =
+    let s = c.args.self in
+    grows-on (start_of g.O.Sink.written s.began.items) (g.O.Sink.written s.out.now) _ (held_in s.room) _ _ s.grows c.flush.ensures.passes
