@@ -1,3 +1,5 @@
+pub mod Fronts
+pub mod LongBodies
 pub mod Names
 pub mod Replying
 pub mod Resulting

@@ -14,7 +14,7 @@ use Rattle.dap_http.specs.Texts.{head_text}
 use Rattle.dap_http.specs.declared.kind.Kind.TheVariants.{Dods}
 use Rattle.dap_server.specs.Replies.{Request, is_head, is_last, reply_of}
 use Rattle.dap_server.specs.Results.{text_of}
-use Rattle.both_ends.specs.Ends.{ReplyDelivers, ReplyIsGood}
+use Rattle.both_ends.specs.Ends.{ReplyDelivers, ReplyIsJudged}
 
 abbrev head : Bool → Bool → List ℕ
 head in_chunks close = head_text 200 (codes "dods_data") None in_chunks close
@@ -64,5 +64,5 @@ reply_delivers q text get = (
       (delivers (q.minor == 1) (is_last q (Ok (text_of Dods text))) text more (λ e. absurd (true≢false (sym (one-is q.minor one) ∙ e)))),
 )
 
-pub reply_is_good : ReplyIsGood
-reply_is_good q text d ts get is = inl (text, [], (reply_delivers q text get).0, refl, is)
+pub reply_is_judged : ReplyIsJudged
+reply_is_judged q text v get is = inl (text, [], (reply_delivers q text get).0, refl, is)

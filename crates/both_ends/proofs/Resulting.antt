@@ -1,5 +1,5 @@
 -- The data response of a stored file is good.
-use Rattle.std.proofs.Common.{◌≡◌, ◌≢◌, ℕ, ◌-◌, ◌<◌, ◌^◌, inl, inr, Bool, true, false, cond, List, [], All, length, take, codes, Option, Some, None, Result, Ok, Err, refl, sym, ap, ◌∙◌, subst, arith, length-take}
+use Rattle.std.proofs.Common.{◌≡◌, ◌≢◌, ℕ, ◌-◌, ◌<◌, ◌≤◌, ◌^◌, inl, inr, Bool, true, false, cond, List, [], All, length, take, codes, Option, Some, None, Result, Ok, Err, refl, sym, ap, ◌∙◌, subst, arith, length-take}
 use Rattle.std.specs.Prelude.{nat_eq, nat_lt, option_map}
 use Rattle.std.specs.List.{ends_with}
 use Rattle.std.specs.Option.{option_and_then}
@@ -47,9 +47,11 @@ use Rattle.dap_server.specs.Files.{Files, Form, IsStored, Stored, form_of, has_e
 use Rattle.dap_server.specs.Results.{Answers, DodsAnswers, File, Left, Opens, Text, dds_text, dods_text, file_named, left_of, text_of}
 use Rattle.dap_server.specs.Steps.{found_or, unless}
 use Rattle.dap_client.proofs.Bodies.{body_good}
-use Rattle.dap_client.specs.Verdict.{IsVerdict, dods_form, good}
+use Rattle.dap_client.specs.Verdict.{IsVerdict, bad, dods_form, good}
+use Rattle.xdr_decode.specs.declared.bad.Bad.TheVariants.{TooLong}
+use Rattle.both_ends.proofs.LongBodies.{too-long}
 use Rattle.both_ends.proofs.Names.{target-name}
-use Rattle.both_ends.specs.Ends.{HoldBytes, ResultIsGood}
+use Rattle.both_ends.specs.Ends.{HoldBytes, ResultIsGood, ResultIsTooLong}
 
 -- ---- what a stored file has can be sent
 
@@ -137,6 +139,14 @@ left-good s c can none small short =
     let suits : SuitsAll (marks s.dataset c) 1 s.dataset.members = marks_suit s.dataset c can.well_formed none in
     body_good _ _ _ (sent_is_read (left_of s c).dataset (left_of s c).trees (constrained_has_words (marks s.dataset c) s.dataset can.words) (stays_well_formed (marks s.dataset c) s.dataset can.well_formed suits)
     (filtered_all_fit (marks s.dataset c) (kept (selections s.dataset c)) s.dataset.members 1 s.trees suits can.fits) small short)
+
+-- and what is wrong with it where it is too long
+pub left-long : (s : Stored) (c : Constraint) → CanBeSent s.dataset s.trees → cause s.dataset c ≡ None → too_large (left_of s c).dataset ≡ None → 2 ^ 40 ≤ length (body (left_of s c).dataset (left_of s c).trees)
+    → IsVerdict dods_form (body (left_of s c).dataset (left_of s c).trees) (bad TooLong (2 ^ 40))
+left-long s c can none small long =
+    let suits : SuitsAll (marks s.dataset c) 1 s.dataset.members = marks_suit s.dataset c can.well_formed none in
+    too-long (left_of s c).dataset (left_of s c).trees (constrained_has_words (marks s.dataset c) s.dataset can.words) (stays_well_formed (marks s.dataset c) s.dataset can.well_formed suits)
+    (filtered_all_fit (marks s.dataset c) (kept (selections s.dataset c)) s.dataset.members 1 s.trees suits can.fits) small long
 
 -- ---- the steps of a result
 
@@ -232,3 +242,11 @@ result_is_good target files text hold (inl (a, is, answers)) short =
           (left-good p.stored p.constraint (opened files a.name p.stored hold (target-name target a found_it) p.opens) p.no_cause p.is_small (subst (λ (t : List ℕ). length t < 2 ^ 40) p.is_body short));
     }
 result_is_good target files text hold (inr (why, is, e)) short = cc e
+
+pub result_is_too_long : ResultIsTooLong
+result_is_too_long target files text hold (inl (a, is, answers)) long =
+    let found_it = found-asked (target_of target) a is in
+    let (kind, p) = by-kind a.kind files a.name a.query text answers in
+    subst (λ (t : List ℕ). IsVerdict dods_form t (bad TooLong (2 ^ 40))) (sym p.is_body)
+    (left-long p.stored p.constraint (opened files a.name p.stored hold (target-name target a found_it) p.opens) p.no_cause p.is_small (subst (λ (t : List ℕ). 2 ^ 40 ≤ length t) p.is_body long))
+result_is_too_long target files text hold (inr (why, is, e)) long = cc e

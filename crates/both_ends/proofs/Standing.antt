@@ -23,7 +23,7 @@ some-turns : (before after : List Turn) (t : Turn) → before ++ t ∷ after ≡
 some-turns [] after t e = cc e
 some-turns (b ∷ before) after t e = cc e
 
-replies-split : (k j : ℕ) (before after : List Turn) (t : Turn) → j ≡ k + length before → replies k (before ++ t ∷ after) ≡ replies k before ++ (reply_of (request j t.head) t.answer ++ replies (j + 1) after)
+pub replies-split : (k j : ℕ) (before after : List Turn) (t : Turn) → j ≡ k + length before → replies k (before ++ t ∷ after) ≡ replies k before ++ (reply_of (request j t.head) t.answer ++ replies (j + 1) after)
 replies-split k j [] after t e = ap (λ (n : ℕ). reply_of (request n t.head) t.answer ++ replies (n + 1) after) (omega (arith, e))
 replies-split k j (b ∷ before) after t e =
     ap (λ (l : List ℕ). reply_of (request k b.head) b.answer ++ l) (replies-split (k + 1) j before after t (omega (arith, e)))
@@ -103,14 +103,14 @@ may-result files q answer t get is (inr (inl (failed, served, looks))) = cc (is,
 may-result files q answer t get is (inr (inr wanted)) = cc (is, wanted)
 
 -- what stands at the place of a turn
-record Reached (told : Told) (j : ℕ) (after : List Turn) (t : Turn) : Type 0 where
-  bytes : List ℕ
-  rest : List ℕ
-  first : FirstRequest bytes t.head rest
-  may : MayAnswer told (request j t.head) t.answer
-  ends : is_last_turn j t ≡ true → after ≡ []
+pub record Reached (told : Told) (j : ℕ) (after : List Turn) (t : Turn) : Type 0 where
+  pub bytes : List ℕ
+  pub rest : List ℕ
+  pub first : FirstRequest bytes t.head rest
+  pub may : MayAnswer told (request j t.head) t.answer
+  pub ends : is_last_turn j t ≡ true → after ≡ []
 
-reached : (told : Told) (k j : ℕ) (bytes left : List ℕ) (before after : List Turn) (t : Turn) → j ≡ k + length before → AreTurns told k bytes (before ++ t ∷ after) left → Reached told j after t
+pub reached : (told : Told) (k j : ℕ) (bytes left : List ℕ) (before after : List Turn) (t : Turn) → j ≡ k + length before → AreTurns told k bytes (before ++ t ∷ after) left → Reached told j after t
 reached told k j bytes left [] after t e (rest, (first, may), next) =
     let same : k ≡ j = omega (arith, e) in
     record {

@@ -1,7 +1,6 @@
 -- What both ends promise of one another (DAP 2.0, DODS; RFC 9112), over all targets and stored files.
-use Rattle.std.specs.Prelude.{◌≡◌, ℕ, ◌+◌, ◌<◌, Bool, false, true, List, [], ◌∷◌, ◌++◌, length, codes, Some, None, Ok}
+use Rattle.std.specs.Prelude.{◌≡◌, ℕ, ◌+◌, ◌<◌, ◌≤◌, Bool, false, true, List, [], ◌∷◌, ◌++◌, length, codes, Some, None, Ok}
 use Rattle.dap_types.specs.Limits.{body_limit}
-use Rattle.dap_types.specs.Model.{Dataset, Tree}
 use Rattle.dap_model.specs.Body.{body}
 use Rattle.dap_outside.specs.Files.{IsBytes}
 use Rattle.constraint_parse.specs.Values.{Spells}
@@ -17,7 +16,8 @@ use Rattle.dap_server.specs.Results.{Opens, Results, left_of, text_of}
 use Rattle.dap_server.specs.Whole.{AnswersAll}
 use Rattle.dap_server.specs.declared.served.Served.{Served}
 use Rattle.dap_client.specs.Replies.{IsReplyVerdict}
-use Rattle.dap_client.specs.Verdict.{IsVerdict, dods_form, good}
+use Rattle.dap_client.specs.Verdict.{Verdict, IsVerdict, bad, dods_form, good}
+use Rattle.xdr_decode.specs.declared.bad.Bad.TheVariants.{TooLong}
 
 -- each of these files holds bytes
 abbrev pub HoldBytes : Files → Type 0
@@ -41,6 +41,11 @@ pub record IsGoodResult (target : List ℕ) (files : Files) (text : List ℕ) : 
 abbrev pub ResultIsGood : Type 0
 ResultIsGood = (target : List ℕ) (files : Files) (text : List ℕ) → HoldBytes files → Results target files (Ok (text_of Dods text)) → length text < body_limit → IsGoodResult target files text
 
+-- one of 2^40 bytes or more is too long for who reads it, and nothing else is wrong with its first 2^40 bytes
+abbrev pub ResultIsTooLong : Type 0
+ResultIsTooLong =
+    (target : List ℕ) (files : Files) (text : List ℕ) → HoldBytes files → Results target files (Ok (text_of Dods text)) → body_limit ≤ length text → IsVerdict dods_form text (bad TooLong body_limit)
+
 -- The reply to a request other than HEAD delivers the data response, whole; where it is sent in chunks, whatever stands
 -- behind it.
 abbrev pub ReplyDelivers : Type 0
@@ -48,10 +53,10 @@ ReplyDelivers = (q : Request) (text : List ℕ) → is_head q ≡ false →
     Delivers (reply_of q (Ok (text_of Dods text))) true text []
     × ((more : List ℕ) → q.minor ≡ 1 → Delivers (reply_of q (Ok (text_of Dods text)) ++ more) true text more)
 
--- so that the verdict on the reply is the verdict on the data response
-abbrev pub ReplyIsGood : Type 0
-ReplyIsGood = (q : Request) (text : List ℕ) (d : Dataset) (ts : List Tree) → is_head q ≡ false → IsVerdict dods_form text (good d ts)
-    → IsReplyVerdict dods_form (reply_of q (Ok (text_of Dods text))) (length text) (good d ts)
+-- so that the verdict on the data response, whatever it is, is the verdict on the reply
+abbrev pub ReplyIsJudged : Type 0
+ReplyIsJudged = (q : Request) (text : List ℕ) (v : Verdict) → is_head q ≡ false → IsVerdict dods_form text v
+    → IsReplyVerdict dods_form (reply_of q (Ok (text_of Dods text))) (length text) v
 
 -- ---- What a connection has put.
 

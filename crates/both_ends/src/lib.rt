@@ -3,12 +3,17 @@
 //! of a function that does nothing. `specs/Ends` states them.
 #![tactic(auto)]
 
-ghost use Rattle.both_ends.specs.Ends.{AllAreGood, ReplyDelivers, ReplyIsGood, ResultIsGood, ServedIsGood};
+ghost use Rattle.both_ends.specs.Ends.{AllAreGood, ReplyDelivers, ReplyIsJudged, ResultIsGood, ResultIsTooLong, ServedIsGood};
 
 /// The data response that a target is answered with, of fewer than 2^40 bytes, is a good body, with the
 /// dataset and the values that the constraint leaves of the stored file.
 pub fn result_is_good()
     ensures law { ResultIsGood }
+{}
+
+/// One of 2^40 bytes or more is refused by the client as too long.
+pub fn result_is_too_long()
+    ensures law { ResultIsTooLong }
 {}
 
 /// The reply to GET that carries a data response delivers it whole; in chunks, before whatever stands
@@ -18,8 +23,8 @@ pub fn reply_delivers()
 {}
 
 /// The verdict on the reply to GET is the verdict on the data response that it carries.
-pub fn reply_is_good()
-    ensures law { ReplyIsGood }
+pub fn reply_is_judged()
+    ensures law { ReplyIsJudged }
 {}
 
 /// Each reply to GET that carries a data response of fewer than 2^40 bytes is good where it stands in what

@@ -1,6 +1,6 @@
 -- What a connection gained on which the request for the file was answered once, with status 200.
 use Rattle.std.proofs.Common.{◌≡◌, ℕ, ◌+◌, ◌-◌, ◌≤◌, inl, inr, Bool, true, false, List, [], ◌∷◌, ◌++◌, length, refl, sym, ap, subst, ◌∙◌, arith, Some, None, Option, Result, Ok, Err, append-nil}
-use Rattle.std.specs.Prelude.{◌||◌, IfOk, IsSome, is_some, MatchBool}
+use Rattle.std.specs.Prelude.{◌||◌, IfOk, is_some, MatchBool}
 use Rattle.std.specs.Io.KnownBytes.{Appends, Consumes}
 use Rattle.dap_outside.specs.Files.{Told}
 use Rattle.httparse.specs.Grammar.{ReadsRequest, RequestHead, trim_ows}
@@ -10,11 +10,12 @@ use Rattle.dap_errors.specs.declared.cause.Cause.TheVariants as causes
 use Rattle.dap_http.specs.Requests.{FirstRequest, ends_itself}
 use Rattle.dap_http.specs.Targets.{Asked, target_of}
 use Rattle.dap_http.specs.declared.kind.Kind.TheVariants.{Dods}
-use Rattle.dap_server.specs.Connections.{AreTurns, Behind, Connection, IsClosed, IsServed, MayAnswer, Stops, behind_text, ends_after, is_last_turn, nothing, part_of_refusal, part_of_reply, last_status, put_from, refusal, status_behind, whole_behind}
+use Rattle.dap_server.specs.Connections.{AreTurns, Behind, Connection, IsClosed, IsPut, IsServed, MayAnswer, Stops, behind_text, ends_after, is_last_turn, nothing, part_of_refusal, part_of_reply, last_status, put_from, refusal, status_behind, whole_behind}
 use Rattle.dap_server.specs.Files.{Files}
 use Rattle.dap_server.specs.Replies.{Request, Turn, replies, reply_of, request as request_of, status_of, wants}
 use Rattle.dap_server.specs.Results.{AnswersAsked, Results, Text, text_of}
 use Rattle.dap_server.specs.Steps.{found_or}
+use Rattle.dap_server.proofs.Connecting.{told-put}
 use Rattle.dap_server.proofs.OneAnswer.{one_result}
 use Rattle.httparse.proofs.GrammarLemmas.{ReadsRequest-append, request_unique}
 use Rattle.dap_http.specs.Frames.{framed}
@@ -51,6 +52,9 @@ not_200 causes.HeadTooLong e = omega arith
 not_200 (causes.Damaged why) e = omega arith
 not_200 causes.ReadFailed e = omega arith
 not_200 causes.OutOfMemory e = omega arith
+not_200 (causes.UpstreamBad place) e = omega arith
+not_200 causes.UpstreamFault e = omega arith
+not_200 causes.UpstreamLarge e = omega arith
 
 -- ---- one result
 
@@ -183,11 +187,11 @@ appended (Some ys) text b is e = sym is ∙ cc e
 
 pub written-is : (start records : ℕ) (told : Told) (files : Files) (came left old new : Option (List ℕ)) (ended : Bool) (served : Served) (b : List ℕ) → 1 ≤ records → records ≤ 4096
     → told ≡ Some files → files file_name ≡ Some (soak_bytes start records) → came ≡ Some (request records) → old ≡ Some [] → new ≡ Some b
-    → (c : Connection) (taken : List ℕ) → Consumes came left taken → (IsSome told → Appends old new (put_from 1 c)) → IsServed told taken ended c served
+    → (c : Connection) (taken : List ℕ) → Consumes came left taken → ((put : List ℕ) × Appends old new put × IsPut told 1 c put) → IsServed told taken ended c served
     → served.replies ≡ 1 → served.status ≡ 200 → served.ending ≡ Closed → b ≡ reply start records
-written-is start records told files came left old new ended served b some few is_told is is_came is_old is_new c taken consumes appends so one ok closed =
+written-is start records told files came left old new ended served b some few is_told is is_came is_old is_new c taken consumes puts so one ok closed =
     let (rest, parts) = consumed (request records) left taken (subst (λ o. Consumes o left taken) is_came consumes) in
-    let put : Appends (Some []) new (put_from 1 c) = subst (λ o. Appends o new (put_from 1 c)) is_old (appends (ap is_some is_told)) in
+    let put : Appends (Some []) new (put_from 1 c) = subst (λ o. Appends o new (put_from 1 c)) is_old (told-put told 1 c old new (ap is_some is_told) puts) in
     sym (appended new (put_from 1 c) b put is_new)
     ∙ gained start records files taken rest ended c served some few is parts (subst (λ (t : Told). IsServed t taken ended c served) is_told so) one ok closed
 

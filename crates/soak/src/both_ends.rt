@@ -44,8 +44,8 @@ fn read(alloc: Global, reply: Bytes, records: u32) -> Result<Numbers, Memory>
 /// Generates the file of a seed and so many records, 1 to 4,096, serves a part of each variable over a link
 /// in memory, reads the reply, and says what came. Fails where memory is wanted.
 pub fn soak<R: Threads + Sync>(
-    alloc: Global,
     rt: &R,
+    alloc: Global,
     start: u64,
     records: u32,
 ) -> Result<Numbers, Memory>
@@ -53,6 +53,6 @@ pub fn soak<R: Threads + Sync>(
     requires few { records ≤ 4096 }
     ensures { IfOk result (λ n. n ≡ numbers start records) }
 {
-    let reply = soak_reply(alloc, rt, start, records)?;
+    let reply = soak_reply(rt, alloc, start, records)?;
     read(alloc, reply, records)
 }

@@ -61,8 +61,8 @@ fn is_whole(served: Served) -> bool
 
 /// The reply of the server to the request for the file. Fails where memory is wanted.
 pub fn soak_reply<R: Threads + Sync>(
-    alloc: Global,
     rt: &R,
+    alloc: Global,
     start: u64,
     records: u32,
 ) -> Result<Bytes, Memory>
@@ -72,7 +72,7 @@ pub fn soak_reply<R: Threads + Sync>(
 {
     let mut shelf = shelf_of(alloc, start, records)?;
     let mut link = link_of(alloc, records)?;
-    let served = serve_connection(alloc, rt, &mut shelf, &mut link, WORKERS);
+    let served = serve_connection(rt, alloc, &mut shelf, &mut link, WORKERS);
     if !is_whole(served) {
         return Err(Memory);
     }

@@ -40,7 +40,7 @@ fn a_part_of_each_variable_is_asked(rt: HostRuntime) -> Result<(), Fail> {
 /// The reply: the head, a chunk of 3,314 bytes and the last one.
 #[test]
 fn three_records_are_served(rt: HostRuntime) -> Result<(), Fail> {
-    let reply = soak_reply(rt.alloc(), &rt, 1, 3)?;
+    let reply = soak_reply(&rt, rt.alloc(), 1, 3)?;
     let bytes = reply.bytes();
     let head =
         b"HTTP/1.1 200 OK\r\nXDODS-Server: dap2/1.0\r\nXDAP: 2.0\r\nContent-Description: dods_data\r\nContent-Type: application/octet-stream\r\nTransfer-Encoding: chunked\r\nConnection: close\r\n\r\ncf2\r\nDataset {\n    Int16 s[t = 2][y = 32][x = 11];\n    Int32 i[t = 3][y = 1][x = 32];\n} soak.nc;\nData:\n\0\0\x02\xc0\0\0\x02\xc0\xff\xff\x82\x68\xff\xff\xcb\xa2".as_slice();
@@ -53,12 +53,12 @@ fn three_records_are_served(rt: HostRuntime) -> Result<(), Fail> {
 /// What is said of one and of three records.
 #[test]
 fn what_is_read_is_said(rt: HostRuntime) -> Result<(), Fail> {
-    let one = soak(rt.alloc(), &rt, 1, 1)?.lines(rt.alloc())?;
+    let one = soak(&rt, rt.alloc(), 1, 1)?.lines(rt.alloc())?;
     assert_eq!(rt;
         one.bytes(),
         b"elements 384\nbytes 1650\nshown 7922\nsum 498281\n".as_slice()
     );
-    let three = soak(rt.alloc(), &rt, 1, 3)?.lines(rt.alloc())?;
+    let three = soak(&rt, rt.alloc(), 1, 3)?.lines(rt.alloc())?;
     assert_eq!(rt;
         three.bytes(),
         b"elements 800\nbytes 3314\nshown 16518\nsum 1036990\n".as_slice()

@@ -1,8 +1,9 @@
-//! The file, the connection and the reading, made here of the public calls, beside `soak`.
+//! The file, the connection and the reading, made here of the public calls, beside what `run` writes for `soak`.
 
 use dap_client::{Outcome, read_reply};
+use dap_commands::run;
 use dap_http::Kind;
-use dap_outside::{MemFile, MemLink, MemSink, SureShelf, SureSource};
+use dap_outside::{MemDial, MemDoor, MemFile, MemLink, MemSink, SureShelf, SureSource};
 use dap_server::serve_connection;
 use dap_types::{Bytes, List, Memory, Name};
 use soak::{soak, soak_file};
@@ -57,8 +58,35 @@ fn reply<R: Threads + AllocGlobal + Sync>(rt: &R) -> Result<Bytes, Memory> {
     let request = Bytes::new(alloc, REQUEST)?;
     let none = List::new(alloc);
     let mut link = MemLink::new(alloc, request, 4_194_304, 65_536, none, List::new(alloc))?;
-    let _ = serve_connection(alloc, rt, &mut shelf, &mut link, 7);
+    let _ = serve_connection(rt, alloc, &mut shelf, &mut link, 7);
     Bytes::new(alloc, link.written())
+}
+
+/// What `run` writes for `soak 1 3`.
+fn said<R: Threads + AllocGlobal + Sync>(rt: &R) -> Result<Bytes, Memory> {
+    let alloc = rt.alloc();
+    let mut words = List::new(alloc);
+    for word in ["soak", "1", "3"] {
+        words.push(Name::new(alloc, word)?)?;
+    }
+    let mut shelf = SureShelf::new(List::new(alloc));
+    let mut input = SureSource::new(Bytes::new(alloc, b"")?, 1);
+    let mut out = MemSink::new(alloc, 100, 20, List::new(alloc))?;
+    let mut err = MemSink::new(alloc, 200, 7, List::new(alloc))?;
+    let mut door = MemDoor::new(alloc, List::new(alloc), List::new(alloc))?;
+    let mut dial = MemDial::new(alloc, List::new(alloc), List::new(alloc))?;
+    let _ = run(
+        rt,
+        alloc,
+        words.items(),
+        &mut shelf,
+        &mut input,
+        &mut out,
+        &mut err,
+        &mut door,
+        &mut dial,
+    );
+    Bytes::new(alloc, out.bytes())
 }
 
 /// How many lines a text has, and the sum of its bytes.
@@ -74,7 +102,7 @@ fn counted(text: &[u8]) -> (u32, u32) {
     (lines, sum)
 }
 
-/// The numbers of three records are those of what is read of that reply: the shown text has four lines of
+/// The lines of three records are those of what is read of that reply: the shown text has four lines of
 /// declarations, one for each element, and one at the end.
 #[test]
 fn three_records_are_generated_served_and_read(rt: HostRuntime) -> Result<(), Fail> {
@@ -91,7 +119,7 @@ fn three_records_are_generated_served_and_read(rt: HostRuntime) -> Result<(), Fa
     let expected = format!(in alloc;
         "elements {elements}\nbytes {bytes}\nshown {length}\nsum {sum}\n"
     )?;
-    let found = soak(alloc, &rt, 1, 3)?.lines(alloc)?;
+    let found = said(&rt)?;
     assert_eq!(rt; expected.as_bytes(), found.bytes());
     Ok(())
 }
@@ -105,7 +133,7 @@ fn the_file_is_that_one(rt: HostRuntime) -> Result<(), Fail> {
 
 #[test]
 fn the_most_records(rt: HostRuntime) -> Result<(), Fail> {
-    let found = soak(rt.alloc(), &rt, 1, 4_096)?.lines(rt.alloc())?;
+    let found = soak(&rt, rt.alloc(), 1, 4_096)?.lines(rt.alloc())?;
     assert_eq!(rt;
         found.bytes(),
         b"elements 851968\nbytes 3407992\nshown 19737256\nsum 1216717528\n".as_slice()

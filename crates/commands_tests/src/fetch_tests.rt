@@ -1,0 +1,170 @@
+//! `fetch` and `ver` by their words, over a dial in memory; the requests and the replies are worked out by hand.
+
+ghost use Rattle.std.specs.Prelude.{All, IfOk};
+ghost use Rattle.dap_outside.specs.MemLinks.{IsNew};
+
+use crate::running::{Said, numbers, said_over};
+use dap_commands::Status;
+use dap_outside::{MemDial, MemLink, MemSink, SureShelf, SureSource};
+use dap_types::{Bytes, List, Memory};
+use std::alloc::Global;
+use std::test::Fail;
+use std::thread::Threads;
+
+const GZIP: &[u8] =
+    b"HTTP/1.1 200 OK\r\nContent-Encoding: gzip\r\nContent-Length: 3\r\n\r\n\x1f\x8b\x08";
+
+const TWO: &[u8] =
+    b"HTTP/1.1 200 OK\r\nContent-Length: 45\r\n\r\nDataset {\n    Int32 v[y = 1][x = 1];\n} v.nc;\nHTTP/1.1 400 Bad Request\r\nContent-Length: 65\r\n\r\nError {\n    code = 2;\n    message = \"unknown name in item 1\";\n};\n";
+
+const DDS: &[u8] = b"Dataset {\n    Int32 v[y = 1][x = 1];\n} v.nc;\n";
+
+const ONE_ASKED: &[u8] =
+    b"GET /v.nc.dods?v%5B2%5D%5B3%5D HTTP/1.1\r\nHost: localhost:8080\r\nUser-Agent: dap2/1.0\r\nAccept-Encoding: identity\r\nConnection: close\r\n\r\n";
+
+const TWO_ASKED: &[u8] =
+    b"GET /v.nc.dds?v%5B0%5D%5B0%5D HTTP/1.1\r\nHost: localhost:80\r\nUser-Agent: dap2/1.0\r\nAccept-Encoding: identity\r\n\r\nGET /v.nc.dds?nope HTTP/1.1\r\nHost: localhost:80\r\nUser-Agent: dap2/1.0\r\nAccept-Encoding: identity\r\nConnection: close\r\n\r\n";
+
+/// How a run ended, what it wrote, and what the link gained, if it came back.
+#[derive(Drop)]
+struct Done {
+    said: Said,
+    sent: Bytes,
+}
+
+/// The one link of the dial.
+fn links(alloc: Global, input: &[u8]) -> Result<List<MemLink>, Memory>
+    ensures { IfOk result (All IsNew) }
+{
+    let input = Bytes::new(alloc, input)?;
+    let link = MemLink::new(alloc, input, 1_000, 7, List::new(alloc), List::new(alloc))?;
+    let mut links = List::new(alloc);
+    links.push(link)?;
+    Ok(links)
+}
+
+fn fetched<R: Threads + AllocGlobal + Sync>(
+    rt: &R,
+    words: &[&str],
+    input: &[u8],
+    fails: &[u64],
+) -> Result<Done, Memory> {
+    let alloc = rt.alloc();
+    let mut shelf = SureShelf::new(List::new(alloc));
+    let mut source = SureSource::new(Bytes::new(alloc, b"")?, 7);
+    let out = MemSink::new(alloc, 1_000, 7, List::new(alloc))?;
+    let mut dial = MemDial::new(alloc, links(alloc, input)?, numbers(alloc, fails)?)?;
+    let said = said_over(rt, words, &mut shelf, &mut source, out, &mut dial)?;
+    let sent = match dial.back() {
+        [link, ..] => link.written(),
+        [] => b"",
+    };
+    Ok(Done {
+        said,
+        sent: Bytes::new(alloc, sent)?,
+    })
+}
+
+/// Words, what the link gives, the calls that do not connect; the status, the output, the line, and what the link
+/// gained.
+type Row<'t> = (
+    &'t [&'t str],
+    &'t [u8],
+    &'t [u64],
+    Status,
+    &'t [u8],
+    &'t [u8],
+    &'t [u8],
+);
+
+const ROWS: &[Row] = &[
+    (
+        &["fetch", "http://localhost:8080/v.nc", "dods", "v[2][3]"],
+        GZIP,
+        &[],
+        Status::BadReply,
+        b"",
+        b"dap2: bad reply: Coded at 0\n",
+        ONE_ASKED,
+    ),
+    (
+        &["fetch", "http://localhost/v.nc", "dds", "v[0][0]", "nope"],
+        TWO,
+        &[],
+        Status::ServerError,
+        DDS,
+        b"dap2: server error 2: unknown name in item 1\n",
+        TWO_ASKED,
+    ),
+    (
+        &["fetch", "http://localhost:8080/v.nc", "dods", "v[2][3]"],
+        GZIP,
+        &[1],
+        Status::LinkFault,
+        b"",
+        b"dap2: link fault\n",
+        b"",
+    ),
+    (
+        &["ver"],
+        b"",
+        &[],
+        Status::Complete,
+        b"Core version: DAP/2.0\nServer version: dap2/1.0\n",
+        b"",
+        b"",
+    ),
+];
+
+/// Seventeen constraints.
+const MANY: &[&str] = &[
+    "fetch",
+    "http://h/v.nc",
+    "dods",
+    "",
+    "",
+    "",
+    "",
+    "",
+    "",
+    "",
+    "",
+    "",
+    "",
+    "",
+    "",
+    "",
+    "",
+    "",
+    "",
+    "",
+];
+
+#[test]
+fn what_is_fetched_is_told(rt: HostRuntime) -> Result<(), Fail> {
+    for (words, input, fails, status, out, err, sent) in ROWS {
+        let done = fetched(&rt, words, input, fails)?;
+        assert_eq!(rt; done.said.status, *status);
+        assert_eq!(rt; done.said.out.bytes(), *out);
+        assert_eq!(rt; done.said.err.bytes(), *err);
+        assert_eq!(rt; done.sent.bytes(), *sent);
+    }
+    Ok(())
+}
+
+/// What is no URL, no kind of reply, or too many constraints.
+#[test]
+fn words_that_fetch_nothing(rt: HostRuntime) -> Result<(), Fail> {
+    for words in [
+        MANY,
+        &["fetch", "http://h/v.nc", "dods"],
+        &["fetch", "ftp://h/v.nc", "dods", ""],
+        &["fetch", "http://h:0/v.nc", "dods", ""],
+        &["fetch", "http://h/v.nc", "ver", ""],
+        &["fetch", "http://h/v.nc", "DDS", ""],
+    ] {
+        let done = fetched(&rt, words, GZIP, &[])?;
+        assert_eq!(rt; done.said.status, Status::Words);
+    }
+    Ok(())
+}

@@ -1,0 +1,17 @@
+//! Cases of the commands: words over files, streams and links in memory and of this machine.
+#![tactic(auto)]
+
+#[cfg(test)]
+mod answer_tests;
+#[cfg(test)]
+mod counted;
+#[cfg(test)]
+mod fetch_tests;
+#[cfg(test)]
+mod running;
+#[cfg(test)]
+mod serve_tests;
+#[cfg(test)]
+mod soak_tests;
+#[cfg(test)]
+mod tests;

@@ -1,0 +1,17 @@
+pub mod Answering
+pub mod BothEnds
+pub mod Commanding
+pub mod Connected
+pub mod FetchedWhole
+pub mod Fetching
+pub mod Headlines
+pub mod Obeying
+pub mod Pieces
+pub mod ReadBack
+pub mod Running
+pub mod Seeds
+pub mod Shortness
+pub mod Shown
+pub mod ShownWhole
+pub mod Visited
+pub mod Visiting

@@ -1,0 +1,210 @@
+use Rattle.std.proofs.Common.{◌≡◌, ◌≤◌, ◌+◌, ◌∙◌, inl, inr, length, refl, subst, sym}
+use Rattle.std.specs.Io.KnownBytes.{Appends}
+use Rattle.dap_outside.specs.Streams.{AppendsFront}
+use Rattle.dap_commands.proofs.Answering.{same_target}
+use Rattle.dap_commands.proofs.Commanding.{same-serve}
+use Rattle.dap_commands.proofs.Fetching.{for-words, form-kind, form-of, no-answer, no-command, no-command-url, no-serve, no-show, no-soak, no-url, no-ver, soak-no-answer}
+use Rattle.dap_commands.proofs.Obeying.{answer-no-words, serve-for, serve-no-words}
+use Rattle.dap_commands.proofs.Seeds.{soak-for}
+use Rattle.dap_commands.specs.Answer.{AnswerSays, MustResult, most_before}
+use Rattle.dap_commands.specs.Lines.{IsSaid}
+use Rattle.dap_commands.specs.Serve.{lines_from}
+use Rattle.dap_commands.specs.declared.status.Status.TheVariants.{Words, LinkFault, WriteFault}
+use Rattle.dap_commands.proofs.top.obey.Goals as goal
+
+pub returns-in-Answer-clause-answer : goal.returns-in-Answer-clause-answer
+returns-in-Answer-clause-answer g c = λ target workers are.
+    subst (λ t. AnswerSays (g.S.Shelf.files c.args.shelf.now) t (Appends (g.O.Sink.written c.args.out.now) (g.O.Sink.written c.answer.new.out)) (AppendsFront (g.O.Sink.written c.args.out.now) (g.O.Sink.written c.answer.new.out))
+    (λ line. IsSaid line (g.E.Sink.put_faults c.args.err.now) (g.E.Sink.put_faults c.answer.new.err) (g.E.Sink.written c.args.err.now) (g.E.Sink.written c.answer.new.err)) c.answer.result)
+    (same_target _ _ _ _ _ c.in-Answer.ensures.0 are) c.answer.ensures.says
+
+pub returns-in-Answer-clause-answered : goal.returns-in-Answer-clause-answered
+returns-in-Answer-clause-answered g c = λ target workers are r must still quiet had.
+    c.answer.ensures.only r (subst (λ t. MustResult (g.S.Shelf.files c.args.shelf.now) t r) (same_target _ _ _ _ _ are c.in-Answer.ensures.0) must) still quiet had
+
+pub returns-in-Answer-clause-words : goal.returns-in-Answer-clause-words
+returns-in-Answer-clause-words g c = (
+  λ is command. answer-no-words (g.S.Shelf.files c.args.shelf.now) c.in-Answer.target.now (Appends (g.O.Sink.written c.args.out.now) (g.O.Sink.written c.answer.new.out)) (AppendsFront (g.O.Sink.written c.args.out.now) (g.O.Sink.written c.answer.new.out))
+      (λ line. IsSaid line (g.E.Sink.put_faults c.args.err.now) (g.E.Sink.put_faults c.answer.new.err) (g.E.Sink.written c.args.err.now) (g.E.Sink.written c.answer.new.err)) c.answer.result c.answer.ensures.says is,
+  λ no_one. absurd (no_one (inl (_, _, c.in-Answer.ensures.0))),
+)
+
+pub returns-in-Answer-clause-no_command : goal.returns-in-Answer-clause-no_command
+returns-in-Answer-clause-no_command g c = λ no_one. absurd (no_one (inl (_, _, c.in-Answer.ensures.0)))
+
+pub returns-in-Serve-clause-serve : goal.returns-in-Serve-clause-serve
+returns-in-Serve-clause-serve g c = λ port workers requests are.
+    let (p, r) = same-serve _ _ _ _ _ _ _ c.in-Serve.ensures are in
+    serve-for _ _ _ _ _ _ _ _ _ _ p r c.serve.ensures.served
+
+pub returns-in-Serve-clause-door : goal.returns-in-Serve-clause-door
+returns-in-Serve-clause-door g c = λ no_one. absurd (no_one (_, _, _, c.in-Serve.ensures))
+
+pub returns-in-Serve-clause-words : goal.returns-in-Serve-clause-words
+returns-in-Serve-clause-words g c = (
+  λ is command. serve-no-words c.in-Serve.requests (length c.serve.ensures.served.0) (lines_from 1 c.serve.ensures.served.0) (Appends (g.O.Sink.written c.args.out.now) (g.O.Sink.written c.serve.new.out)) (AppendsFront (g.O.Sink.written c.args.out.now) (g.O.Sink.written c.serve.new.out))
+      c.serve.result c.serve.ensures.served.1.says is,
+  λ no_one. absurd (no_one (inr (inr (inl (_, _, _, c.in-Serve.ensures))))),
+)
+
+pub returns-in-Serve-clause-no_command : goal.returns-in-Serve-clause-no_command
+returns-in-Serve-clause-no_command g c = λ no_one. absurd (no_one (inr (inr (inl (_, _, _, c.in-Serve.ensures)))))
+
+pub returns-in-Other-clause-serve : goal.returns-in-Other-clause-serve
+returns-in-Other-clause-serve g c = λ port workers requests are. absurd (c.in-Other.ensures (inr (inr (inl (port, workers, requests, are)))))
+
+pub returns-in-Answer-clause-fetch : goal.returns-in-Answer-clause-fetch
+returns-in-Answer-clause-fetch g c = λ u kind ces are. let (url, form) = form-of _ u kind ces are in absurd (no-answer _ _ _ url kind ces c.in-Answer.ensures.0 form)
+
+pub returns-in-Answer-clause-fetch_link : goal.returns-in-Answer-clause-fetch_link
+returns-in-Answer-clause-fetch_link g c = λ is. let (u, kind, ces, are) = is in let (url, form) = form-of _ u kind ces are in absurd (no-answer _ _ _ url kind ces c.in-Answer.ensures.0 form)
+
+pub returns-in-Answer-clause-fetch_shelf : goal.returns-in-Answer-clause-fetch_shelf
+returns-in-Answer-clause-fetch_shelf g c = λ is. let (u, kind, ces, are) = is in let (url, form) = form-of _ u kind ces are in absurd (no-answer _ _ _ url kind ces c.in-Answer.ensures.0 form)
+
+pub returns-in-Serve-clause-fetch : goal.returns-in-Serve-clause-fetch
+returns-in-Serve-clause-fetch g c = λ u kind ces are. let (url, form) = form-of _ u kind ces are in absurd (no-serve _ _ _ _ url kind ces c.in-Serve.ensures form)
+
+pub returns-in-Serve-clause-fetch_link : goal.returns-in-Serve-clause-fetch_link
+returns-in-Serve-clause-fetch_link g c = λ is. let (u, kind, ces, are) = is in let (url, form) = form-of _ u kind ces are in absurd (no-serve _ _ _ _ url kind ces c.in-Serve.ensures form)
+
+pub returns-in-Serve-clause-fetch_shelf : goal.returns-in-Serve-clause-fetch_shelf
+returns-in-Serve-clause-fetch_shelf g c = λ is. let (u, kind, ces, are) = is in let (url, form) = form-of _ u kind ces are in absurd (no-serve _ _ _ _ url kind ces c.in-Serve.ensures form)
+
+pub returns-in-Show-clause-fetch : goal.returns-in-Show-clause-fetch
+returns-in-Show-clause-fetch g c = λ u kind ces are. let (url, form) = form-of _ u kind ces are in absurd (no-show _ url kind ces c.in-Show.ensures form)
+
+pub returns-in-Show-clause-fetch_link : goal.returns-in-Show-clause-fetch_link
+returns-in-Show-clause-fetch_link g c = λ is. let (u, kind, ces, are) = is in let (url, form) = form-of _ u kind ces are in absurd (no-show _ url kind ces c.in-Show.ensures form)
+
+pub returns-in-Ver-clause-fetch : goal.returns-in-Ver-clause-fetch
+returns-in-Ver-clause-fetch g c = λ u kind ces are. let (url, form) = form-of _ u kind ces are in absurd (no-ver _ url kind ces c.in-Ver.ensures form)
+
+pub returns-in-Ver-clause-fetch_link : goal.returns-in-Ver-clause-fetch_link
+returns-in-Ver-clause-fetch_link g c = λ is. let (u, kind, ces, are) = is in let (url, form) = form-of _ u kind ces are in absurd (no-ver _ url kind ces c.in-Ver.ensures form)
+
+pub returns-in-Other-clause-fetch : goal.returns-in-Other-clause-fetch
+returns-in-Other-clause-fetch g c = λ u kind ces are. absurd (c.in-Other.ensures (inr (inr (inr (inr (inl (u, kind, ces, are)))))))
+
+pub returns-in-Other-clause-fetch_link : goal.returns-in-Other-clause-fetch_link
+returns-in-Other-clause-fetch_link g c = λ is. absurd (c.in-Other.ensures (inr (inr (inr (inr (inl is))))))
+
+pub fetch-requires-clause-kind : goal.fetch-requires-clause-kind
+fetch-requires-clause-kind g c = form-kind _ _ _ _ c.in-Fetch.ensures
+
+pub returns-in-Fetch-clause-fetch : goal.returns-in-Fetch-clause-fetch
+returns-in-Fetch-clause-fetch g c = λ u kind ces are. for-words _ _ _ _ _ _ _ u _ _ _ _ _ _ c.in-Fetch.ensures c.fetch.ensures.says are
+
+pub returns-in-Fetch-clause-dial : goal.returns-in-Fetch-clause-dial
+returns-in-Fetch-clause-dial g c = λ no_fetch. (c.fetch.ensures.untouched (no-url _ _ _ _ c.in-Fetch.ensures no_fetch)).0
+
+pub returns-in-Fetch-clause-link_fault : goal.returns-in-Fetch-clause-link_fault
+returns-in-Fetch-clause-link_fault g c = λ no_fetch is. let clash : Words ≡ LinkFault = sym (c.fetch.ensures.words.1 (no-url _ _ _ _ c.in-Fetch.ensures no_fetch)) ∙ is in cc clash
+
+pub returns-in-Fetch-clause-write_fault : goal.returns-in-Fetch-clause-write_fault
+returns-in-Fetch-clause-write_fault g c = λ no_fetch is. let clash : Words ≡ WriteFault = sym (c.fetch.ensures.words.1 (no-url _ _ _ _ c.in-Fetch.ensures no_fetch)) ∙ is in cc clash
+
+pub returns-in-Fetch-clause-words : goal.returns-in-Fetch-clause-words
+returns-in-Fetch-clause-words g c = (
+  λ is command. no-command _ _ _ _ c.in-Fetch.ensures (c.fetch.ensures.words.0 is) command,
+  λ no_one. c.fetch.ensures.words.1 (no-command-url _ _ _ _ c.in-Fetch.ensures no_one),
+)
+
+pub returns-in-Fetch-clause-no_command : goal.returns-in-Fetch-clause-no_command
+returns-in-Fetch-clause-no_command g c = λ no_one. (refl, (c.fetch.ensures.untouched (no-command-url _ _ _ _ c.in-Fetch.ensures no_one)).1)
+
+pub returns-in-Fetch-clause-answer : goal.returns-in-Fetch-clause-answer
+returns-in-Fetch-clause-answer g c = λ target workers are. absurd (no-answer _ target workers _ _ _ are c.in-Fetch.ensures)
+
+pub returns-in-Fetch-clause-answered : goal.returns-in-Fetch-clause-answered
+returns-in-Fetch-clause-answered g c = λ target workers are. absurd (no-answer _ target workers _ _ _ are c.in-Fetch.ensures)
+
+pub returns-in-Fetch-clause-answer_asks : goal.returns-in-Fetch-clause-answer_asks
+returns-in-Fetch-clause-answer_asks g c = λ target workers are. absurd (no-answer _ target workers _ _ _ are c.in-Fetch.ensures)
+
+pub returns-in-Fetch-clause-answer_asked : goal.returns-in-Fetch-clause-answer_asked
+returns-in-Fetch-clause-answer_asked g c = λ target workers are. absurd (no-answer _ target workers _ _ _ are c.in-Fetch.ensures)
+
+pub returns-in-Fetch-clause-answer_read_fault : goal.returns-in-Fetch-clause-answer_read_fault
+returns-in-Fetch-clause-answer_read_fault g c = λ target workers are. absurd (no-answer _ target workers _ _ _ are c.in-Fetch.ensures)
+
+pub returns-in-Fetch-clause-serve : goal.returns-in-Fetch-clause-serve
+returns-in-Fetch-clause-serve g c = λ port workers requests are. absurd (no-serve _ port workers requests _ _ _ are c.in-Fetch.ensures)
+
+pub returns-in-Fetch-clause-ver : goal.returns-in-Fetch-clause-ver
+returns-in-Fetch-clause-ver g c = λ are. absurd (no-ver _ _ _ _ are c.in-Fetch.ensures)
+
+pub returns-in-Fetch-clause-show : goal.returns-in-Fetch-clause-show
+returns-in-Fetch-clause-show g c = λ are. absurd (no-show _ _ _ _ are c.in-Fetch.ensures)
+
+pub returns-in-Fetch-clause-most : goal.returns-in-Fetch-clause-most
+returns-in-Fetch-clause-most g c = λ are. absurd (no-show _ _ _ _ are c.in-Fetch.ensures)
+
+pub returns-in-Fetch-clause-verdict : goal.returns-in-Fetch-clause-verdict
+returns-in-Fetch-clause-verdict g c = λ are. absurd (no-show _ _ _ _ are c.in-Fetch.ensures)
+
+pub returns-in-Fetch-clause-read_fault : goal.returns-in-Fetch-clause-read_fault
+returns-in-Fetch-clause-read_fault g c = λ are. absurd (no-show _ _ _ _ are c.in-Fetch.ensures)
+
+pub returns-in-Soak-clause-answer : goal.returns-in-Soak-clause-answer
+returns-in-Soak-clause-answer g c = λ target workers are. absurd (soak-no-answer _ target workers _ _ are c.in-Soak.ensures)
+
+pub returns-in-Soak-clause-answered : goal.returns-in-Soak-clause-answered
+returns-in-Soak-clause-answered g c = λ target workers are. absurd (soak-no-answer _ target workers _ _ are c.in-Soak.ensures)
+
+pub returns-in-Soak-clause-answer_asks : goal.returns-in-Soak-clause-answer_asks
+returns-in-Soak-clause-answer_asks g c = λ target workers are. absurd (soak-no-answer _ target workers _ _ are c.in-Soak.ensures)
+
+pub returns-in-Soak-clause-answer_asked : goal.returns-in-Soak-clause-answer_asked
+returns-in-Soak-clause-answer_asked g c = λ target workers are. absurd (soak-no-answer _ target workers _ _ are c.in-Soak.ensures)
+
+pub returns-in-Soak-clause-answer_untouched : goal.returns-in-Soak-clause-answer_untouched
+returns-in-Soak-clause-answer_untouched g c = λ target workers are. absurd (soak-no-answer _ target workers _ _ are c.in-Soak.ensures)
+
+pub returns-in-Soak-clause-answer_read_fault : goal.returns-in-Soak-clause-answer_read_fault
+returns-in-Soak-clause-answer_read_fault g c = λ target workers are. absurd (soak-no-answer _ target workers _ _ are c.in-Soak.ensures)
+
+pub returns-in-Soak-clause-fetch : goal.returns-in-Soak-clause-fetch
+returns-in-Soak-clause-fetch g c = λ u kind ces are. let (url, form) = form-of _ u kind ces are in absurd (no-soak _ _ _ url kind ces c.in-Soak.ensures form)
+
+pub returns-in-Soak-clause-fetch_link : goal.returns-in-Soak-clause-fetch_link
+returns-in-Soak-clause-fetch_link g c = λ is. let (u, kind, ces, are) = is in let (url, form) = form-of _ u kind ces are in absurd (no-soak _ _ _ url kind ces c.in-Soak.ensures form)
+
+pub returns-in-Soak-clause-fetch_shelf : goal.returns-in-Soak-clause-fetch_shelf
+returns-in-Soak-clause-fetch_shelf g c = λ is. let (u, kind, ces, are) = is in let (url, form) = form-of _ u kind ces are in absurd (no-soak _ _ _ url kind ces c.in-Soak.ensures form)
+
+pub returns-in-Soak-clause-soak : goal.returns-in-Soak-clause-soak
+returns-in-Soak-clause-soak g c = λ start records are.
+    soak-for _ c.in-Soak.start c.in-Soak.records start records (Appends (g.O.Sink.written c.args.out.now) (g.O.Sink.written c.soak_lines.new.out)) (AppendsFront (g.O.Sink.written c.args.out.now) (g.O.Sink.written c.soak_lines.new.out)) c.soak_lines.result
+    c.in-Soak.ensures c.soak_lines.ensures.says are
+
+pub returns-in-Soak-clause-words : goal.returns-in-Soak-clause-words
+returns-in-Soak-clause-words g c = (λ is command. c.soak_lines.ensures.words is, λ no_one. absurd (no_one (inr (inr (inr (inr (inr (_, _, c.in-Soak.ensures))))))))
+
+pub returns-in-Soak-clause-no_command : goal.returns-in-Soak-clause-no_command
+returns-in-Soak-clause-no_command g c = λ no_one. absurd (no_one (inr (inr (inr (inr (inr (_, _, c.in-Soak.ensures)))))))
+
+pub returns-in-Answer-clause-soak : goal.returns-in-Answer-clause-soak
+returns-in-Answer-clause-soak g c = λ start records are. absurd (soak-no-answer _ _ _ start records c.in-Answer.ensures.0 are)
+
+pub returns-in-Answer-clause-soak_shelf : goal.returns-in-Answer-clause-soak_shelf
+returns-in-Answer-clause-soak_shelf g c = λ is. let (start, records, are) = is in absurd (soak-no-answer _ _ _ start records c.in-Answer.ensures.0 are)
+
+pub returns-in-Fetch-clause-soak : goal.returns-in-Fetch-clause-soak
+returns-in-Fetch-clause-soak g c = λ start records are. absurd (no-soak _ start records _ _ _ are c.in-Fetch.ensures)
+
+pub returns-in-Fetch-clause-soak_shelf : goal.returns-in-Fetch-clause-soak_shelf
+returns-in-Fetch-clause-soak_shelf g c = λ is. let (start, records, are) = is in absurd (no-soak _ start records _ _ _ are c.in-Fetch.ensures)
+
+pub returns-in-Other-clause-soak : goal.returns-in-Other-clause-soak
+returns-in-Other-clause-soak g c = λ start records are. absurd (c.in-Other.ensures (inr (inr (inr (inr (inr (start, records, are)))))))
+
+pub returns-in-Answer-clause-answer_asks_first : goal.returns-in-Answer-clause-answer_asks_first
+returns-in-Answer-clause-answer_asks_first g c = λ target workers are none.
+    subst (λ t. g.S.Shelf.asked c.answer.new.shelf ≤ g.S.Shelf.asked c.args.shelf.now + most_before (g.S.Shelf.files c.args.shelf.now) t) (same_target _ _ _ _ _ c.in-Answer.ensures.0 are) (c.answer.ensures.asked_first none)
+
+pub returns-in-Fetch-clause-answer_asks_first : goal.returns-in-Fetch-clause-answer_asks_first
+returns-in-Fetch-clause-answer_asks_first g c = λ target workers are. absurd (no-answer _ target workers _ _ _ are c.in-Fetch.ensures)
+
+pub returns-in-Soak-clause-answer_asks_first : goal.returns-in-Soak-clause-answer_asks_first
+returns-in-Soak-clause-answer_asks_first g c = λ target workers are. absurd (soak-no-answer _ target workers _ _ are c.in-Soak.ensures)

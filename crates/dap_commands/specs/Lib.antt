@@ -1,0 +1,13 @@
+pub mod Answer
+pub mod Causes
+pub mod ClientHalf
+pub mod Fetch
+pub mod Headline
+pub mod Laws
+pub mod Lines
+pub mod Serve
+pub mod ServerHalf
+pub mod Show
+pub mod Soak
+pub mod Words
+pub mod inner

@@ -1,0 +1,84 @@
+-- The words of a command line (this project's).
+use Rattle.std.specs.Prelude.{◌≡◌, ℕ, ◌^◌, ◌<◌, ◌≤◌, List, [], ◌∷◌, ◌⊎◌, IsTrue, codes, length, Some}
+use Rattle.std.specs.Str.Parse.{digits_value}
+use Rattle.dap_http.specs.Urls.{UrlParts, url_of}
+use Rattle.dap_http.specs.declared.kind.Kind.{Kind}
+use Rattle.dap_http.specs.declared.kind.Kind.TheVariants as kinds
+use Rattle.viable.specs.Numerals.{is_numeral}
+use Rattle.dap_commands.specs.declared.command.Command.{Command}
+use Rattle.dap_commands.specs.declared.command.Command.TheVariants.{Answer, Show, Serve, Ver, Soak, Fetch, Other}
+
+-- the word is a number from 1 to that one, in 1 to 20 digits
+abbrev pub IsNumber : ℕ → List ℕ → ℕ → Type 0
+IsNumber most word n = IsTrue (is_numeral 20 word) × (n ≡ digits_value 10 word) × (1 ≤ n) × (n ≤ most)
+
+-- the word is a number below 2^64, in 1 to 20 digits
+abbrev pub IsSeed : List ℕ → ℕ → Type 0
+IsSeed word n = IsTrue (is_numeral 20 word) × (n ≡ digits_value 10 word) × (n < 2 ^ 64)
+
+-- `answer TARGET`, which is with 1 worker, or `answer TARGET WORKERS`
+abbrev pub AreAnswer : List (List ℕ) → List ℕ → ℕ → Type 0
+AreAnswer words target workers =
+    ((words ≡ codes "answer" ∷ target ∷ []) × (workers ≡ 1))
+    ⊎ ((word : List ℕ) × (words ≡ codes "answer" ∷ target ∷ word ∷ []) × IsNumber 64 word workers)
+
+-- `show`
+abbrev pub IsShow : List (List ℕ) → Type 0
+IsShow words = words ≡ codes "show" ∷ []
+
+-- `serve PORT WORKERS REQUESTS`
+abbrev pub AreServe : List (List ℕ) → ℕ → ℕ → ℕ → Type 0
+AreServe words port workers requests =
+    (port_word : List ℕ) × (workers_word : List ℕ) × (requests_word : List ℕ)
+    × (words ≡ codes "serve" ∷ port_word ∷ workers_word ∷ requests_word ∷ [])
+    × IsNumber 65535 port_word port × IsNumber 64 workers_word workers × IsNumber 1000000000 requests_word requests
+
+-- `ver`
+abbrev pub IsVer : List (List ℕ) → Type 0
+IsVer words = words ≡ codes "ver" ∷ []
+
+-- `soak START SIZE`
+abbrev pub AreSoak : List (List ℕ) → ℕ → ℕ → Type 0
+AreSoak words start records =
+    (start_word : List ℕ) × (size_word : List ℕ) × (words ≡ codes "soak" ∷ start_word ∷ size_word ∷ []) × IsSeed start_word start × IsNumber 4096 size_word records
+
+-- the word of a kind that is fetched
+abbrev pub IsKindWord : List ℕ → Kind → Type 0
+IsKindWord word kinds.Dds = word ≡ codes "dds"
+IsKindWord word kinds.Das = word ≡ codes "das"
+IsKindWord word kinds.Dods = word ≡ codes "dods"
+IsKindWord word kinds.Ver = ⊥
+
+-- `fetch`, a word, a kind and 1 to 16 constraints
+abbrev pub HaveFetchForm : List (List ℕ) → List ℕ → Kind → List (List ℕ) → Type 0
+HaveFetchForm words url kind ces =
+    (word : List ℕ) × (words ≡ codes "fetch" ∷ url ∷ word ∷ ces) × IsKindWord word kind × (1 ≤ length ces) × (length ces ≤ 16)
+
+-- `fetch URL KIND CE [CE ..]`
+abbrev pub AreFetch : List (List ℕ) → UrlParts → Kind → List (List ℕ) → Type 0
+AreFetch words u kind ces = (url : List ℕ) × HaveFetchForm words url kind ces × (url_of url ≡ Some u)
+
+-- `fetch` of some URL
+abbrev pub IsFetch : List (List ℕ) → Type 0
+IsFetch words = (u : UrlParts) × (kind : Kind) × (ces : List (List ℕ)) × AreFetch words u kind ces
+
+-- `serve` with some numbers
+abbrev pub IsServe : List (List ℕ) → Type 0
+IsServe words = (port : ℕ) × (workers : ℕ) × (requests : ℕ) × AreServe words port workers requests
+
+-- `soak` with some numbers
+abbrev pub IsSoak : List (List ℕ) → Type 0
+IsSoak words = (start : ℕ) × (records : ℕ) × AreSoak words start records
+
+abbrev pub IsCommand : List (List ℕ) → Type 0
+IsCommand words = ((target : List ℕ) × (workers : ℕ) × AreAnswer words target workers) ⊎ (IsShow words ⊎ (IsServe words ⊎ (IsVer words ⊎ (IsFetch words ⊎ IsSoak words))))
+
+-- what the words ask for
+abbrev pub Reads : List (List ℕ) → Command → Type 0
+Reads words (Answer target workers) = AreAnswer words target.now workers × (1 ≤ workers) × (workers ≤ 64)
+Reads words Show = IsShow words
+Reads words (Serve port workers requests) = AreServe words port workers requests
+Reads words Ver = IsVer words
+Reads words (Soak start records) = AreSoak words start records
+Reads words (Fetch url kind ces) = HaveFetchForm words url.now kind ces.now
+Reads words Other = ¬ (IsCommand words)

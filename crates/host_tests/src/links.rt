@@ -1,0 +1,86 @@
+//! Links over TCP.
+
+use crate::ports::port_of;
+use dap_host::{TcpDial, TcpDoor, TcpLink};
+use dap_outside::{Dial, Door, Source, put_all};
+use std::net::{Ipv4Addr, Net, OpenListener, TcpListener};
+use std::test::Fail;
+
+/// A peer at this address that is connected to the door, and the door's link to it.
+fn joined<N: Net>(
+    dial: &mut TcpDial<'_, N>,
+    door: &mut TcpDoor<'_, N>,
+    host: &str,
+) -> Result<(TcpLink<N::Stream>, TcpLink<N::Stream>), Fail> {
+    let Some(port) = port_of(door) else {
+        return Err(Fail::from("no port"));
+    };
+    let Ok(peer) = dial.connect(host, port) else {
+        return Err(Fail::from("not connected"));
+    };
+    let Ok(link) = door.accept() else {
+        return Err(Fail::from("not accepted"));
+    };
+    Ok((peer, link))
+}
+
+// A stream that is closed over bytes that came is reset; then the peer reads no end behind the reply.
+#[test]
+fn a_link_that_is_done_ends_behind_what_was_put(rt: HostRuntime) -> Result<(), Fail> {
+    for host in ["127.0.0.1", "127.0.0.2", "localhost"] {
+        let mut door = TcpDoor::new(&rt);
+        let mut dial = TcpDial::new(&rt);
+        let (mut peer, mut link) = joined(&mut dial, &mut door, host)?;
+        if put_all(&mut peer, b"asked").is_err() || put_all(&mut link, b"reply").is_err() {
+            return Err(Fail::from("not sent"));
+        }
+        door.done(link);
+        let mut reply = [0u8; 8];
+        assert!(rt; matches!(peer.take(&mut reply), Ok(5)));
+        assert_eq!(rt; &reply[..5], b"reply".as_slice());
+        assert!(rt; matches!(peer.take(&mut reply), Ok(0)));
+        dial.done(peer);
+    }
+    Ok(())
+}
+
+/// A peer listens at one address alone. A name of 256 bytes is that of no host.
+#[test]
+fn a_dial_goes_to_the_host_that_it_is_given(rt: HostRuntime) -> Result<(), Fail> {
+    let name = [b'h'; 256];
+    let (Ok(long), Ok(longer)) = (str::from_utf8(&name[..255]), str::from_utf8(&name)) else {
+        return Err(Fail::from("no text"));
+    };
+    let listener = TcpListener::bind(&rt, (Ipv4Addr::new(127, 0, 0, 2), 0))?;
+    let port = listener.local_addr()?.port();
+    let mut dial = TcpDial::new(&rt);
+    for (host, is_there) in [
+        ("127.0.0.1", false),
+        ("127.0.0.2", true),
+        ("127.0.0.3", false),
+        ("localhost", false),
+        ("no host", false),
+        (long, false),
+        (longer, false),
+    ] {
+        match dial.connect(host, port) {
+            Ok(peer) => {
+                assert!(rt; is_there, "{host}");
+                dial.done(peer);
+            }
+            Err(_) => assert!(rt; !is_there, "{host}"),
+        }
+    }
+    Ok(())
+}
+
+#[test]
+fn a_port_that_is_taken_is_a_fault(rt: HostRuntime) -> Result<(), Fail> {
+    let mut door = TcpDoor::new(&rt);
+    let Some(port) = port_of(&mut door) else {
+        return Err(Fail::from("no port"));
+    };
+    let mut second = TcpDoor::new(&rt);
+    assert!(rt; second.listen(port).is_err());
+    Ok(())
+}
