@@ -1,0 +1,9 @@
+pub mod Shown
+pub mod Keys
+pub mod OneKind
+pub mod Backing
+pub mod Sending
+pub mod Front
+pub mod Coming
+pub mod Worth
+pub mod Replied

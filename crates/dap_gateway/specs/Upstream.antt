@@ -1,0 +1,70 @@
+-- What is asked of the other server over a new link, which then comes back to the dial (RFC 9112, sections 3 and 9).
+use Rattle.std.specs.Prelude.{◌≡◌, ℕ, ◌⊎◌, true, List, [], ◌∷◌, ◌++◌, Some, IsTrue}
+use Rattle.std.specs.Option.{option_map}
+use Rattle.std.specs.Io.KnownBytes.{Appends, Consumes, IsAtEnd}
+use Rattle.dap_outside.specs.Causes.{Rose}
+use Rattle.dap_outside.specs.Links.{IsNew, LinkState}
+use Rattle.dap_outside.specs.Streams.{AppendsFront}
+use Rattle.dap_http.specs.Delivered.{BreaksOff, Delivers, HasCoding}
+use Rattle.dap_http.specs.Targets.{Asked}
+use Rattle.dap_http.specs.Texts.{request_text}
+use Rattle.dap_http.specs.declared.coding.Coding.{Coding}
+use Rattle.xdr_decode.specs.declared.bad.BadField.{BadField}
+use Rattle.dap_client.specs.Fetched.{DialState}
+use Rattle.dap_client.specs.Held.{IsLong, IsTold, Says, told_of}
+use Rattle.dap_client.specs.Replies.{BringsFirst, first_of}
+use Rattle.dap_client.specs.Verdict.{Form, Verdict, IsVerdict}
+use Rattle.dap_client.specs.declared.body_outcome.BodyOutcome.{BodyOutcome}
+use Rattle.dap_client.specs.declared.body_outcome.BodyOutcome.TheVariants.{TooLarge, ReadFault}
+
+-- the bytes of a body that are read of a reply
+abbrev pub most_body : ℕ
+most_body = 67108864
+
+-- the request for what a target asks for. Its path is `/` and the target's name
+abbrev pub key_of : List ℕ → ℕ → Asked → List ℕ
+key_of host port a = request_text host port (47 ∷ a.name) a.kind a.query true
+
+-- whatever is so of a whole reply is what the outcome tells, but for a fault or want of memory
+pub record IsExact (form : Form) (limit : ℕ) (reply : List ℕ) (outcome : BodyOutcome) : Type 0 where
+  pub too_large : (body : List ℕ) → BringsFirst reply body → IsLong form limit body → IsTold TooLarge outcome
+  pub whole : (body rest : List ℕ) (v : Verdict) → Delivers reply true body rest → IsVerdict form body v → ¬ (IsLong form limit body) → IsTold (told_of body v) outcome
+  pub broken : (behind body : List ℕ) (coding : Coding) (wrong : BadField) (v : Verdict) → HasCoding reply coding behind → BreaksOff reply true body wrong
+      → IsVerdict form body v → ¬ (IsLong form limit body) → IsTold (told_of body (first_of v wrong)) outcome
+
+-- it failed before the request was out: some of it went, from the front, and nothing was read
+pub record IsUnasked (key : List ℕ) (came back : LinkState) (outcome : BodyOutcome) : Type 0 where
+  pub sent : AppendsFront came.written back.written key
+  pub none_taken : back.left ≡ came.left
+  pub is_fault : outcome ≡ ReadFault
+  pub fault : Rose came.put_faults back.put_faults
+
+-- the request went out, and this is what the reply brought
+pub record IsAsked (form : Form) (key : List ℕ) (came back : LinkState) (outcome : BodyOutcome) : Type 0 where
+  pub sent : Appends came.written back.written key
+  pub says : (taken : List ℕ) × Consumes came.left back.left taken × Says form most_body taken back.ended outcome
+  pub exact : (reply : List ℕ) → came.left ≡ Some reply → IsExact form most_body reply outcome
+  pub fault : outcome ≡ ReadFault → Rose came.take_faults back.take_faults
+
+-- over a link as it came and as it was handed back
+pub record IsAskedOver (form : Form) (key : List ℕ) (came back : LinkState) (outcome : BodyOutcome) : Type 0 where
+  pub is_new : IsNew came
+  pub whole : back.whole ≡ came.whole
+  pub end : IsTrue back.ended → IsAtEnd back.left
+  pub asked : IsUnasked key came back outcome ⊎ IsAsked form key came back outcome
+
+-- a link was connected to the host and the port, and came back to the dial
+pub record IsConnected {W : Type 0} (state : W → LinkState) (host : List ℕ) (port : ℕ) (form : Form) (key : List ℕ) (a b : DialState W) (outcome : BodyOutcome) : Type 0 where
+  pub came : W
+  pub link : W
+  pub back : b.back ≡ option_map (λ links. links ++ ((host, port), link) ∷ []) a.back
+  pub over : IsAskedOver form key (state came) (state link) outcome
+
+-- or the dial failed
+pub record IsUnconnected {W : Type 0} (a b : DialState W) (outcome : BodyOutcome) : Type 0 where
+  pub back : b.back ≡ a.back
+  pub is_fault : outcome ≡ ReadFault
+  pub fault : Rose a.faults b.faults
+
+abbrev pub Dials : {W : Type 0} → (W → LinkState) → List ℕ → ℕ → Form → List ℕ → DialState W → DialState W → BodyOutcome → Type 0
+Dials state host port form key a b outcome = IsUnconnected a b outcome ⊎ IsConnected state host port form key a b outcome

@@ -1,0 +1,16 @@
+pub mod Names
+pub mod Lists
+pub mod Cutting
+pub mod Members
+pub mod Joins
+pub mod Trees
+pub mod Causes
+pub mod Sent
+pub mod Costs
+pub mod Pieces
+pub mod Begun
+pub mod Bodies
+pub mod Alone
+pub mod Asked
+pub mod Wanted
+pub mod Served
