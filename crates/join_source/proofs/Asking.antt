@@ -175,6 +175,7 @@ whole-asks h leaf base [] plan file files at put asked have planned base-is begu
     record {
       plan = plan;
       is_plan = planned.of_plan;
+      cost = planned.cost;
       batches = has.batches;
       upto = has.upto;
       in_turn = has.in_turn;
@@ -196,6 +197,7 @@ whole-asks h leaf base (s ∷ slabs) plan file files at put asked have planned b
     record {
       plan = plan;
       is_plan = planned.of_plan;
+      cost = planned.cost;
       batches = has.batches;
       upto = has.upto;
       in_turn = has.in_turn;

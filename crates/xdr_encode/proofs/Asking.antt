@@ -8,11 +8,12 @@ use Rattle.dap_model.specs.Cutting.{AreWithin}
 use Rattle.dap_model.specs.Filter.{Marks}
 use Rattle.dap_model.specs.Xdr.{bytes_of}
 use Rattle.hyperslab_plan.specs.Batches.{InTurn}
+use Rattle.hyperslab_plan.specs.Picked.{cost_of}
 use Rattle.hyperslab_plan.specs.declared.batch.Batch.{Batch}
 use Rattle.hyperslab_plan.specs.declared.plan.Plan.{Plan}
 use Rattle.netcdf_source.specs.Laws.{HasHeader}
 use Rattle.netcdf_source.specs.Layouts.{element_sizes}
-use Rattle.netcdf_source.specs.Mapping.{base_of, element_dimensions, is_empty, leaf_variable}
+use Rattle.netcdf_source.specs.Mapping.{base_of, element_dimensions, element_size, is_empty, leaf_variable}
 use Rattle.netcdf_source.specs.declared.header.Contents.{Contents}
 use Rattle.netcdf_source.specs.declared.header.Variable.{Variable}
 use Rattle.slab_fill.specs.Elements.{element_fields}
@@ -23,7 +24,7 @@ use Rattle.xdr_encode.specs.Costs.{own_slabs}
 use Rattle.xdr_encode.specs.Elements.{forms_from, value_in, values_from}
 use Rattle.xdr_encode.specs.Leaves.{begins_in, counts_of}
 use Rattle.xdr_encode.specs.Placed.{IsLeafOf}
-use Rattle.xdr_encode.specs.Sent.{kind_begins, leaf_begins, leaf_xdr, leaves_xdr}
+use Rattle.xdr_encode.specs.Sent.{kind_begins, leaf_begins, leaf_cost, leaf_xdr, leaves_xdr}
 use Rattle.xdr_encode.specs.declared.leaf.Kind.TheVariants.{Scalar, Array}
 use Rattle.xdr_encode.specs.declared.leaf.Leaf.{Leaf}
 
@@ -56,10 +57,11 @@ batch-inside plan (b ∷ bs) from upto turn (suc k) d lt = batch-inside plan bs 
 -- ---- one member
 
 pub variable-asks : (c : Contents) (file : List ℕ) (n : ℕ) (v : Variable) (slabs : List Slab) (leaf : Leaf) (at put asked : ℕ) → HasHeader c file → leaf_variable c n ≡ Some v → AreWithin slabs (element_sizes c v) → IsLeafOf c v slabs leaf
-    → HasBegun leaf file at put asked → VariableAsks c file v slabs at put asked
-variable-asks c file n v slabs leaf at put asked h is within of_leaf has = record {
+    → leaf_cost leaf ≤ cost_of slabs (element_size c v) → HasBegun leaf file at put asked → VariableAsks c file v slabs at put asked
+variable-asks c file n v slabs leaf at put asked h is within of_leaf costs has = record {
   plan = leaf.plan;
   is_plan = of_leaf.plan;
+  cost = costs;
   batches = has.batches;
   upto = has.upto;
   in_turn = has.in_turn;
@@ -74,13 +76,13 @@ variable-asks c file n v slabs leaf at put asked h is within of_leaf has = recor
 
 -- by the leaf of the member, if it is a marked one
 pub marked-asks : (c : Contents) (file : List ℕ) (marks : Marks) (n : ℕ) (v : Variable) (slabs : List Slab) (leaf : Leaf) (at put asked : ℕ) → HasHeader c file → leaf_variable c n ≡ Some v → marks n ≡ Some slabs
-    → AreWithin (own_slabs c v slabs) (element_sizes c v) → IsLeafOf c v (own_slabs c v slabs) leaf → HaveBegun (leaf ∷ []) file at put asked
+    → AreWithin (own_slabs c v slabs) (element_sizes c v) → IsLeafOf c v (own_slabs c v slabs) leaf → leaf_cost leaf ≤ cost_of (own_slabs c v slabs) (element_size c v) → HaveBegun (leaf ∷ []) file at put asked
     → MatchOption (leaf_variable c n) (asked ≡ 0) (λ w. LeafAsks c file marks n w at put asked)
-marked-asks c file marks n v slabs leaf at put asked h is marked within of_leaf have =
+marked-asks c file marks n v slabs leaf at put asked h is marked within of_leaf costs have =
     let all : asked ≡ have.0 = omega (arith, have.3, have.4) in
     subst (λ o. MatchOption o (asked ≡ 0) (λ w. LeafAsks c file marks n w at put asked)) (sym is)
     (subst (λ o. MatchOption o (asked ≡ 0) (λ ss. VariableAsks c file v (own_slabs c v ss) at put asked)) (sym marked)
-    (subst (λ x. VariableAsks c file v (own_slabs c v slabs) at put x) (sym all) (variable-asks c file n v (own_slabs c v slabs) leaf at put have.0 h is within of_leaf have.2)))
+    (subst (λ x. VariableAsks c file v (own_slabs c v slabs) at put x) (sym all) (variable-asks c file n v (own_slabs c v slabs) leaf at put have.0 h is within of_leaf costs have.2)))
 
 pub unknown-asks : (c : Contents) (file : List ℕ) (marks : Marks) (n at put asked : ℕ) → leaf_variable c n ≡ None → asked ≡ 0 → MatchOption (leaf_variable c n) (asked ≡ 0) (λ v. LeafAsks c file marks n v at put asked)
 unknown-asks c file marks n at put asked none nothing = subst (λ o. MatchOption o (asked ≡ 0) (λ v. LeafAsks c file marks n v at put asked)) (sym none) nothing

@@ -239,7 +239,7 @@ asks-of c file_len file marks n at put asked None h found have = elim found [
   | inr none ↦ unmarked-asks c file marks n at put asked none have
 ]
 asks-of c file_len file marks n at put asked (Some leaf) h found have =
-    marked-asks c file marks n found.variable found.marked_by leaf at put asked h found.is found.marked found.within found.of_variable have
+    marked-asks c file marks n found.variable found.marked_by leaf at put asked h found.is found.marked found.within found.of_variable found.cost have
 
 -- ---- counts
 

@@ -10,10 +10,12 @@ use Rattle.dap_types.specs.declared.values.Value.{Value}
 use Rattle.dap_model.specs.Filter.{Marks, cut}
 use Rattle.dap_model.specs.Fits.{values_in}
 use Rattle.dap_model.specs.Xdr.{bytes_of}
-use Rattle.hyperslab_plan.specs.Batches.{InTurn, read_by}
+use Rattle.hyperslab_plan.specs.Batches.{InTurn, read_by, spent}
+use Rattle.hyperslab_plan.specs.Picked.{cost_of}
+use Rattle.hyperslab_plan.specs.Plans.{total_of}
 use Rattle.hyperslab_plan.specs.declared.batch.Batch.{Batch}
 use Rattle.hyperslab_plan.specs.declared.plan.Plan.{Plan}
-use Rattle.netcdf_source.specs.Mapping.{base_of, element_dimensions, is_empty, leaves_from}
+use Rattle.netcdf_source.specs.Mapping.{base_of, element_dimensions, element_size, is_empty, leaves_from}
 use Rattle.netcdf_source.specs.Values.{tree_of}
 use Rattle.netcdf_source.specs.declared.header.Contents.{Contents}
 use Rattle.netcdf_source.specs.declared.header.Variable.{Variable}
@@ -33,10 +35,12 @@ abbrev pub element_begins : Contents → List ℕ → Variable → List Slab →
 element_begins c file v slabs p = begins_among (is_empty (element_dimensions c v)) (base_of v.external_type) (values_in (cut slabs (tree_of c file v))) p
 
 -- Of a variable whose XDR begins at a place in the body: so many bytes are those of the first batches of
--- a plan for it, as far as each begins in the body at or before the end of what was put.
+-- a plan for it, all of which read no more than it costs, as far as each begins in the body at or before
+-- the end of what was put.
 pub record VariableAsks (c : Contents) (file : List ℕ) (v : Variable) (slabs : List Slab) (at put asked : ℕ) : Type 0 where
   pub plan : Plan
   pub is_plan : IsPlanOf c v slabs plan
+  pub cost : spent plan (total_of plan) ≤ cost_of slabs (element_size c v)
   pub batches : List Batch
   pub upto : ℕ
   pub in_turn : InTurn plan batches 0 upto
