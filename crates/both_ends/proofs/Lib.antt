@@ -4,3 +4,6 @@ pub mod Names
 pub mod Replying
 pub mod Resulting
 pub mod Standing
+pub mod WholeMarks
+pub mod LeftLeaves
+pub mod Again

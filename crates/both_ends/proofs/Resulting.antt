@@ -19,6 +19,8 @@ use Rattle.netcdf_source.specs.Header.{IsHeader}
 use Rattle.netcdf_source.specs.Mapping.{dataset_of}
 use Rattle.netcdf_source.specs.Values.{file_trees}
 use Rattle.netcdf_source.specs.declared.header.Contents.{Contents}
+use Rattle.saved_source.proofs.Served.{saved_fits, saved_has_words, saved_is_well_formed}
+use Rattle.saved_source.specs.Responses.{IsSaved}
 use Rattle.dap_types.specs.Model.{Dataset, Tree}
 use Rattle.dap_types.specs.WellFormed.{IsWellFormed}
 use Rattle.dap_model.proofs.FilteredWords.{constrained_has_words}
@@ -43,7 +45,7 @@ use Rattle.sequence_select.specs.Selections.{selections}
 use Rattle.dap_http.specs.Targets.{Asked, target_of}
 use Rattle.dap_http.specs.declared.kind.Kind.{Kind}
 use Rattle.dap_http.specs.declared.kind.Kind.TheVariants.{Dds, Das, Dods, Ver}
-use Rattle.dap_server.specs.Files.{Files, Form, IsStored, Stored, form_of, has_end, netcdf, table}
+use Rattle.dap_server.specs.Files.{Files, Form, IsStored, Stored, form_of, has_end, netcdf, saved, table}
 use Rattle.dap_server.specs.Results.{Answers, DodsAnswers, File, Left, Opens, Text, dds_text, dods_text, file_named, left_of, text_of}
 use Rattle.dap_server.specs.Steps.{found_or, unless}
 use Rattle.dap_client.proofs.Bodies.{body_good}
@@ -66,21 +68,33 @@ name-long end name is = ltb-true (length end) (length (segment name)) (and_parts
 
 form-netcdf : (name : List ℕ) → form_of name ≡ Some netcdf → length (codes ".nc") < length (segment name)
 form-netcdf name is = go (has_end (codes ".nc") name) refl is where
-  go : (b : Bool) → has_end (codes ".nc") name ≡ b → cond b (Some netcdf) (cond (has_end (codes ".csv") name) (Some table) None) ≡ Some netcdf → length (codes ".nc") < length (segment name)
+  go : (b : Bool) → has_end (codes ".nc") name ≡ b → cond b (Some netcdf) (cond (has_end (codes ".csv") name) (Some table) (cond (has_end (codes ".dods") name) (Some saved) None)) ≡ Some netcdf → length (codes ".nc") < length (segment name)
   go true e same = name-long (codes ".nc") name e
-  go false e same = other (has_end (codes ".csv") name) same where
-    other : (c : Bool) → cond c (Some table) None ≡ Some netcdf → length (codes ".nc") < length (segment name)
-    other true s = let clash : table ≡ netcdf = cc in cc clash
-    other false s = cc s
+  go false e same = absurd (not-netcdf (has_end (codes ".csv") name) (has_end (codes ".dods") name) same) where
+    not-netcdf : (c d : Bool) → cond c (Some table) (cond d (Some saved) None) ≡ Some netcdf → ⊥
+    not-netcdf true d s = let clash : table ≡ netcdf = cc in cc clash
+    not-netcdf false true s = let clash : saved ≡ netcdf = cc in cc clash
+    not-netcdf false false s = cc s
 
 form-table : (name : List ℕ) → form_of name ≡ Some table → length (codes ".csv") < length (segment name)
 form-table name is = go (has_end (codes ".nc") name) is where
-  go : (b : Bool) → cond b (Some netcdf) (cond (has_end (codes ".csv") name) (Some table) None) ≡ Some table → length (codes ".csv") < length (segment name)
+  go : (b : Bool) → cond b (Some netcdf) (cond (has_end (codes ".csv") name) (Some table) (cond (has_end (codes ".dods") name) (Some saved) None)) ≡ Some table → length (codes ".csv") < length (segment name)
   go true same = let clash : netcdf ≡ table = cc in cc clash
   go false same = other (has_end (codes ".csv") name) refl same where
-    other : (c : Bool) → has_end (codes ".csv") name ≡ c → cond c (Some table) None ≡ Some table → length (codes ".csv") < length (segment name)
+    other : (c : Bool) → has_end (codes ".csv") name ≡ c → cond c (Some table) (cond (has_end (codes ".dods") name) (Some saved) None) ≡ Some table → length (codes ".csv") < length (segment name)
     other true e s = name-long (codes ".csv") name e
-    other false e s = cc s
+    other false e s = absurd (not-table (has_end (codes ".dods") name) s) where
+      not-table : (d : Bool) → cond d (Some saved) None ≡ Some table → ⊥
+      not-table true s = let clash : saved ≡ table = cc in cc clash
+      not-table false s = cc s
+
+form-saved : (name : List ℕ) → form_of name ≡ Some saved → length (codes ".dods") < length (segment name)
+form-saved name is = go (has_end (codes ".nc") name) (has_end (codes ".csv") name) (has_end (codes ".dods") name) refl is where
+  go : (b c d : Bool) → has_end (codes ".dods") name ≡ d → cond b (Some netcdf) (cond c (Some table) (cond d (Some saved) None)) ≡ Some saved → length (codes ".dods") < length (segment name)
+  go true c d e same = let clash : netcdf ≡ saved = cc in cc clash
+  go false true d e same = let clash : table ≡ saved = cc in cc clash
+  go false false true e same = name-long (codes ".dods") name e
+  go false false false e same = cc same
 
 some-segment : (xs : List ℕ) (n : ℕ) → n < length xs → xs ≢ []
 some-segment xs n long e = omega (arith, long, ap length e)
@@ -106,9 +120,17 @@ stored-table name bytes t name_bytes file_bytes form is = record {
   fits = tables.fits name bytes t is;
 }
 
+stored-saved : (name bytes : List ℕ) (d : Dataset) (ts : List Tree) → All (λ b. b < 256) name → IsBytes bytes → form_of name ≡ Some saved → IsSaved bytes name d ts → CanBeSent d ts
+stored-saved name bytes d ts name_bytes file_bytes form is = record {
+  words = saved_has_words bytes name d ts name_bytes file_bytes (some-segment (segment name) (length (codes ".dods")) (form-saved name form)) is;
+  well_formed = saved_is_well_formed bytes name d ts is;
+  fits = saved_fits bytes name d ts is;
+}
+
 stored : (form : Form) (name bytes : List ℕ) (s : Stored) → All (λ b. b < 256) name → IsBytes bytes → form_of name ≡ Some form → IsStored form name bytes (Ok s) → CanBeSent s.dataset s.trees
 stored netcdf name bytes s name_bytes file_bytes form (c, header, is) = subst (λ (x : Stored). CanBeSent x.dataset x.trees) (sym is) (stored-netcdf name bytes c name_bytes file_bytes form header)
 stored table name bytes s name_bytes file_bytes form (t, is_table, is) = subst (λ (x : Stored). CanBeSent x.dataset x.trees) (sym is) (stored-table name bytes t name_bytes file_bytes form is_table)
+stored saved name bytes s name_bytes file_bytes form (d, ts, is_saved, is) = subst (λ (x : Stored). CanBeSent x.dataset x.trees) (sym is) (stored-saved name bytes d ts name_bytes file_bytes form is_saved)
 
 -- what a name finds
 found : (files : Files) (name : List ℕ) (file : File) → file_named files name ≡ Some file → (form_of name ≡ Some file.form) × (files name ≡ Some file.bytes)

@@ -1,8 +1,9 @@
 //! What both ends promise of one another (DAP 2.0, DODS). In come the server's definitions of a target's
 //! result and of its reply, and the client's of a verdict; out go laws that join them, each the contract
-//! of a function that does nothing. `specs/Ends` states them.
+//! of a function that does nothing. `specs/Ends` and `specs/Again` state them.
 #![tactic(auto)]
 
+ghost use Rattle.both_ends.specs.Again.{SavedIsServed, WrittenIsServedAgain};
 ghost use Rattle.both_ends.specs.Ends.{AllAreGood, ReplyDelivers, ReplyIsJudged, ResultIsGood, ResultIsTooLong, ServedIsGood};
 
 /// The data response that a target is answered with, of fewer than 2^40 bytes, is a good body, with the
@@ -36,4 +37,14 @@ pub fn served_is_good()
 /// The same of the replies to all requests of an input, where no fault came and memory was had.
 pub fn all_are_good()
     ensures law { AllAreGood }
+{}
+
+/// A saved data response that is asked for without a constraint is served as its dataset and its values.
+pub fn saved_is_served()
+    ensures law { SavedIsServed }
+{}
+
+/// A data response that a target is answered with, saved under any name, gives its values back.
+pub fn written_is_served_again()
+    ensures law { WrittenIsServedAgain }
 {}

@@ -20,8 +20,8 @@ use std::process::Abort;
 use std::test::Fail;
 use std::thread::Threads;
 use texts::{
-    ATTRIBUTES, COADS_TARGET, DECLARATIONS, GRIDS, HYPERSLABS, Row, TABLES, VERSIONS, WHOLE_FILES,
-    coads_body,
+    ATTRIBUTES, COADS_TARGET, DECLARATIONS, GRIDS, HYPERSLABS, RESPONSES, Row, TABLES, VERSIONS,
+    WHOLE_FILES, coads_body,
 };
 
 /// The numbers of the calls of the shelf and of the output that fail, and how much is put at once.
@@ -85,6 +85,11 @@ fn expect_texts<R: Threads + Abort + AllocGlobal + Sync>(rt: &R, rows: &[Row]) -
 #[test]
 fn tables_are_answered(rt: HostRuntime) -> Result<(), Fail> {
     expect_texts(&rt, TABLES)
+}
+
+#[test]
+fn saved_responses_are_answered(rt: HostRuntime) -> Result<(), Fail> {
+    expect_texts(&rt, RESPONSES)
 }
 
 #[test]

@@ -10,7 +10,7 @@ use Rattle.dap_http.specs.declared.kind.Kind.TheVariants.{Dods}
 use Rattle.dap_outside.specs.Files.{Told}
 use Rattle.dap_server.proofs.Lying.{some_files}
 use Rattle.dap_server.specs.Costs.{IsCost, IsCostAt, most_first}
-use Rattle.dap_server.specs.Files.{Form, form_of, netcdf, table}
+use Rattle.dap_server.specs.Files.{Form, form_of, is_read_first, netcdf, saved, table}
 use Rattle.dap_server.specs.Prepared.{IsOver, MayGive, MustGive}
 use Rattle.dap_server.specs.Results.{AnswersAsked, Text, error_object, text_of}
 use Rattle.dap_server.specs.Steps.{found_or}
@@ -173,7 +173,7 @@ pub body_says : (told : Told) (target : List ℕ) (Out Front Line : List ℕ →
     → (text : List ℕ) × MayGive told a (Ok (text_of Dods text))
     → (IsSome told → IsSome content)
     → ((bytes : List ℕ) → content ≡ Some bytes → BodyPut (text_over bytes) Out Front status)
-    → (form_of a.name ≡ Some table → (bytes : List ℕ) → BodyPut (text_over bytes) Out Front status)
+    → (IsTrue (is_read_first (form_of a.name)) → (bytes : List ℕ) → BodyPut (text_over bytes) Out Front status)
     → IsPut status → AnswerSays told target Out Front Line status
 body_says (Some files) target Out Front Line a (Some bytes) text_over status is is_dods has over accepted tells put alone is_put =
     known_says (Some files) target Out Front Line (text_over bytes) status (looks target a is is_dods has) (may_result (Some files) target a _ is (over bytes (inl refl))) (put bytes refl)
@@ -183,7 +183,11 @@ body_says None target Out Front Line a content text_over status is is_dods has o
     by_form : (form : Option Form) → form_of a.name ≡ form → AnswerSays None target Out Front Line status
     by_form None e = cc (subst (λ o. IsTrue (is_some o)) e has)
     by_form (Some table) e =
-        known_says None target Out Front Line (text_over []) status (looks target a is is_dods has) (may_result None target a _ is (over [] (inr e))) (alone e [])
+        let first : IsTrue (is_read_first (form_of a.name)) = ap is_read_first e in
+        known_says None target Out Front Line (text_over []) status (looks target a is is_dods has) (may_result None target a _ is (over [] (inr first))) (alone first [])
+    by_form (Some saved) e =
+        let first : IsTrue (is_read_first (form_of a.name)) = ap is_read_first e in
+        known_says None target Out Front Line (text_over []) status (looks target a is is_dods has) (may_result None target a _ is (over [] (inr first))) (alone first [])
     by_form (Some netcdf) e =
         hidden_says None target Out Front Line accepted.0 status (looks target a is is_dods has) (may_result None target a _ is accepted.1)
         (hidden_none target (text_of Dods accepted.0) (late target a is is_dods e)) is_put

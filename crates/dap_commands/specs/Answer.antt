@@ -11,7 +11,7 @@ use Rattle.dap_http.specs.declared.kind.Kind.{Kind}
 use Rattle.dap_http.specs.declared.kind.Kind.TheVariants.{Dds, Das, Dods, Ver}
 use Rattle.dap_outside.specs.Files.{Told}
 use Rattle.dap_server.specs.Costs.{IsCost, IsCostAt, asks_shelf, most_first}
-use Rattle.dap_server.specs.Files.{Files, Form, MayHave, form_of, netcdf, table}
+use Rattle.dap_server.specs.Files.{Files, Form, MayHave, form_of, netcdf, saved, table}
 use Rattle.dap_server.specs.Prepared.{MayGive}
 use Rattle.dap_server.specs.Results.{Results, Text, error_object, put_of, text_of}
 use Rattle.xdr_encode.specs.Streamed.{Stops}
@@ -72,6 +72,7 @@ is_data Ver = false
 abbrev pub is_netcdf : Option Form → Bool
 is_netcdf (Some netcdf) = true
 is_netcdf (Some table) = false
+is_netcdf (Some saved) = false
 is_netcdf None = false
 
 abbrev pub is_read_late : List ℕ → Bool

@@ -9,6 +9,7 @@ ghost use Rattle.dap_outside.specs.Streams.{AppendsFront};
 ghost use Rattle.dap_server.specs.Prepared.{asked_of};
 ghost use Rattle.dap_server.specs.Results.{Text};
 ghost use Rattle.xdr_encode.specs.Bodies.{FitsFile, HasNoFile, MayAsk, cost_in, text_in};
+ghost use Rattle.saved_source.specs.Bodies.{Sends};
 ghost use Rattle.xdr_encode.specs.Streamed.{Stops};
 ghost use Rattle.dap_commands.specs.Answer.{AnswerSays, HasNoText, MayAskFor, MayHaveAsked, MustResult, looks_up, most_before, status_for, status_of};
 ghost use Rattle.dap_commands.specs.Lines.{IsSaid};
@@ -20,6 +21,7 @@ use dap_errors::{Cause, code, message, print_error};
 use dap_http::{Target, TargetRefusal};
 use dap_outside::{Shelf, Sink, put_all};
 use dap_server::{Prepared, prepare};
+use saved_source::SavedBody;
 use slab_fill::NoGate;
 use std::alloc::Global;
 use std::thread::Threads;
@@ -68,6 +70,20 @@ fn put_body<R: Threads + Sync, S: Shelf, O: Sink>(
         Streamed::Sent => Status::Complete,
         Streamed::ShelfFault => Status::ReadFault,
         Streamed::WriteFault => Status::WriteFault,
+    }
+}
+
+/// Puts the body of a saved response.
+fn put_saved<O: Sink>(mut body: SavedBody, out: &mut O) -> Status
+    ensures put { (text : List ℕ) → Sends body text → TextPut text (Appends (O.written out.old) (O.written out.new)) (AppendsFront (O.written out.old) (O.written out.new)) result }
+    ensures reads_nothing { result ≢ Status.ReadFault }
+    ensures write_fault { result ≡ Status.WriteFault → Rose (O.put_faults out.old) (O.put_faults out.new) }
+    ensures out_kept { result ≢ Status.WriteFault → O.put_faults out.new ≡ O.put_faults out.old }
+    ensures beside { O.beside_writing out.new ≡ O.beside_writing out.old }
+{
+    match body.stream(out) {
+        Ok(()) => Status::Complete,
+        Err(_) => Status::WriteFault,
     }
 }
 
@@ -142,6 +158,7 @@ fn answer_asked<R: Threads + Sync, S: Shelf, O: Sink, E: Sink>(
     match prepare(rt, alloc, shelf, asked, workers) {
         Prepared::Text { text, .. } => put_text(out, text.bytes()),
         Prepared::Body { body, file } => put_body(rt, shelf, file, body, workers, out),
+        Prepared::Saved { body } => put_saved(body, out),
         Prepared::Refuse(cause) => put_cause(alloc, &cause, out, err),
         Prepared::ShelfFault => Status::ReadFault,
         Prepared::Memory => Status::Memory,

@@ -15,9 +15,10 @@ use Rattle.xdr_encode.specs.Streamed.{HasStreamCauses}
 use Rattle.xdr_encode.specs.declared.streamed.Streamed.{Streamed}
 use Rattle.xdr_encode.specs.declared.streamed.Streamed.TheVariants as streamed
 use Rattle.dap_server.specs.Connections.{FailedBy, MayAnswer, MayAsk, has_failed}
-use Rattle.dap_server.specs.Costs.{IsCost, asks_shelf, most_first}
+use Rattle.dap_server.specs.Costs.{IsCost, IsFormCost, asks_shelf, most_first}
+use Rattle.dap_server.specs.Files.{form_of, saved}
 use Rattle.dap_server.specs.Prepared.{MayGive}
-use Rattle.dap_server.specs.Replies.{Request, is_head}
+use Rattle.dap_server.specs.Replies.{Request, is_head, reply_of}
 use Rattle.dap_server.specs.Results.{text_of}
 use Rattle.dap_server.specs.declared.turn.Answered.{Answered}
 use Rattle.dap_server.specs.declared.turn.Answered.TheVariants as answered
@@ -61,6 +62,12 @@ sink-rose ends streamed.WriteFault r f f' p0 p p' is cause same = subst (λ x. S
 pub costs-less : (told : Told) (a : Asked) (most asked asked' : ℕ) → ((cost : ℕ) × IsCost told a cost × (most ≤ cost)) → asked' ≤ asked + most → (cost : ℕ) × IsCost told a cost × (asked' ≤ asked + cost)
 costs-less told a most asked asked' (cost, is, le) few = (cost, is, omega (arith, le, few))
 
+-- a text that stands whole does not break off
+whole-only : (bytes : List ℕ) (status : ℕ) (last : Bool) (old new : Option (List ℕ)) (r : Answered) → PutsText bytes status last old new r → broken r ≡ 0
+whole-only bytes status last old new (answered.Whole s l) p = refl
+whole-only bytes status last old new answered.Broken p = absurd p
+whole-only bytes status last old new answered.WriteFault p = refl
+
 pub head-answer : (told : Told) (q : Request) (a : Asked) (front : List ℕ) (s z : Stand) (result : Answered) → is_head q ≡ true → front ≡ data_front q → is_other q.method ≡ false → target_of q.target ≡ Some a
     → PutsText front 200 q.ends s.written z.written result → ((text : List ℕ) × MayGive told a (Ok (text_of Dods text))) → z.faults ≡ s.faults
     → ((cost : ℕ) × IsCost told a cost × (z.asked ≤ s.asked + cost)) → AnswersWith (Costs told a) told q s z result
@@ -74,11 +81,6 @@ head-answer told q a front s z result head is served target puts (text, may) sam
       calm _ _ s.faults z.faults (omega (arith, none)) same,
       costs,
     )
-  where
-    whole-only : (bytes : List ℕ) (status : ℕ) (last : Bool) (old new : Option (List ℕ)) (r : Answered) → PutsText bytes status last old new r → broken r ≡ 0
-    whole-only bytes status last old new (answered.Whole s l) p = refl
-    whole-only bytes status last old new answered.Broken p = absurd p
-    whole-only bytes status last old new answered.WriteFault p = refl
 
 -- behind the first read of its file
 pub with-first : (told told1 : Told) (q : Request) (a : Asked) (w : Option (List ℕ)) (f f1 s s1 : ℕ) (z : Stand) (result : Answered) → target_of q.target ≡ Some a → f1 ≡ f → s1 ≤ s + most_first told a.name → told1 ≡ told
@@ -112,6 +114,29 @@ text-answer told q a kind text w w2 f f1 s s1 result other served target may sam
     text-whole Das t old new answered.Broken o (part, is, appends) = cc is.values
     text-whole Ver t old new answered.Broken o (part, is, appends) = cc is.values
 text-answer told q a kind text w w2 f f1 s s1 result other served target may same few (inr puts) =
+    memory-answer (MayAsk told (target_of q.target)) told q (stand w f s) (stand w2 f1 s1) result puts same (cause-asks told (target_of q.target) a OutOfMemory s s1 target few)
+
+-- the data response for what is left of a saved one, for which nothing more is asked
+saved-asks : (told : Told) (o : Option Asked) (a : Asked) (text : List ℕ) (asked asked' : ℕ) → o ≡ Some a → form_of a.name ≡ Some saved → asked' ≤ asked + most_first told a.name
+    → (n : ℕ) × MayAsk told o (Ok (text_of Dods text)) n × (asked' ≤ asked + n)
+saved-asks told o a text asked asked' target form few = (
+  most_first told a.name + 0,
+  subst (λ p. MayAsk told p (Ok (text_of Dods text)) (most_first told a.name + 0)) (sym target) (0, subst (λ f. IsFormCost f told a.name a.query 0) (sym form) refl, refl),
+  omega (arith, few),
+)
+
+pub saved-answer : (told : Told) (q : Request) (a : Asked) (text : List ℕ) (w w2 : Option (List ℕ)) (f f1 s s1 : ℕ) (result : Answered) → is_other q.method ≡ false → target_of q.target ≡ Some a → form_of a.name ≡ Some saved
+    → MayGive told a (Ok (text_of Dods text)) → f1 ≡ f → s1 ≤ s + most_first told a.name
+    → (PutsText (reply_of q (Ok (text_of Dods text))) 200 q.ends w w2 result ⊎ PutsReply q (Err OutOfMemory) w w2 result) → Answers told q (stand w f s) (stand w2 f1 s1) result
+saved-answer told q a text w w2 f f1 s s1 result served target form may same few (inl puts) =
+    let none : broken result ≡ 0 = whole-only (reply_of q (Ok (text_of Dods text))) 200 q.ends w w2 result puts in (
+      Ok (text_of Dods text),
+      gives told q a _ served target may,
+      reply-known told q (Ok (text_of Dods text)) w w2 result (reply-put q (Ok (text_of Dods text)) _ 200 q.ends w w2 result refl refl (or-false q.ends) puts),
+      calm _ _ f f1 (omega (arith, none)) same,
+      saved-asks told (target_of q.target) a text s s1 target form few,
+    )
+saved-answer told q a text w w2 f f1 s s1 result served target form may same few (inr puts) =
     memory-answer (MayAsk told (target_of q.target)) told q (stand w f s) (stand w2 f1 s1) result puts same (cause-asks told (target_of q.target) a OutOfMemory s s1 target few)
 
 cause-put : (told : Told) (q : Request) (cause : Cause) (w w2 : Option (List ℕ)) (f f1 s s1 : ℕ) (result : Answered) → MayAnswer told q (Err cause)

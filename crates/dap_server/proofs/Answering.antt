@@ -2,7 +2,7 @@
 use Rattle.std.proofs.Common.{◌≡◌, ℕ, ◌<◌, ◌≤◌, List, length, Some, None, option_map, Result, Ok, Err, true, false, refl, sym, ap, ◌∙◌, inl, inr, subst, arith, if◌then◌else◌}
 use Rattle.std.specs.Prelude.{nat_lt}
 use Rattle.std.proofs.lemmas.Bool.Decides.{nat_tests}
-use Rattle.dap_types.specs.Model.{Dataset}
+use Rattle.dap_types.specs.Model.{Dataset, Tree}
 use Rattle.dap_model.specs.Body.{body, too_large}
 use Rattle.dap_model.specs.Dds.{dds}
 use Rattle.dap_model.specs.Filter.{Marks, constrained, constrained_trees}
@@ -21,13 +21,8 @@ use Rattle.dap_server.specs.Steps.{unless}
 use Rattle.dap_server.specs.inner.Marking.{IsRefusedOn}
 use Rattle.dap_server.specs.inner.Opening.{WhereRefused, dataset_in, stored_of}
 use Rattle.dap_server.specs.declared.open.Opened.{Opened}
-use Rattle.dap_server.specs.declared.open.Opened.TheVariants.{Netcdf, Table}
 use Rattle.dap_server.specs.declared.stop.Stop.{Stop}
 use Rattle.dap_server.specs.declared.stop.Stop.TheVariants.{Refused, ShelfFault, Memory}
-
-pub stored_dataset : (o : Opened) (name bytes : List ℕ) → dataset_in o name ≡ (stored_of o name bytes).dataset
-stored_dataset (Netcdf h) name bytes = refl
-stored_dataset (Table t) name bytes = refl
 
 -- what a constraint without a cause leaves
 leaves_marked : (s : Stored) (query : List ℕ) (d : Dataset) (c : Constraint) → d ≡ s.dataset → Spells query c → cause d c ≡ None → Leaves s query (Ok (left_of s c))
@@ -110,13 +105,7 @@ dods_small s query d c m text is_d spells accepted is_m small is_text =
 
 -- by the stop
 pub dds_refuses : (o : Opened) (name query : List ℕ) (d : Dataset) (stop : Stop) → d ≡ dataset_in o name → WhereRefused (IsRefusedOn d query) stop
-    → WhereRefused (λ why. (bytes : List ℕ) → DdsAnswers (stored_of o name bytes) query (Err why)) stop
-dds_refuses o name query d (Refused why) is_d is = λ bytes. dds_refused (stored_of o name bytes) query d why (is_d ∙ stored_dataset o name bytes) is
+    → WhereRefused (λ why. (ts : List Tree) → DdsAnswers (stored_of o name ts) query (Err why)) stop
+dds_refuses o name query d (Refused why) is_d is = λ ts. dds_refused (stored_of o name ts) query d why is_d is
 dds_refuses o name query d ShelfFault is_d is = tt
 dds_refuses o name query d Memory is_d is = tt
-
-pub dods_refuses : (o : Opened) (name query : List ℕ) (d : Dataset) (stop : Stop) → d ≡ dataset_in o name → WhereRefused (IsRefusedOn d query) stop
-    → WhereRefused (λ why. (bytes : List ℕ) → DodsAnswers (stored_of o name bytes) query (Err why)) stop
-dods_refuses o name query d (Refused why) is_d is = λ bytes. dods_refused (stored_of o name bytes) query d why (is_d ∙ stored_dataset o name bytes) is
-dods_refuses o name query d ShelfFault is_d is = tt
-dods_refuses o name query d Memory is_d is = tt

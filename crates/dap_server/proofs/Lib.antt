@@ -4,11 +4,15 @@ pub mod OneAnswer
 pub mod Targets
 pub mod Fronts
 pub mod LargeTables
+pub mod LargeResponses
 pub mod Lying
 pub mod Answering
 pub mod Making
 pub mod DataGiven
 pub mod Sending
+pub mod Faultless
+pub mod SavedBodies
+pub mod SavedValues
 pub mod Opening
 pub mod Turning
 pub mod Ends

@@ -5,13 +5,15 @@ use Rattle.std.specs.Option.{option_and_then, option_map_or}
 use Rattle.dap_errors.specs.declared.cause.Cause.{Cause}
 use Rattle.dap_errors.specs.declared.cause.Cause.TheVariants.{NoFile}
 use Rattle.dap_outside.specs.Files.{Told, Finds, HasSize}
+use Rattle.dap_types.specs.Model.{Tree}
+use Rattle.saved_source.specs.Responses as responses
 use Rattle.dap_server.specs.Costs.{most_first, most_of_form}
 use Rattle.dap_server.specs.Files.{Files, Form, MayHave, Stored, form_of, IsStored}
 use Rattle.dap_server.specs.Results.{File, Opens, file_named}
 use Rattle.dap_server.specs.Steps.{found_or}
 use Rattle.dap_server.specs.inner.Opening.{IsMissing, IsRead, Lies, OpenedAs, WhereRefused, stored_of}
 use Rattle.dap_server.specs.declared.open.Opened.{Opened}
-use Rattle.dap_server.specs.declared.open.Opened.TheVariants.{Netcdf, Table}
+use Rattle.dap_server.specs.declared.open.Opened.TheVariants.{Netcdf, Saved, Table}
 use Rattle.dap_server.specs.declared.stop.Stop.{Stop}
 use Rattle.dap_server.specs.declared.stop.Stop.TheVariants.{Refused, ShelfFault, Memory}
 
@@ -36,14 +38,15 @@ named_file files name bytes form is there =
     ap (option_and_then (λ f. option_map (file_of f) (files name))) is ∙ ap (option_map (file_of form)) there
 
 -- what a file of that form and name has is what is opened
-opens : (files : Files) (name bytes : List ℕ) (form : Form) (r : Result Stored Cause) → form_of name ≡ Some form → files name ≡ Some bytes → IsStored form name bytes r → Opens files name r
+pub opens : (files : Files) (name bytes : List ℕ) (form : Form) (r : Result Stored Cause) → form_of name ≡ Some form → files name ≡ Some bytes → IsStored form name bytes r → Opens files name r
 opens files name bytes form r is there stored =
     inl (file_of form bytes, sym (ap (λ o. found_or o NoFile) (named_file files name bytes form is there)), stored)
 
 -- a file that was opened, and what follows it
-pub opened : (files : Files) (name bytes : List ℕ) (o : Opened) → files name ≡ Some bytes → OpenedAs o name bytes → Opens files name (Ok (stored_of o name bytes))
-opened files name bytes (Netcdf h) there (form, is_header, is_length) = opens files name bytes _ _ form there (h.contents, is_header, refl)
-opened files name bytes (Table t) there (form, is_table) = opens files name bytes _ _ form there (t, is_table, refl)
+pub opened : (files : Files) (name bytes : List ℕ) (ts : List Tree) (o : Opened) → files name ≡ Some bytes → OpenedAs o name bytes ts → Opens files name (Ok (stored_of o name ts))
+opened files name bytes ts (Netcdf h) there (form, is_header, is_length, are) = opens files name bytes _ _ form there (h.contents, is_header, ap (λ us. stored_of (Netcdf h) name us) are)
+opened files name bytes ts (Table t) there (form, is_table, are) = opens files name bytes _ _ form there (t, is_table, ap (λ us. stored_of (Table t) name us) are)
+opened files name bytes ts (Saved s) there (form, is, holds) = opens files name bytes _ _ form there (responses.dataset_in s.saved, ts, is, refl)
 
 -- no file of that name, or no form of file
 no_entry : (o : Option Form) → option_and_then (λ f. option_map (file_of f) None) o ≡ None
@@ -83,8 +86,8 @@ spoiled_stop told name_of content name file form ShelfFault is finds x = tt
 spoiled_stop told name_of content name file form Memory is finds x = tt
 
 pub found : {F : Type 0} (told : Told) (name_of content : F → Option (List ℕ)) (name : List ℕ) (file : F) (n : ℕ) (c : Option (List ℕ)) (size : ℕ) (o : Opened)
-    → Finds told name_of content name (Some file) → (bytes : List ℕ) × IsRead (content file) bytes × (n ≡ length bytes) × OpenedAs o name bytes → c ≡ content file → size ≡ n
-    → (bytes : List ℕ) × Lies told c size name bytes × OpenedAs o name bytes
+    → Finds told name_of content name (Some file) → (bytes : List ℕ) × IsRead (content file) bytes × (n ≡ length bytes) × ((ts : List Tree) × OpenedAs o name bytes ts) → c ≡ content file → size ≡ n
+    → (bytes : List ℕ) × Lies told c size name bytes × ((ts : List Tree) × OpenedAs o name bytes ts)
 found told name_of content name file n c size o finds (bytes, is_read, is_size, is_opened) same same_size =
     (bytes, lies told name_of content name file c size bytes finds same (rw same is_read) (same_size ∙ is_size), is_opened)
 

@@ -11,18 +11,20 @@ use Rattle.dap_http.specs.declared.kind.Kind.TheVariants.{Das, Dds, Dods, Ver}
 use Rattle.dap_http.specs.declared.target.Target.{Target}
 use Rattle.dap_outside.specs.Files.{Told}
 use Rattle.xdr_encode.specs.Bodies.{FitsFile, HasNoFile, MayAsk, cost_in, text_in}
-use Rattle.xdr_encode.specs.declared.body.Body.{Body}
+use Rattle.dap_types.specs.Model.{Tree}
+use Rattle.saved_source.specs.Bodies.{Sends}
 use Rattle.dap_server.proofs.Lying as lying
 use Rattle.dap_server.proofs.OneAnswer.{one_result}
 use Rattle.dap_server.specs.Costs.{IsFormCost, IsFormCostAt, asks_shelf, is_of_file}
-use Rattle.dap_server.specs.Files.{Files, MayHave, Stored, form_of, table}
-use Rattle.dap_server.specs.Prepared.{asked_of, IsFor, IsOver, MayGive, MustGive, WhereBody, WhereNoShelfFault, WhereRefuse, WhereText}
+use Rattle.dap_server.specs.Files.{Files, MayHave, Stored, form_of, is_read_first, saved}
+use Rattle.dap_server.specs.Prepared.{asked_of, IsFor, IsOver, MayGive, MustGive, WhereBody, WhereNoShelfFault, WhereRefuse, WhereSaved, WhereText}
 use Rattle.dap_server.specs.Results.{Opens, Text, das_text, text_of}
 use Rattle.dap_server.specs.Steps.{Is, Then}
 use Rattle.dap_server.specs.inner.Opening.{Lies, OpenedAs, StaysBut, WhereFault, WhereRefused, attributes_in, stored_of}
-use Rattle.dap_server.specs.inner.Preparing.{IsMade, MayGiveAs, body_prepared, text_prepared}
+use Rattle.dap_server.specs.inner.Preparing.{IsMade, MayGiveAs, WhereOfFile, WhereOfSaved, body_prepared, text_prepared}
 use Rattle.dap_server.specs.declared.open.Opened.{Opened}
-use Rattle.dap_server.specs.declared.open.Opened.TheVariants as opened
+use Rattle.dap_server.specs.declared.data_body.DataBody.{DataBody}
+use Rattle.dap_server.specs.declared.data_body.DataBody.TheVariants as bodies
 use Rattle.das_text.specs.Das.{das}
 use Rattle.dap_server.specs.declared.prepared.Prepared.{Prepared}
 use Rattle.dap_server.specs.declared.prepared.Prepared.TheVariants as prepared
@@ -30,9 +32,9 @@ use Rattle.dap_server.specs.declared.stop.Stop.{Stop}
 use Rattle.dap_server.specs.declared.stop.Stop.TheVariants.{Refused, ShelfFault, Memory}
 
 -- what follows a file that was opened
-pub follows : (told : Told) (content : Option (List ℕ)) (size : ℕ) (name bytes : List ℕ) (o : Opened) (next : Stored → Result Text Cause → Type 0) (r : Result Text Cause)
-    → Lies told content size name bytes → OpenedAs o name bytes → next (stored_of o name bytes) r → (files : Files) × MayHave told files × Then (Opens files name) next r
-follows told content size name bytes o next r l is n = (l.files, l.may_have, inl (stored_of o name bytes, lying.opened l.files name bytes o l.there is, n))
+pub follows : (told : Told) (content : Option (List ℕ)) (size : ℕ) (name bytes : List ℕ) (ts : List Tree) (o : Opened) (next : Stored → Result Text Cause → Type 0) (r : Result Text Cause)
+    → Lies told content size name bytes → OpenedAs o name bytes ts → next (stored_of o name ts) r → (files : Files) × MayHave told files × Then (Opens files name) next r
+follows told content size name bytes ts o next r l is n = (l.files, l.may_have, inl (stored_of o name ts, lying.opened l.files name bytes ts o l.there is, n))
 
 -- or the cause for which none was
 pub stops : (told : Told) (name : List ℕ) (next : Stored → Result Text Cause → Type 0) (s : Stop) → WhereRefused (λ why. (files : Files) × MayHave told files × Opens files name (Err why)) s
@@ -63,13 +65,13 @@ text_made : {F : Type 0} (told : Told) (content : F → Option (List ℕ)) (size
     → k ≢ Dods → IfOk r (λ text. MayGiveAs told k name query (Ok (text_of k text))) → IfErr r (WhereRefused (λ why. MayGiveAs told k name query (Err why)))
     → IfErr r (WhereFault (IsTrue (asks_shelf (asked_as k name query)) × Fault)) → IsMade told content size_of (asked_as k name query) Fault p
 text_made told content size_of k name query Fault (Ok text) p made none gives refuses faults =
-    rw made (record { text = (none, gives); body = tt; accepted = tt; of_file = tt; tells = tt; alone = tt; fits = tt; cost = tt; cost_at = tt; refused = tt; shelf_fault = tt })
+    rw made (record { text = (none, gives); body = tt; accepted = tt; of_file = tt; tells = tt; alone = tt; fits = tt; cost = tt; cost_at = tt; sends = tt; of_saved = tt; refused = tt; shelf_fault = tt })
 text_made told content size_of k name query Fault (Err (Refused why)) p made none gives refuses faults =
-    rw made (record { text = tt; body = tt; accepted = tt; of_file = tt; tells = tt; alone = tt; fits = tt; cost = tt; cost_at = tt; refused = refuses; shelf_fault = tt })
+    rw made (record { text = tt; body = tt; accepted = tt; of_file = tt; tells = tt; alone = tt; fits = tt; cost = tt; cost_at = tt; sends = tt; of_saved = tt; refused = refuses; shelf_fault = tt })
 text_made told content size_of k name query Fault (Err ShelfFault) p made none gives refuses faults =
-    rw made (record { text = tt; body = tt; accepted = tt; of_file = tt; tells = tt; alone = tt; fits = tt; cost = tt; cost_at = tt; refused = tt; shelf_fault = faults })
+    rw made (record { text = tt; body = tt; accepted = tt; of_file = tt; tells = tt; alone = tt; fits = tt; cost = tt; cost_at = tt; sends = tt; of_saved = tt; refused = tt; shelf_fault = faults })
 text_made told content size_of k name query Fault (Err Memory) p made none gives refuses faults =
-    rw made (record { text = tt; body = tt; accepted = tt; of_file = tt; tells = tt; alone = tt; fits = tt; cost = tt; cost_at = tt; refused = tt; shelf_fault = tt })
+    rw made (record { text = tt; body = tt; accepted = tt; of_file = tt; tells = tt; alone = tt; fits = tt; cost = tt; cost_at = tt; sends = tt; of_saved = tt; refused = tt; shelf_fault = tt })
 
 pub text_for : {F : Type 0} (told : Told) (content : F → Option (List ℕ)) (size_of : F → ℕ) (t : Target) (k : Kind) (name query : List ℕ) (Fault : Type 0) (r : Result (List ℕ) Stop) (p : Prepared F) → p ≡ text_prepared k r
     → t.kind ≡ k → name ≡ t.name → query ≡ t.query → k ≢ Dods → IfOk r (λ text. MayGiveAs told k name query (Ok (text_of k text))) → IfErr r (WhereRefused (λ why. MayGiveAs told k name query (Err why)))
@@ -78,42 +80,48 @@ text_for told content size_of t k name query Fault r p made is is_name is_query 
     subst (λ a. IsMade told content size_of a Fault p) (same_asked t k name query is is_name is_query) (text_made told content size_of k name query Fault r p made none gives refuses faults)
 
 -- a body is made
-body_made : {F : Type 0} (told : Told) (content : F → Option (List ℕ)) (size_of : F → ℕ) (name query : List ℕ) (Fault : Type 0) (r : Result (Body × F) Stop) (p : Prepared F) → p ≡ body_prepared r
-    → IfOk r (λ q. (bytes : List ℕ) → IsOver name (content q.1) bytes → MayGiveAs told Dods name query (Ok (text_of Dods (text_in q.0 bytes))))
+body_made : {F : Type 0} (told : Told) (content : F → Option (List ℕ)) (size_of : F → ℕ) (name query : List ℕ) (Fault : Type 0) (r : Result (DataBody × F) Stop) (p : Prepared F) → p ≡ body_prepared r
+    → IfOk r (λ q. WhereOfFile q.0 (λ b. (bytes : List ℕ) → IsOver name (content q.1) bytes → MayGiveAs told Dods name query (Ok (text_of Dods (text_in b bytes)))))
+    → IfOk r (λ q. WhereOfSaved q.0 (λ b. (text : List ℕ) × Sends b text × MayGiveAs told Dods name query (Ok (text_of Dods text))))
+    → IfOk r (λ q. WhereOfSaved q.0 (λ b. form_of name ≡ Some saved))
     → IfOk r (λ q. (text : List ℕ) × MayGiveAs told Dods name query (Ok (text_of Dods text)))
     → IfOk r (λ q. IsTrue (is_some (form_of name)))
     → IfOk r (λ q. IsSome told → IsSome (content q.1))
-    → IfOk r (λ q. form_of name ≡ Some table → HasNoFile q.0)
-    → IfOk r (λ q. FitsFile q.0 (size_of q.1))
-    → IfOk r (λ q. (cost : ℕ) × IsFormCost (form_of name) told name query cost × (cost_in q.0 ≤ cost))
-    → IfOk r (λ q. (bytes : List ℕ) (put cost : ℕ) → content q.1 ≡ Some bytes → MayAsk q.0 bytes put cost → IsFormCostAt (form_of name) told name query put cost)
+    → IfOk r (λ q. WhereOfFile q.0 (λ b. IsTrue (is_read_first (form_of name)) → HasNoFile b))
+    → IfOk r (λ q. WhereOfFile q.0 (λ b. FitsFile b (size_of q.1)))
+    → IfOk r (λ q. WhereOfFile q.0 (λ b. (cost : ℕ) × IsFormCost (form_of name) told name query cost × (cost_in b ≤ cost)))
+    → IfOk r (λ q. WhereOfFile q.0 (λ b. (bytes : List ℕ) (put cost : ℕ) → content q.1 ≡ Some bytes → MayAsk b bytes put cost → IsFormCostAt (form_of name) told name query put cost))
     → IfErr r (WhereRefused (λ why. MayGiveAs told Dods name query (Err why)))
     → IfErr r (WhereFault (IsTrue (is_some (form_of name)) × Fault))
     → IsMade told content size_of (asked_as Dods name query) Fault p
-body_made told content size_of name query Fault (Ok (b, file)) p made body accepted form tells alone fits cost cost_at refuses faults =
-    rw made (record { text = tt; body = body; accepted = accepted; of_file = (refl, form); tells = tells; alone = alone; fits = fits; cost = cost; cost_at = cost_at; refused = tt; shelf_fault = tt })
-body_made told content size_of name query Fault (Err (Refused why)) p made body accepted form tells alone fits cost cost_at refuses faults =
-    rw made (record { text = tt; body = tt; accepted = tt; of_file = tt; tells = tt; alone = tt; fits = tt; cost = tt; cost_at = tt; refused = refuses; shelf_fault = tt })
-body_made told content size_of name query Fault (Err ShelfFault) p made body accepted form tells alone fits cost cost_at refuses faults =
-    rw made (record { text = tt; body = tt; accepted = tt; of_file = tt; tells = tt; alone = tt; fits = tt; cost = tt; cost_at = tt; refused = tt; shelf_fault = faults })
-body_made told content size_of name query Fault (Err Memory) p made body accepted form tells alone fits cost cost_at refuses faults =
-    rw made (record { text = tt; body = tt; accepted = tt; of_file = tt; tells = tt; alone = tt; fits = tt; cost = tt; cost_at = tt; refused = tt; shelf_fault = tt })
+body_made told content size_of name query Fault (Ok (bodies.OfFile b, file)) p made over sends named accepted form tells alone fits cost cost_at refuses faults =
+    rw made (record { text = tt; body = over; accepted = accepted; of_file = (refl, form); tells = tells; alone = alone; fits = fits; cost = cost; cost_at = cost_at; sends = tt; of_saved = tt; refused = tt; shelf_fault = tt })
+body_made told content size_of name query Fault (Ok (bodies.Saved b, file)) p made over sends named accepted form tells alone fits cost cost_at refuses faults =
+    rw made (record { text = tt; body = tt; accepted = tt; of_file = tt; tells = tt; alone = tt; fits = tt; cost = tt; cost_at = tt; sends = sends; of_saved = (refl, named); refused = tt; shelf_fault = tt })
+body_made told content size_of name query Fault (Err (Refused why)) p made over sends named accepted form tells alone fits cost cost_at refuses faults =
+    rw made (record { text = tt; body = tt; accepted = tt; of_file = tt; tells = tt; alone = tt; fits = tt; cost = tt; cost_at = tt; sends = tt; of_saved = tt; refused = refuses; shelf_fault = tt })
+body_made told content size_of name query Fault (Err ShelfFault) p made over sends named accepted form tells alone fits cost cost_at refuses faults =
+    rw made (record { text = tt; body = tt; accepted = tt; of_file = tt; tells = tt; alone = tt; fits = tt; cost = tt; cost_at = tt; sends = tt; of_saved = tt; refused = tt; shelf_fault = faults })
+body_made told content size_of name query Fault (Err Memory) p made over sends named accepted form tells alone fits cost cost_at refuses faults =
+    rw made (record { text = tt; body = tt; accepted = tt; of_file = tt; tells = tt; alone = tt; fits = tt; cost = tt; cost_at = tt; sends = tt; of_saved = tt; refused = tt; shelf_fault = tt })
 
-pub body_for : {F : Type 0} (told : Told) (content : F → Option (List ℕ)) (size_of : F → ℕ) (t : Target) (name query : List ℕ) (Fault : Type 0) (r : Result (Body × F) Stop) (p : Prepared F) → p ≡ body_prepared r
+pub body_for : {F : Type 0} (told : Told) (content : F → Option (List ℕ)) (size_of : F → ℕ) (t : Target) (name query : List ℕ) (Fault : Type 0) (r : Result (DataBody × F) Stop) (p : Prepared F) → p ≡ body_prepared r
     → t.kind ≡ Dods → name ≡ t.name → query ≡ t.query
-    → IfOk r (λ q. (bytes : List ℕ) → IsOver name (content q.1) bytes → MayGiveAs told Dods name query (Ok (text_of Dods (text_in q.0 bytes))))
+    → IfOk r (λ q. WhereOfFile q.0 (λ b. (bytes : List ℕ) → IsOver name (content q.1) bytes → MayGiveAs told Dods name query (Ok (text_of Dods (text_in b bytes)))))
+    → IfOk r (λ q. WhereOfSaved q.0 (λ b. (text : List ℕ) × Sends b text × MayGiveAs told Dods name query (Ok (text_of Dods text))))
+    → IfOk r (λ q. WhereOfSaved q.0 (λ b. form_of name ≡ Some saved))
     → IfOk r (λ q. (text : List ℕ) × MayGiveAs told Dods name query (Ok (text_of Dods text)))
     → IfOk r (λ q. IsTrue (is_some (form_of name)))
     → IfOk r (λ q. IsSome told → IsSome (content q.1))
-    → IfOk r (λ q. form_of name ≡ Some table → HasNoFile q.0)
-    → IfOk r (λ q. FitsFile q.0 (size_of q.1))
-    → IfOk r (λ q. (cost : ℕ) × IsFormCost (form_of name) told name query cost × (cost_in q.0 ≤ cost))
-    → IfOk r (λ q. (bytes : List ℕ) (put cost : ℕ) → content q.1 ≡ Some bytes → MayAsk q.0 bytes put cost → IsFormCostAt (form_of name) told name query put cost)
+    → IfOk r (λ q. WhereOfFile q.0 (λ b. IsTrue (is_read_first (form_of name)) → HasNoFile b))
+    → IfOk r (λ q. WhereOfFile q.0 (λ b. FitsFile b (size_of q.1)))
+    → IfOk r (λ q. WhereOfFile q.0 (λ b. (cost : ℕ) × IsFormCost (form_of name) told name query cost × (cost_in b ≤ cost)))
+    → IfOk r (λ q. WhereOfFile q.0 (λ b. (bytes : List ℕ) (put cost : ℕ) → content q.1 ≡ Some bytes → MayAsk b bytes put cost → IsFormCostAt (form_of name) told name query put cost))
     → IfErr r (WhereRefused (λ why. MayGiveAs told Dods name query (Err why)))
     → IfErr r (WhereFault (IsTrue (is_some (form_of name)) × Fault))
     → IsMade told content size_of (asked_of t) Fault p
-body_for told content size_of t name query Fault r p made is is_name is_query body accepted form tells alone fits cost cost_at refuses faults =
-    subst (λ a. IsMade told content size_of a Fault p) (same_asked t Dods name query is is_name is_query) (body_made told content size_of name query Fault r p made body accepted form tells alone fits cost cost_at refuses faults)
+body_for told content size_of t name query Fault r p made is is_name is_query over sends named accepted form tells alone fits cost cost_at refuses faults =
+    subst (λ a. IsMade told content size_of a Fault p) (same_asked t Dods name query is is_name is_query) (body_made told content size_of name query Fault r p made over sends named accepted form tells alone fits cost cost_at refuses faults)
 
 -- it is the one that all files give which the shelf may have
 same : (told : Told) (a : Asked) (one other : Result Text Cause) → IsTrue (list_all is_byte a.query) → MayGive told a one → MustGive told a other → other ≡ one
@@ -122,46 +130,43 @@ same told a one other bytes (files, may, gives) must = one_result files a other 
 pub only : {F : Type 0} (told : Told) (a : Asked) (p : Prepared F) → IsTrue (list_all is_byte a.query)
     → WhereText p (λ kind text. (kind ≢ Dods) × MayGive told a (Ok (text_of kind text)))
     → WhereBody p (λ b file. (text : List ℕ) × MayGive told a (Ok (text_of Dods text)))
+    → WhereSaved p (λ b. (text : List ℕ) × Sends b text × MayGive told a (Ok (text_of Dods text)))
     → WhereRefuse p (λ why. MayGive told a (Err why))
     → (answer : Result Text Cause) → MustGive told a answer → IsFor answer p
-only told a (prepared.Text kind text) bytes is y x answer must = same told a (Ok (text_of kind text)) answer bytes is.1 must
-only told a (prepared.Body b file) bytes x (text, is) y answer must = (text, same told a (Ok (text_of Dods text)) answer bytes is must)
-only told a (prepared.Refuse why) bytes x y is answer must = same told a (Err why) answer bytes is must
-only told a prepared.ShelfFault bytes x y z answer must = tt
-only told a prepared.Memory bytes x y z answer must = tt
+only told a (prepared.Text kind text) bytes is x y z answer must = same told a (Ok (text_of kind text)) answer bytes is.1 must
+only told a (prepared.Body b file) bytes x (text, is) y z answer must = (text, same told a (Ok (text_of Dods text)) answer bytes is must)
+only told a (prepared.Saved b) bytes x y (text, sends, is) z answer must = (text, same told a (Ok (text_of Dods text)) answer bytes is must)
+only told a (prepared.Refuse why) bytes x y z is answer must = same told a (Err why) answer bytes is must
+only told a prepared.ShelfFault bytes x y z u answer must = tt
+only told a prepared.Memory bytes x y z u answer must = tt
 
 -- the same for a text that was made of what was opened, whatever its bytes
-pub follows_ok : {T : Type 0} (told : Told) (content : Option (List ℕ)) (size : ℕ) (name bytes : List ℕ) (o : Opened) (next : Stored → Result Text Cause → Type 0) (answer : T → Text) (r : Result T Stop)
-    → Lies told content size name bytes → OpenedAs o name bytes → IfOk r (λ t. (bytes : List ℕ) → next (stored_of o name bytes) (Ok (answer t)))
+pub follows_ok : {T : Type 0} (told : Told) (content : Option (List ℕ)) (size : ℕ) (name bytes : List ℕ) (ts : List Tree) (o : Opened) (next : Stored → Result Text Cause → Type 0) (answer : T → Text) (r : Result T Stop)
+    → Lies told content size name bytes → OpenedAs o name bytes ts → IfOk r (λ t. (ts : List Tree) → next (stored_of o name ts) (Ok (answer t)))
     → IfOk r (λ t. (files : Files) × MayHave told files × Then (Opens files name) next (Ok (answer t)))
-follows_ok told content size name bytes o next answer (Ok t) l is n = follows told content size name bytes o next _ l is (n bytes)
-follows_ok told content size name bytes o next answer (Err s) l is n = tt
+follows_ok told content size name bytes ts o next answer (Ok t) l is n = follows told content size name bytes ts o next _ l is (n ts)
+follows_ok told content size name bytes ts o next answer (Err s) l is n = tt
 
-pub follows_err : {T : Type 0} (told : Told) (content : Option (List ℕ)) (size : ℕ) (name bytes : List ℕ) (o : Opened) (next : Stored → Result Text Cause → Type 0) (r : Result T Stop)
-    → Lies told content size name bytes → OpenedAs o name bytes → IfErr r (WhereRefused (λ why. (bytes : List ℕ) → next (stored_of o name bytes) (Err why)))
+pub follows_err : {T : Type 0} (told : Told) (content : Option (List ℕ)) (size : ℕ) (name bytes : List ℕ) (ts : List Tree) (o : Opened) (next : Stored → Result Text Cause → Type 0) (r : Result T Stop)
+    → Lies told content size name bytes → OpenedAs o name bytes ts → IfErr r (WhereRefused (λ why. (ts : List Tree) → next (stored_of o name ts) (Err why)))
     → IfErr r (WhereRefused (λ why. (files : Files) × MayHave told files × Then (Opens files name) next (Err why)))
-follows_err told content size name bytes o next (Ok t) l is n = tt
-follows_err told content size name bytes o next (Err (Refused why)) l is n = follows told content size name bytes o next _ l is (n bytes)
-follows_err told content size name bytes o next (Err ShelfFault) l is n = tt
-follows_err told content size name bytes o next (Err Memory) l is n = tt
+follows_err told content size name bytes ts o next (Ok t) l is n = tt
+follows_err told content size name bytes ts o next (Err (Refused why)) l is n = follows told content size name bytes ts o next _ l is (n ts)
+follows_err told content size name bytes ts o next (Err ShelfFault) l is n = tt
+follows_err told content size name bytes ts o next (Err Memory) l is n = tt
 
 -- the same by its stop
-pub follows_stop : (told : Told) (content : Option (List ℕ)) (size : ℕ) (name bytes : List ℕ) (o : Opened) (next : Stored → Result Text Cause → Type 0) (s : Stop)
-    → Lies told content size name bytes → OpenedAs o name bytes → WhereRefused (λ why. (bytes : List ℕ) → next (stored_of o name bytes) (Err why)) s
+pub follows_stop : (told : Told) (content : Option (List ℕ)) (size : ℕ) (name bytes : List ℕ) (ts : List Tree) (o : Opened) (next : Stored → Result Text Cause → Type 0) (s : Stop)
+    → Lies told content size name bytes → OpenedAs o name bytes ts → WhereRefused (λ why. (bytes : List ℕ) (ts : List Tree) → OpenedAs o name bytes ts → next (stored_of o name ts) (Err why)) s
     → WhereRefused (λ why. (files : Files) × MayHave told files × Then (Opens files name) next (Err why)) s
-follows_stop told content size name bytes o next (Refused why) l is n = follows told content size name bytes o next _ l is (n bytes)
-follows_stop told content size name bytes o next ShelfFault l is n = tt
-follows_stop told content size name bytes o next Memory l is n = tt
-
-same_attributes : (o : Opened) (name bytes : List ℕ) → attributes_in o ≡ (stored_of o name bytes).attributes
-same_attributes (opened.Netcdf h) name bytes = refl
-same_attributes (opened.Table t) name bytes = refl
+follows_stop told content size name bytes ts o next (Refused why) l is n = follows told content size name bytes ts o next _ l is (n bytes ts is)
+follows_stop told content size name bytes ts o next ShelfFault l is n = tt
+follows_stop told content size name bytes ts o next Memory l is n = tt
 
 -- the attributes of what was opened
-pub das_follows : (told : Told) (content : Option (List ℕ)) (size : ℕ) (name bytes : List ℕ) (o : Opened) (text : List ℕ) → Lies told content size name bytes → OpenedAs o name bytes
+pub das_follows : (told : Told) (content : Option (List ℕ)) (size : ℕ) (name bytes : List ℕ) (ts : List Tree) (o : Opened) (text : List ℕ) → Lies told content size name bytes → OpenedAs o name bytes ts
     → text ≡ das (attributes_in o) → (files : Files) × MayHave told files × Then (Opens files name) (λ s. Is (das_text s)) (Ok (text_of Das text))
-das_follows told content size name bytes o text l is is_text =
-    follows told content size name bytes o (λ s. Is (das_text s)) _ l is (ap (λ t. Ok (text_of Das t)) (is_text ∙ ap das (same_attributes o name bytes)))
+das_follows told content size name bytes ts o text l is is_text = follows told content size name bytes ts o (λ s. Is (das_text s)) _ l is (ap (λ t. Ok (text_of Das t)) is_text)
 
 pub das_stops : (told : Told) (name : List ℕ) (s : Stop) → WhereRefused (λ why. (files : Files) × MayHave told files × Opens files name (Err why)) s
     → WhereRefused (λ why. (query : List ℕ) → MayGiveAs told Das name query (Err why)) s
@@ -228,8 +233,9 @@ text_stays k (Err (Refused why)) p f f1 is stays = rw is stays
 text_stays k (Err ShelfFault) p f f1 is stays = rw is tt
 text_stays k (Err Memory) p f f1 is stays = rw is stays
 
-pub body_stays : {F : Type 0} (r : Result (Body × F) Stop) (p : Prepared F) (f f1 : ℕ) → p ≡ body_prepared r → StaysBut r f f1 → WhereNoShelfFault p (f1 ≡ f)
-body_stays (Ok (b, file)) p f f1 is stays = rw is stays
+pub body_stays : {F : Type 0} (r : Result (DataBody × F) Stop) (p : Prepared F) (f f1 : ℕ) → p ≡ body_prepared r → StaysBut r f f1 → WhereNoShelfFault p (f1 ≡ f)
+body_stays (Ok (bodies.OfFile b, file)) p f f1 is stays = rw is stays
+body_stays (Ok (bodies.Saved b, file)) p f f1 is stays = rw is stays
 body_stays (Err (Refused why)) p f f1 is stays = rw is stays
 body_stays (Err ShelfFault) p f f1 is stays = rw is tt
 body_stays (Err Memory) p f f1 is stays = rw is stays

@@ -1,5 +1,5 @@
 -- What is asked of some files has one answer at most, step by step.
-use Rattle.std.proofs.Common.{◌≡◌, ℕ, ◌<◌, All, true, [], ◌∷◌, List, length, Result, Ok, Err, IsTrue, refl, sym, ap, ◌∙◌, inl, inr, subst}
+use Rattle.std.proofs.Common.{◌≡◌, ◌≢◌, ℕ, ◌<◌, All, true, [], ◌∷◌, List, length, Some, None, Result, Ok, Err, IsTrue, refl, sym, ap, ◌∙◌, inl, inr, subst}
 use Rattle.std.proofs.lemmas.Bool.{lt-ltb}
 use Rattle.std.proofs.lemmas.List.Elements.{All-head, All-tail}
 use Rattle.std.specs.List.{list_all}
@@ -8,10 +8,14 @@ use Rattle.constraint_parse.proofs.Answer.{one_constraint}
 use Rattle.constraint_parse.proofs.OneFault.{one_fault}
 use Rattle.constraint_parse.specs.Values.{Spells}
 use Rattle.dap_errors.specs.declared.cause.Cause.{Cause}
+use Rattle.dap_errors.specs.declared.file_cause.FileCause.{FileCause}
 use Rattle.dap_http.specs.declared.kind.Kind.{Kind}
 use Rattle.dap_http.specs.declared.kind.Kind.TheVariants.{Dds, Das, Dods, Ver}
 use Rattle.netcdf_source.proofs.OneVerdict.{one_verdict}
-use Rattle.dap_server.specs.Files.{Files, Form, Stored, front, IsStored, netcdf, table, netcdf_stored}
+use Rattle.saved_source.proofs.OneAnswer.{one_refusal, one_saved, saved_not_refused}
+use Rattle.saved_source.specs.declared.refusal.SavedRefusal.{SavedRefusal}
+use Rattle.saved_source.specs.declared.refusal.SavedRefusal.TheVariants as responses
+use Rattle.dap_server.specs.Files.{Files, Form, Stored, front, IsStored, netcdf, saved, table, netcdf_stored, saved_cause, saved_stored}
 use Rattle.dap_server.specs.Laws.{OneResult}
 use Rattle.dap_server.specs.Results.{Answers, DdsAnswers, DodsAnswers, Leaves, Opens, Reads}
 use Rattle.dap_server.specs.Steps.{Is, Then}
@@ -58,9 +62,29 @@ table_one name bytes (Err k) (Ok s) (refusal, why, is_first, is_why, is_k) (c, i
 table_one name bytes (Err k) (Err l) (refusal, why, is_first, is_why, is_k) (other, reason, is_other, is_reason, is_l) =
     cc (is_first, is_other, is_why, is_reason, is_k, is_l)
 
+-- a cause is none of a want of memory
+no_cause : (why : FileCause) → None ≡ Some why → ⊥
+no_cause why is = cc is
+
+some_cause : (refusal : SavedRefusal) (why : FileCause) → saved_cause refusal ≡ Some why → refusal ≢ responses.Memory
+some_cause refusal why is = λ e. no_cause why (sym (ap saved_cause e) ∙ is)
+
+saved_one : (name bytes : List ℕ) → One (IsStored saved name bytes)
+saved_one name bytes (Ok s) (Ok t) (d, ts, is_d, is_s) (e, us, is_e, is_t) =
+    let (same, trees) = one_saved bytes name d e ts us is_d is_e in
+    ap Ok (is_s ∙ ap (λ x. saved_stored x ts) same ∙ ap (saved_stored e) trees ∙ sym is_t)
+saved_one name bytes (Ok s) (Err k) (d, ts, is_d, is_s) (refusal, why, is_first, is_why, is_k) =
+    absurd (saved_not_refused bytes name d ts refusal (some_cause refusal why is_why) is_d is_first)
+saved_one name bytes (Err k) (Ok s) (refusal, why, is_first, is_why, is_k) (d, ts, is_d, is_s) =
+    absurd (saved_not_refused bytes name d ts refusal (some_cause refusal why is_why) is_d is_first)
+saved_one name bytes (Err k) (Err l) (refusal, why, is_first, is_why, is_k) (other, reason, is_other, is_reason, is_l) =
+    let same : refusal ≡ other = one_refusal bytes name refusal other (some_cause refusal why is_why) (some_cause other reason is_reason) is_first is_other in
+    cc (same, is_why, is_reason, is_k, is_l)
+
 stored_one : (form : Form) (name bytes : List ℕ) → One (IsStored form name bytes)
 stored_one netcdf name bytes = netcdf_one name bytes
 stored_one table name bytes = table_one name bytes
+stored_one saved name bytes = saved_one name bytes
 
 opens_one : (files : Files) (name : List ℕ) → One (Opens files name)
 opens_one files name = then_one _ _ (is_one _) (λ file. stored_one file.form name file.bytes)

@@ -23,7 +23,7 @@ use Rattle.dap_model.specs.Dds.{dds}
 use Rattle.dap_http.specs.Targets.{Asked}
 use Rattle.dap_http.specs.declared.kind.Kind.TheVariants.{Dds, Das, Dods, Ver}
 use Rattle.dap_server.specs.Connections.{has_failed}
-use Rattle.dap_server.specs.Files.{Files, Form, Stored, IsStored, netcdf, table}
+use Rattle.dap_server.specs.Files.{Files, Form, Stored, IsStored, netcdf, saved, table}
 use Rattle.dap_server.specs.Results.{AnswersAsked, Answers, DdsAnswers, DodsAnswers, File, Leaves, Left, Opens, Reads, Text, das_text, dds_text, dods_text, file_named, left_of, text_of}
 use Rattle.dap_server.specs.Steps.{Is, Then, found_or, unless}
 
@@ -106,6 +106,7 @@ found-or-calm {V} (Some v) c is = cc is
 stored-calm : (form : Form) (name bytes : List ℕ) (c : Cause) → IsStored form name bytes (Err c) → IsCalm c
 stored-calm netcdf name bytes c (refusal, why, first, there, is) = subst IsCalm (sym is) refl
 stored-calm table name bytes c (refusal, why, first, there, is) = subst IsCalm (sym is) refl
+stored-calm saved name bytes c (refusal, why, first, there, is) = subst IsCalm (sym is) refl
 
 opens-calm : (files : Files) (name : List ℕ) (c : Cause) → Opens files name (Err c) → IsCalm c
 opens-calm files name c is =

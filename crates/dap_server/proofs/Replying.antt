@@ -13,9 +13,9 @@ use Rattle.dap_http.specs.Texts.{allow_line, close_line, description_lines, desc
 use Rattle.dap_http.specs.declared.kind.Kind.{Kind}
 use Rattle.dap_http.specs.declared.kind.Kind.TheVariants.{Dds, Das, Dods, Ver}
 use Rattle.dap_outside.specs.Files.{Told}
-use Rattle.dap_server.specs.Connections.{FailedBy, LooksForFile, MayAnswer, has_failed, is_hidden, is_read_late, is_table, sends_values}
+use Rattle.dap_server.specs.Connections.{FailedBy, LooksForFile, MayAnswer, has_failed, is_hidden, is_read_late, sends_values}
 use Rattle.dap_server.specs.Costs.{IsCost, asks_shelf}
-use Rattle.dap_server.specs.Files.{Files, Form, MayHave, form_of, netcdf, table}
+use Rattle.dap_server.specs.Files.{Files, MayHave, form_of, is_read_first}
 use Rattle.dap_server.specs.Prepared.{IsOver, MayGive}
 use Rattle.dap_server.specs.Replies.{Request, error_head, head_of, is_head, is_last, reply_of, status_of}
 use Rattle.dap_server.specs.Results.{Results, Text, error_object, text_of}
@@ -34,6 +34,10 @@ pub reply-put : (q : Request) (answer : Result Text Cause) (bytes : List ℕ) (s
 reply-put q answer bytes status last old new (answered.Whole s l) is st la (ps, pl, appends) = (ps ∙ st, pl ∙ la, subst (Appends old new) is appends)
 reply-put q answer bytes status last old new answered.Broken is st la p = absurd p
 reply-put q answer bytes status last old new answered.WriteFault is st la (part, (rest, more, whole), appends) = (part, (rest, more, sym is ∙ whole), appends)
+
+-- the same bytes under another name
+pub text-put : (bytes other : List ℕ) (status : ℕ) (last : Bool) (old new : Option (List ℕ)) (result : Answered) → bytes ≡ other → PutsText bytes status last old new result → PutsText other status last old new result
+text-put bytes other status last old new result is puts = subst (λ t. PutsText t status last old new result) is puts
 
 pub or-false : (b : Bool) → b ≡ (b || false)
 or-false true = refl
@@ -74,7 +78,7 @@ head-reply q text front is e =
     let same : data_front q ≡ t = ap (head_text 200 (description_of Dods) None (is_chunked Dods q.minor)) (or-false q.ends) in
     e ∙ same ∙ sym (append-nil t) ∙ ap (λ b. t ++ (if b then [] else framed (is_chunked Dods q.minor) text)) (sym is)
 
-get-reply : (q : Request) (text front : List ℕ) → is_head q ≡ false → front ≡ data_front q → reply_of q (Ok (text_of Dods text)) ≡ front ++ framed (is_chunked Dods q.minor) text
+pub get-reply : (q : Request) (text front : List ℕ) → is_head q ≡ false → front ≡ data_front q → reply_of q (Ok (text_of Dods text)) ≡ front ++ framed (is_chunked Dods q.minor) text
 get-reply q text front is e =
     let t : List ℕ = head_of q (Ok (text_of Dods text)) in
     let same : data_front q ≡ t = ap (head_text 200 (description_of Dods) None (is_chunked Dods q.minor)) (or-false q.ends) in
@@ -193,15 +197,10 @@ cases-bool : (b : Bool) → (b ≡ true) ⊎ (b ≡ false)
 cases-bool true = inl refl
 cases-bool false = inr refl
 
-table-form : (f : Option Form) → is_table f ≡ true → f ≡ Some table
-table-form None is = cc is
-table-form (Some table) is = refl
-table-form (Some netcdf) is = cc is
-
-late : (q : Request) (a : Asked) (text : List ℕ) → is_head q ≡ false → target_of q.target ≡ Some a → is_table (form_of a.name) ≡ false → is_hidden None q (Ok (text_of Dods text)) ≡ true
+late : (q : Request) (a : Asked) (text : List ℕ) → is_head q ≡ false → target_of q.target ≡ Some a → is_read_first (form_of a.name) ≡ false → is_hidden None q (Ok (text_of Dods text)) ≡ true
 late q a text get target other =
     ap (λ b. b && is_read_late q.target) (values-out q text get)
-    ∙ ap (λ o. option_map_or (λ (a : Asked). not (is_table (form_of a.name))) o false) target ∙ ap not other
+    ∙ ap (λ o. option_map_or (λ (a : Asked). not (is_read_first (form_of a.name))) o false) target ∙ ap not other
 
 -- the values of a data response, where its file's bytes are known or not
 pub values-answer : (told : Told) (q : Request) (a : Asked) (front : List ℕ) (content : Option (List ℕ)) (Alone : Type 0) (text_over : List ℕ → List ℕ) (s z : Stand) (result : Answered)
@@ -209,13 +208,11 @@ pub values-answer : (told : Told) (q : Request) (a : Asked) (front : List ℕ) (
     → ((bytes : List ℕ) → (content ≡ Some bytes) ⊎ Alone → PutsValues front (framed (is_chunked Dods q.minor) (text_over bytes)) q.ends s.written z.written result) → SaysWhole q.ends result
     → ((put : List ℕ) × Appends s.written z.written put)
     → ((bytes : List ℕ) → IsOver a.name content bytes → MayGive told a (Ok (text_of Dods (text_over bytes)))) → ((text : List ℕ) × MayGive told a (Ok (text_of Dods text)))
-    → (form_of a.name ≡ Some table → Alone) → (IsSome told → IsSome content) → ShelfRose result s.faults z.faults
+    → (IsTrue (is_read_first (form_of a.name)) → Alone) → (IsSome told → IsSome content) → ShelfRose result s.faults z.faults
     → ((cost : ℕ) × IsCost told a cost × (z.asked ≤ s.asked + cost)) → AnswersWith (Costs told a) told q s z result
 values-answer None q a front content Alone text_over s z result get is served target puts says (put, appends) over (text, may) alone tells rose costs =
-    elim (cases-bool (is_table (form_of a.name))) [
-      | inl is_one ↦
-          let named : form_of a.name ≡ Some table = table-form (form_of a.name) is_one in
-          known-values None q a front (text_over []) s z result get is served target (puts [] (inr (alone named))) says (over [] (inr named)) rose costs
+    elim (cases-bool (is_read_first (form_of a.name))) [
+      | inl first ↦ known-values None q a front (text_over []) s z result get is served target (puts [] (inr (alone first))) says (over [] (inr first)) rose costs
       | inr other ↦ (
         Ok (text_of Dods text),
         gives None q a (Ok (text_of Dods text)) served target may,

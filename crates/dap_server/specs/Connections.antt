@@ -11,7 +11,7 @@ use Rattle.dap_http.specs.Frames.{IsProperFront}
 use Rattle.dap_http.specs.Requests.{FirstRequest, HasNoRequest, IsBadRequest, IsGone, IsTooLong, is_other}
 use Rattle.dap_http.specs.Targets.{Asked, target_of}
 use Rattle.dap_server.specs.Costs.{IsCost, asks_shelf, most_first}
-use Rattle.dap_server.specs.Files.{Files, Form, MayHave, form_of, table}
+use Rattle.dap_server.specs.Files.{Files, MayHave, form_of, is_read_first}
 use Rattle.dap_server.specs.Replies.{IsAnswered, Request, Turn, head_of, is_data, is_head, is_last, last_reply, replies, reply_of, request, status_of, wants}
 use Rattle.dap_server.specs.Results.{Text}
 use Rattle.dap_server.specs.declared.served.Ending.{Ending}
@@ -119,13 +119,9 @@ pub record Connection : Type 0 where
 abbrev pub put_from : ℕ → Connection → List ℕ
 put_from k c = replies k c.turns ++ behind_text c.behind
 
--- The values of a table are read before they go out, those of another file as they go out.
-abbrev pub is_table : Option Form → Bool
-is_table (Some table) = true
-is_table other = false
-
+-- the values of a file are read as they go out
 abbrev pub is_read_late : List ℕ → Bool
-is_read_late target = option_map_or (λ a. not (is_table (form_of a.name))) (target_of target) false
+is_read_late target = option_map_or (λ a. not (is_read_first (form_of a.name))) (target_of target) false
 
 -- values go out that are read from a file that the shelf does not tell
 abbrev pub is_hidden : Told → Request → Result Text Cause → Bool

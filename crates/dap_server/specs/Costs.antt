@@ -13,10 +13,11 @@ use Rattle.constraint_parse.specs.declared.constraint.Constraint.{Constraint}
 use Rattle.grid_projection.specs.Marks.{marks}
 use Rattle.xdr_encode.specs.Asked.{MarksAsk}
 use Rattle.xdr_encode.specs.Costs.{marks_cost}
+use Rattle.saved_source.specs.Responses.{most_saved}
 use Rattle.dap_http.specs.Targets.{Asked}
 use Rattle.dap_http.specs.declared.kind.Kind.{Kind}
 use Rattle.dap_http.specs.declared.kind.Kind.TheVariants.{Dds, Das, Dods, Ver}
-use Rattle.dap_server.specs.Files.{Files, Form, MayHave, form_of, front, netcdf, table}
+use Rattle.dap_server.specs.Files.{Files, Form, MayHave, form_of, front, netcdf, saved, table}
 
 -- the version is no file's
 abbrev pub is_of_file : Kind → Bool
@@ -29,10 +30,11 @@ is_of_file Dods = true
 abbrev pub asks_shelf : Asked → Bool
 asks_shelf a = is_of_file a.kind && is_some (form_of a.name)
 
--- the most that is read of a file before its answer: the front of a netCDF file, or a whole table
+-- the most that is read of a file before its answer: the front of a netCDF file, or another file whole
 abbrev pub most_of_form : Option Form → ℕ
 most_of_form (Some netcdf) = most_header
 most_of_form (Some table) = most_table
+most_of_form (Some saved) = most_saved
 most_of_form None = 0
 
 -- of the file of a name: each byte once, where the files are told
@@ -52,12 +54,13 @@ pub record IsAsked (told : Told) (name query : List ℕ) (bytes : List ℕ) (c :
 abbrev pub marks_of : Contents → List ℕ → Constraint → Marks
 marks_of c name constraint = marks (dataset_of c name) constraint
 
--- the values that a data response has of a file cost what its marks span. Nothing is asked for those of
--- a table
+-- the values that a data response has of a netCDF file cost what its marks span. Nothing is asked for
+-- those of a file that was read whole
 abbrev pub IsFormCost : Option Form → Told → List ℕ → List ℕ → ℕ → Type 0
 IsFormCost (Some netcdf) told name query cost =
     (bytes : List ℕ) × (c : Contents) × (constraint : Constraint) × IsAsked told name query bytes c constraint × (cost ≡ marks_cost c (marks_of c name constraint))
 IsFormCost (Some table) told name query cost = cost ≡ 0
+IsFormCost (Some saved) told name query cost = cost ≡ 0
 IsFormCost None told name query cost = cost ≡ 0
 
 abbrev pub IsCost : Told → Asked → ℕ → Type 0
@@ -73,6 +76,7 @@ IsFormCostAt (Some netcdf) told name query put cost =
     (bytes : List ℕ) × (c : Contents) × (constraint : Constraint) × IsAsked told name query bytes c constraint
     × MarksAsk c (marks_of c name constraint) bytes (head_len c name constraint) put cost
 IsFormCostAt (Some table) told name query put cost = cost ≡ 0
+IsFormCostAt (Some saved) told name query put cost = cost ≡ 0
 IsFormCostAt None told name query put cost = cost ≡ 0
 
 abbrev pub IsCostAt : Told → Asked → ℕ → ℕ → Type 0

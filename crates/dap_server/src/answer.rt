@@ -1,11 +1,11 @@
 //! The answer to one request.
 
-ghost use Rattle.std.specs.Prelude.{◌≡◌, ◌≢◌, ◌≤◌, ◌+◌, ◌⊎◌, ℕ, List, Bool, Some, IsSome, Ok, Err, false, ◌||◌};
+ghost use Rattle.std.specs.Prelude.{◌≡◌, ◌≢◌, ◌≤◌, ◌+◌, ◌⊎◌, ℕ, List, Bool, Some, IsSome, IsTrue, Ok, Err, false, ◌||◌};
 ghost use Rattle.dap_http.specs.Requests.{is_other};
 ghost use Rattle.dap_http.specs.Targets.{target_of};
 ghost use Rattle.xdr_encode.specs.Bodies.{FitsFile, HasNoFile, cost_in, text_in};
 ghost use Rattle.dap_server.specs.Costs.{IsCost};
-ghost use Rattle.dap_server.specs.Files.{form_of, table};
+ghost use Rattle.dap_server.specs.Files.{form_of, is_read_first};
 ghost use Rattle.dap_server.specs.Prepared.{IsOver, MayGive, asked_of};
 ghost use Rattle.dap_server.specs.Replies.{is_head, wants_memory};
 ghost use Rattle.dap_server.specs.Results.{text_of};
@@ -14,6 +14,7 @@ ghost use Rattle.dap_server.specs.inner.Serving.{Answers, AnswersWith, Costs, Pu
 use crate::prepared::Prepared;
 use crate::preparing::prepare;
 use crate::put::put_reply;
+use crate::saved_answer::put_saved;
 use crate::turn::Answered;
 use crate::values::put_values;
 use crate::way::Way;
@@ -28,7 +29,7 @@ use std::thread::Threads;
 use xdr_encode::Body;
 
 /// Whether the head of the reply is all that is wanted.
-fn is_head(head: &Head) -> bool
+pub fn is_head(head: &Head) -> bool
     ensures { (ends : Bool) → result ≡ is_head (request_in head.now ends) }
 {
     head.method.as_str().as_bytes() == b"HEAD".as_slice()
@@ -43,7 +44,7 @@ fn is_other(head: &Head) -> bool
 }
 
 /// Puts the reply for a want of memory. It takes none.
-fn put_memory<O: Sink>(out: &mut O, head: &Head, ends: bool) -> Answered
+pub fn put_memory<O: Sink>(out: &mut O, head: &Head, ends: bool) -> Answered
     ensures puts { PutsReply (request_in head.now ends) (Err Cause.OutOfMemory) (O.written out.old) (O.written out.new) result }
     ensures fault { SinkRose result (O.put_faults out.old) (O.put_faults out.new) }
     ensures later { O.put_faults out.old ≤ O.put_faults out.new }
@@ -122,7 +123,7 @@ fn answer_values<R: Threads + Sync, S: Shelf, O: Sink>(
     requires fits { FitsFile body.old (S.size_of shelf.old file.old) }
     requires body { (bytes : List ℕ) → IsOver target.now.name (S.content shelf.old file.old) bytes → MayGive (S.files shelf.old) (asked_of target.now) (Ok (text_of Kind.Dods (text_in body.old bytes))) }
     requires accepted { (text : List ℕ) × MayGive (S.files shelf.old) (asked_of target.now) (Ok (text_of Kind.Dods text)) }
-    requires alone { form_of target.now.name ≡ Some table → HasNoFile body.old }
+    requires alone { IsTrue (is_read_first (form_of target.now.name)) → HasNoFile body.old }
     requires tells { IsSome (S.files shelf.old) → IsSome (S.content shelf.old file.old) }
     requires cost { (cost : ℕ) × IsCost (S.files shelf.old) (asked_of target.now) cost × (cost_in body.old ≤ cost) }
     requires some { 1 ≤ workers }
@@ -161,7 +162,7 @@ fn answer_data<R: Threads + Sync, S: Shelf, O: Sink>(
     requires fits { FitsFile body.old (S.size_of shelf.old file.old) }
     requires body { (bytes : List ℕ) → IsOver target.now.name (S.content shelf.old file.old) bytes → MayGive (S.files shelf.old) (asked_of target.now) (Ok (text_of Kind.Dods (text_in body.old bytes))) }
     requires accepted { (text : List ℕ) × MayGive (S.files shelf.old) (asked_of target.now) (Ok (text_of Kind.Dods text)) }
-    requires alone { form_of target.now.name ≡ Some table → HasNoFile body.old }
+    requires alone { IsTrue (is_read_first (form_of target.now.name)) → HasNoFile body.old }
     requires tells { IsSome (S.files shelf.old) → IsSome (S.content shelf.old file.old) }
     requires cost { (cost : ℕ) × IsCost (S.files shelf.old) (asked_of target.now) cost × (cost_in body.old ≤ cost) }
     requires some { 1 ≤ workers }
@@ -227,6 +228,7 @@ fn answer_target<R: Threads + Sync, S: Shelf, O: Sink>(
         Prepared::Body { mut body, mut file } => answer_data(
             rt, alloc, shelf, &mut file, &mut body, out, head, ends, target, workers,
         ),
+        Prepared::Saved { mut body } => put_saved(alloc, &mut body, out, head, ends),
         Prepared::Refuse(cause) => put_cause(alloc, out, head, ends, &cause),
         Prepared::ShelfFault => put_cause(alloc, out, head, ends, &Cause::ReadFailed),
         Prepared::Memory => put_memory(out, head, ends),

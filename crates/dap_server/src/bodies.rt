@@ -1,27 +1,33 @@
 //! The body of the data response for what a query leaves of a stored file.
 
-ghost use Rattle.std.specs.Prelude.{◌≡◌, ◌≤◌, ◌<◌, ℕ, List, All, map, IfOk, IfErr, Ok, Err, None, Some, length};
+ghost use Rattle.std.specs.Prelude.{◌≡◌, ◌≤◌, ◌<◌, ℕ, List, All, map, IfOk, IfErr, IsTrue, Ok, Err, None, Some, length};
 ghost use Rattle.constraint_parse.specs.Values.{Spells};
 ghost use Rattle.constraint_parse.specs.declared.constraint.Constraint.{Constraint};
 ghost use Rattle.csv_source.specs.Dataset.{row_tree, table_dataset};
 ghost use Rattle.dap_model.specs.Rows.{kept};
 ghost use Rattle.dap_types.specs.Numbered.{number_in};
+ghost use Rattle.dap_types.specs.Model.{Tree};
 ghost use Rattle.dap_types.specs.View.{dataset_view};
 ghost use Rattle.dap_types.specs.WellFormed.{number_of};
 ghost use Rattle.grid_projection.specs.Resolved.{cause};
 ghost use Rattle.netcdf_source.specs.Laws.{HasHeader};
+ghost use Rattle.saved_source.specs.Bodies.{Sends};
+ghost use Rattle.saved_source.specs.Responses.{Holds, IsSaved, dataset_in};
 ghost use Rattle.sequence_select.specs.Selections.{selections};
 ghost use Rattle.xdr_encode.specs.Asked.{MarksAsk};
 ghost use Rattle.xdr_encode.specs.Bodies.{FitsFile, HasNoFile, MayAsk, cost_in, text_in};
 ghost use Rattle.xdr_encode.specs.Costs.{marks_cost};
 ghost use Rattle.dap_outside.specs.Files.{Told};
 ghost use Rattle.dap_server.specs.Costs.{IsFormCost, IsFormCostAt, head_len, marks_of};
-ghost use Rattle.dap_server.specs.Files.{form_of, netcdf_stored, table, table_stored};
+ghost use Rattle.dap_server.specs.Files.{form_of, is_read_first, netcdf_stored, saved, saved_stored, table_stored};
 ghost use Rattle.dap_server.specs.Results.{DodsAnswers, text_of};
-ghost use Rattle.dap_server.specs.inner.Opening.{Has, IsHeldBy, OpenedAs, WhereFault, WhereRefused, body_stop, stored_of};
+ghost use Rattle.dap_server.specs.inner.Opening.{Has, IsHeldBy, OpenedAs, WhereFault, WhereRefused, body_stop, saved_stop, stored_of};
+ghost use Rattle.dap_server.specs.inner.Preparing.{WhereOfFile, WhereOfSaved};
 
+use crate::data_body::DataBody;
 use crate::marked::marked_by;
 use crate::open::Opened;
+use crate::saved_file::SavedFile;
 use crate::stop::Stop;
 use constraint_parse::Constraint;
 use csv_source::Table;
@@ -29,6 +35,7 @@ use dap_errors::Cause;
 use dap_http::Kind;
 use dap_types::{Dataset, Index, List, Memory};
 use netcdf_source::Header;
+use saved_source::{SavedBody, SavedBodyRefusal};
 use sequence_select::{Tests, mask};
 use slab_fill::NoGate;
 use std::alloc::Global;
@@ -134,6 +141,38 @@ pub fn table_body<R: Threads + Sync>(
     }
 }
 
+/// The stop for which there is no body of a saved response.
+fn saved_stop(refusal: SavedBodyRefusal) -> Stop
+    ensures { result ≡ saved_stop refusal }
+{
+    match refusal {
+        SavedBodyRefusal::TooLarge => Stop::Refused(Cause::TooLarge { leaf: 0 }),
+        SavedBodyRefusal::Memory => Stop::Memory,
+    }
+}
+
+/// The body for what a query leaves of a saved response.
+fn saved_body(alloc: Global, response: SavedFile, query: &[u8]) -> Result<SavedBody, Stop>
+    ensures text { IfOk result (λ b. (bytes name : List ℕ) (ts : List Tree) → IsSaved bytes name (dataset_in response.saved) ts → Holds response.saved ts →
+        (text : List ℕ) × Sends b text × DodsAnswers (saved_stored (dataset_in response.saved) ts) query.now (Ok (text_of Kind.Dods text))) }
+    ensures refused { IfErr result (WhereRefused (λ why. (ts : List Tree) → DodsAnswers (saved_stored (dataset_in response.saved) ts) query.now (Err why))) }
+    ensures no_fault { IfErr result (WhereFault ⊥) }
+{
+    let dataset = response.dataset(alloc)?;
+    let marked = marked_by(alloc, &dataset, query)?;
+    match SavedBody::new(
+        alloc,
+        response.saved,
+        &dataset,
+        &marked.index,
+        &marked.constraint,
+        &marked.marks,
+    ) {
+        Ok(body) => Ok(body),
+        Err(refusal) => Err(saved_stop(refusal)),
+    }
+}
+
 /// The body for what a query leaves of a stored file of that name.
 pub fn body_of<R: Threads + Sync>(
     rt: &R,
@@ -142,23 +181,37 @@ pub fn body_of<R: Threads + Sync>(
     name: &str,
     query: &[u8],
     workers: u32,
-) -> Result<Body, Stop>
+) -> Result<DataBody, Stop>
     requires some { 1 ≤ workers }
     requires many { workers ≤ 64 }
-    ensures text { IfOk result (λ b. (bytes held : List ℕ) → OpenedAs opened name.now bytes → IsHeldBy opened bytes held →
-        DodsAnswers (stored_of opened name.now bytes) query.now (Ok (text_of Kind.Dods (text_in b held)))) }
-    ensures accepted { IfOk result (λ b. (bytes : List ℕ) → (text : List ℕ) × DodsAnswers (stored_of opened name.now bytes) query.now (Ok (text_of Kind.Dods text))) }
-    ensures alone { IfOk result (λ b. (bytes : List ℕ) → OpenedAs opened name.now bytes → form_of name.now ≡ Some table → HasNoFile b) }
-    ensures fits { IfOk result (λ b. (bytes : List ℕ) → OpenedAs opened name.now bytes → FitsFile b (length bytes)) }
-    ensures cost { IfOk result (λ b. (told : Told) (bytes : List ℕ) → OpenedAs opened name.now bytes → Has told name.now bytes →
-        (cost : ℕ) × IsFormCost (form_of name.now) told name.now query.now cost × (cost_in b ≤ cost)) }
-    ensures cost_at { IfOk result (λ b. (told : Told) (bytes : List ℕ) (put cost : ℕ) → OpenedAs opened name.now bytes → Has told name.now bytes → All (λ byte. byte < 256) bytes →
-        MayAsk b bytes put cost → IsFormCostAt (form_of name.now) told name.now query.now put cost) }
-    ensures refused { IfErr result (WhereRefused (λ why. (bytes : List ℕ) → DodsAnswers (stored_of opened name.now bytes) query.now (Err why))) }
+    ensures text { IfOk result (λ d. WhereOfFile d (λ b. (bytes held : List ℕ) (ts : List Tree) → OpenedAs opened name.now bytes ts → IsHeldBy opened bytes held →
+        DodsAnswers (stored_of opened name.now ts) query.now (Ok (text_of Kind.Dods (text_in b held))))) }
+    ensures sends { IfOk result (λ d. WhereOfSaved d (λ b. (bytes : List ℕ) (ts : List Tree) → OpenedAs opened name.now bytes ts →
+        (text : List ℕ) × Sends b text × DodsAnswers (stored_of opened name.now ts) query.now (Ok (text_of Kind.Dods text)))) }
+    ensures of_saved { IfOk result (λ d. WhereOfSaved d (λ b. (bytes : List ℕ) (ts : List Tree) → OpenedAs opened name.now bytes ts → form_of name.now ≡ Some saved)) }
+    ensures accepted { IfOk result (λ d. (bytes : List ℕ) (ts : List Tree) → OpenedAs opened name.now bytes ts →
+        (text : List ℕ) × DodsAnswers (stored_of opened name.now ts) query.now (Ok (text_of Kind.Dods text))) }
+    ensures alone { IfOk result (λ d. WhereOfFile d (λ b. (bytes : List ℕ) (ts : List Tree) → OpenedAs opened name.now bytes ts → IsTrue (is_read_first (form_of name.now)) → HasNoFile b)) }
+    ensures fits { IfOk result (λ d. WhereOfFile d (λ b. (bytes : List ℕ) (ts : List Tree) → OpenedAs opened name.now bytes ts → FitsFile b (length bytes))) }
+    ensures cost { IfOk result (λ d. WhereOfFile d (λ b. (told : Told) (bytes : List ℕ) (ts : List Tree) → OpenedAs opened name.now bytes ts → Has told name.now bytes →
+        (cost : ℕ) × IsFormCost (form_of name.now) told name.now query.now cost × (cost_in b ≤ cost))) }
+    ensures cost_at { IfOk result (λ d. WhereOfFile d (λ b. (told : Told) (bytes : List ℕ) (ts : List Tree) (put cost : ℕ) → OpenedAs opened name.now bytes ts → Has told name.now bytes → All (λ byte. byte < 256) bytes →
+        MayAsk b bytes put cost → IsFormCostAt (form_of name.now) told name.now query.now put cost)) }
+    ensures refused { IfErr result (WhereRefused (λ why. (bytes : List ℕ) (ts : List Tree) → OpenedAs opened name.now bytes ts → DodsAnswers (stored_of opened name.now ts) query.now (Err why))) }
     ensures no_fault { IfErr result (WhereFault ⊥) }
 {
     match opened {
-        Opened::Netcdf(header) => cdf_body(alloc, &header, name, query),
-        Opened::Table(table) => table_body(rt, alloc, table, query, workers),
+        Opened::Netcdf(header) => {
+            let body = cdf_body(alloc, &header, name, query)?;
+            Ok(DataBody::OfFile(body))
+        }
+        Opened::Table(table) => {
+            let rows = table_body(rt, alloc, table, query, workers)?;
+            Ok(DataBody::OfFile(rows))
+        }
+        Opened::Saved(response) => {
+            let values = saved_body(alloc, response, query)?;
+            Ok(DataBody::Saved(values))
+        }
     }
 }

@@ -5,13 +5,15 @@ ghost use Rattle.dap_http.specs.Texts.{version};
 ghost use Rattle.dap_outside.specs.Causes.{Rose};
 ghost use Rattle.xdr_encode.specs.Bodies.{FitsFile, HasNoFile, MayAsk, cost_in, text_in};
 ghost use Rattle.dap_server.specs.Costs.{IsFormCost, IsFormCostAt, most_first};
-ghost use Rattle.dap_server.specs.Files.{form_of, table};
+ghost use Rattle.dap_server.specs.Files.{form_of, is_read_first, saved};
 ghost use Rattle.dap_server.specs.Prepared.{IsOver};
 ghost use Rattle.dap_server.specs.Results.{text_of};
 ghost use Rattle.dap_server.specs.inner.Opening.{StaysBut, WhereFault, WhereRefused};
-ghost use Rattle.dap_server.specs.inner.Preparing.{MayGiveAs};
+ghost use Rattle.dap_server.specs.inner.Preparing.{MayGiveAs, WhereOfFile, WhereOfSaved};
+ghost use Rattle.saved_source.specs.Bodies.{Sends};
 
 use crate::bodies::body_of;
+use crate::data_body::DataBody;
 use crate::open::open_named;
 use crate::stop::Stop;
 use crate::texts::{das_of, dds_of};
@@ -20,7 +22,6 @@ use dap_outside::Shelf;
 use dap_types::Bytes;
 use std::alloc::Global;
 use std::thread::Threads;
-use xdr_encode::Body;
 
 /// The version text.
 pub fn version_answer(alloc: Global) -> Result<Bytes, Stop>
@@ -74,19 +75,21 @@ pub fn dods_answer<R: Threads + Sync, S: Shelf>(
     name: &str,
     query: &[u8],
     workers: u32,
-) -> Result<(Body, S::File), Stop>
+) -> Result<(DataBody, S::File), Stop>
     requires some { 1 ≤ workers }
     requires many { workers ≤ 64 }
-    ensures body { IfOk result (λ p. (bytes : List ℕ) → IsOver name.now (S.content shelf.new p.1) bytes →
-        MayGiveAs (S.files shelf.old) Kind.Dods name.now query.now (Ok (text_of Kind.Dods (text_in p.0 bytes)))) }
+    ensures body { IfOk result (λ p. WhereOfFile p.0 (λ b. (bytes : List ℕ) → IsOver name.now (S.content shelf.new p.1) bytes →
+        MayGiveAs (S.files shelf.old) Kind.Dods name.now query.now (Ok (text_of Kind.Dods (text_in b bytes))))) }
+    ensures sends { IfOk result (λ p. WhereOfSaved p.0 (λ b. (text : List ℕ) × Sends b text × MayGiveAs (S.files shelf.old) Kind.Dods name.now query.now (Ok (text_of Kind.Dods text)))) }
+    ensures of_saved { IfOk result (λ p. WhereOfSaved p.0 (λ b. form_of name.now ≡ Some saved)) }
     ensures accepted { IfOk result (λ p. (text : List ℕ) × MayGiveAs (S.files shelf.old) Kind.Dods name.now query.now (Ok (text_of Kind.Dods text))) }
     ensures form { IfOk result (λ p. IsTrue (is_some (form_of name.now))) }
     ensures tells { IfOk result (λ p. IsSome (S.files shelf.old) → IsSome (S.content shelf.new p.1)) }
-    ensures alone { IfOk result (λ p. form_of name.now ≡ Some table → HasNoFile p.0) }
-    ensures fits { IfOk result (λ p. FitsFile p.0 (S.size_of shelf.new p.1)) }
-    ensures cost { IfOk result (λ p. (cost : ℕ) × IsFormCost (form_of name.now) (S.files shelf.old) name.now query.now cost × (cost_in p.0 ≤ cost)) }
-    ensures cost_at { IfOk result (λ p. (bytes : List ℕ) (put cost : ℕ) → S.content shelf.new p.1 ≡ Some bytes → MayAsk p.0 bytes put cost →
-        IsFormCostAt (form_of name.now) (S.files shelf.old) name.now query.now put cost) }
+    ensures alone { IfOk result (λ p. WhereOfFile p.0 (λ b. IsTrue (is_read_first (form_of name.now)) → HasNoFile b)) }
+    ensures fits { IfOk result (λ p. WhereOfFile p.0 (λ b. FitsFile b (S.size_of shelf.new p.1))) }
+    ensures cost { IfOk result (λ p. WhereOfFile p.0 (λ b. (cost : ℕ) × IsFormCost (form_of name.now) (S.files shelf.old) name.now query.now cost × (cost_in b ≤ cost))) }
+    ensures cost_at { IfOk result (λ p. WhereOfFile p.0 (λ b. (bytes : List ℕ) (put cost : ℕ) → S.content shelf.new p.1 ≡ Some bytes → MayAsk b bytes put cost →
+        IsFormCostAt (form_of name.now) (S.files shelf.old) name.now query.now put cost)) }
     ensures refused { IfErr result (WhereRefused (λ why. MayGiveAs (S.files shelf.old) Kind.Dods name.now query.now (Err why))) }
     ensures why { IfErr result (WhereFault (IsTrue (is_some (form_of name.now)) × Rose (S.faults shelf.old) (S.faults shelf.new))) }
     ensures later { S.faults shelf.old ≤ S.faults shelf.new }

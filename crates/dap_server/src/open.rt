@@ -3,6 +3,7 @@
 ghost use Rattle.std.specs.Prelude.{◌≡◌, ◌+◌, ◌<◌, ◌≤◌, ℕ, List, length, min, IfOk, IfErr, IsTrue, Ok, Err, Some, None, is_some, option_map};
 ghost use Rattle.csv_source.specs.Causes.{table_of};
 ghost use Rattle.dap_outside.specs.Causes.{Rose};
+ghost use Rattle.dap_types.specs.Model.{Tree};
 ghost use Rattle.dap_outside.specs.Files.{Finds, HasSize, Reads};
 ghost use Rattle.dap_server.specs.Costs.{most_first, most_of_form};
 ghost use Rattle.dap_server.specs.Files.{Files, IsStored, IsTableCause, MayHave, form_of, has_end, table, table_cause};
@@ -10,6 +11,8 @@ ghost use Rattle.dap_server.specs.Results.{Opens};
 ghost use Rattle.dap_server.specs.inner.Opening.{IsMissing, IsRead, Lies, OpenedAs, StaysBut, WhereFault, WhereRefused, form_view, stop_of};
 
 use crate::front::open_netcdf;
+use crate::open_saved::open_saved;
+use crate::saved_file::SavedFile;
 use crate::stop::{Stop, damaged};
 use csv_source::{Table, TableRefusal, read_table};
 use dap_errors::{Cause, FileCause};
@@ -26,6 +29,7 @@ const TABLE_MAX: u64 = 67_108_864;
 pub enum Opened {
     Netcdf(Header),
     Table(Table),
+    Saved(SavedFile),
 }
 
 /// How a file is read, by the end of its name.
@@ -33,10 +37,11 @@ pub enum Opened {
 pub enum FileForm {
     Netcdf,
     Table,
+    Saved,
 }
 
 /// The first bytes of a file.
-fn read_front<S: Shelf>(
+pub fn read_front<S: Shelf>(
     alloc: Global,
     shelf: &mut S,
     file: &mut S::File,
@@ -132,6 +137,9 @@ fn form_of(name: &str) -> Option<FileForm>
     if has_end(b".csv", name) {
         return Some(FileForm::Table);
     }
+    if has_end(b".dods", name) {
+        return Some(FileForm::Saved);
+    }
     None
 }
 
@@ -161,7 +169,7 @@ fn open_file<S: Shelf>(
     name: &str,
 ) -> Result<Opened, Stop>
     requires form { form_of name.now ≡ Some (form_view form) }
-    ensures opened { IfOk result (λ o. (bytes : List ℕ) × IsRead (S.content shelf.old file.old) bytes × (S.size_of shelf.old file.old ≡ length bytes) × OpenedAs o name.now bytes) }
+    ensures opened { IfOk result (λ o. (bytes : List ℕ) × IsRead (S.content shelf.old file.old) bytes × (S.size_of shelf.old file.old ≡ length bytes) × ((ts : List Tree) × OpenedAs o name.now bytes ts)) }
     ensures refused { IfErr result (WhereRefused (λ cause. (bytes : List ℕ) × IsRead (S.content shelf.old file.old) bytes × IsStored (form_view form) name.now bytes (Err cause))) }
     ensures why { IfErr result (WhereFault (Rose (S.faults shelf.old) (S.faults shelf.new))) }
     ensures later { S.faults shelf.old ≤ S.faults shelf.new }
@@ -181,6 +189,10 @@ fn open_file<S: Shelf>(
             let table = open_table(alloc, shelf, file, name)?;
             Ok(Opened::Table(table))
         }
+        FileForm::Saved => {
+            let response = open_saved(alloc, shelf, file, name)?;
+            Ok(Opened::Saved(response))
+        }
     }
 }
 
@@ -192,7 +204,7 @@ fn open_as<S: Shelf>(
     name: &str,
 ) -> Result<(Opened, S::File), Stop>
     requires form { form_of name.now ≡ Some (form_view form) }
-    ensures opened { IfOk result (λ p. (bytes : List ℕ) × Lies (S.files shelf.old) (S.content shelf.new p.1) (S.size_of shelf.new p.1) name.now bytes × OpenedAs p.0 name.now bytes) }
+    ensures opened { IfOk result (λ p. (bytes : List ℕ) × Lies (S.files shelf.old) (S.content shelf.new p.1) (S.size_of shelf.new p.1) name.now bytes × ((ts : List Tree) × OpenedAs p.0 name.now bytes ts)) }
     ensures refused { IfErr result (WhereRefused (λ cause. (files : Files) × MayHave (S.files shelf.old) files × Opens files name.now (Err cause))) }
     ensures why { IfErr result (WhereFault (Rose (S.faults shelf.old) (S.faults shelf.new))) }
     ensures later { S.faults shelf.old ≤ S.faults shelf.new }
@@ -211,7 +223,7 @@ pub fn open_named<S: Shelf>(
     shelf: &mut S,
     name: &str,
 ) -> Result<(Opened, S::File), Stop>
-    ensures opened { IfOk result (λ p. (bytes : List ℕ) × Lies (S.files shelf.old) (S.content shelf.new p.1) (S.size_of shelf.new p.1) name.now bytes × OpenedAs p.0 name.now bytes) }
+    ensures opened { IfOk result (λ p. (bytes : List ℕ) × Lies (S.files shelf.old) (S.content shelf.new p.1) (S.size_of shelf.new p.1) name.now bytes × ((ts : List Tree) × OpenedAs p.0 name.now bytes ts)) }
     ensures refused { IfErr result (WhereRefused (λ cause. (files : Files) × MayHave (S.files shelf.old) files × Opens files name.now (Err cause))) }
     ensures why { IfErr result (WhereFault (IsTrue (is_some (form_of name.now)) × Rose (S.faults shelf.old) (S.faults shelf.new))) }
     ensures later { S.faults shelf.old ≤ S.faults shelf.new }

@@ -1,6 +1,7 @@
 use dap_errors::Cause;
 use dap_http::Kind;
 use dap_types::Bytes;
+use saved_source::SavedBody;
 use xdr_encode::Body;
 
 /// What a target is answered with, with all memory that the answer takes. `F` is a file of the shelf.
@@ -10,6 +11,8 @@ pub enum Prepared<F> {
     Text { kind: Kind, text: Bytes },
     /// A data response, and the file that it reads as it is streamed.
     Body { body: Body, file: F },
+    /// A data response for what is left of a saved one. It has its values.
+    Saved { body: SavedBody },
     /// The first cause for which there is none.
     Refuse(Cause),
     /// The shelf failed.

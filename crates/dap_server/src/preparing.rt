@@ -6,11 +6,13 @@ ghost use Rattle.dap_outside.specs.Causes.{Rose};
 ghost use Rattle.dap_outside.specs.Files.{IsBytes};
 ghost use Rattle.xdr_encode.specs.Bodies.{FitsFile, HasNoFile, MayAsk, cost_in, text_in};
 ghost use Rattle.dap_server.specs.Costs.{IsCost, IsCostAt, asks_shelf, most_first};
-ghost use Rattle.dap_server.specs.Files.{form_of, table};
-ghost use Rattle.dap_server.specs.Prepared.{IsFor, IsOver, MayGive, MustGive, WhereBody, WhereNoShelfFault, WhereRefuse, WhereShelfFault, WhereText, asked_of};
+ghost use Rattle.dap_server.specs.Files.{form_of, is_read_first, saved};
+ghost use Rattle.dap_server.specs.Prepared.{IsFor, IsOver, MayGive, MustGive, WhereBody, WhereNoShelfFault, WhereRefuse, WhereSaved, WhereShelfFault, WhereText, asked_of};
+ghost use Rattle.saved_source.specs.Bodies.{Sends};
 ghost use Rattle.dap_server.specs.Results.{Text, text_of};
-ghost use Rattle.dap_server.specs.inner.Preparing.{IsMade, body_prepared, stopped, text_prepared};
+ghost use Rattle.dap_server.specs.inner.Preparing.{IsMade, body_prepared, data_prepared, stopped, text_prepared};
 
+use crate::data_body::DataBody;
 use crate::kinds::{das_answer, dds_answer, dods_answer, version_answer};
 use crate::prepared::Prepared;
 use crate::stop::Stop;
@@ -19,7 +21,6 @@ use dap_outside::Shelf;
 use dap_types::Bytes;
 use std::alloc::Global;
 use std::thread::Threads;
-use xdr_encode::Body;
 
 fn stopped<F: Drop>(stop: Stop) -> Prepared<F>
     ensures { result ≡ stopped stop }
@@ -41,12 +42,22 @@ fn text_prepared<F: Drop>(kind: Kind, text: Result<Bytes, Stop>) -> Prepared<F>
     }
 }
 
+/// The answer of a body. One that has its values wants no file.
+fn data_prepared<F: Drop>(body: DataBody, file: F) -> Prepared<F>
+    ensures { result ≡ data_prepared body file }
+{
+    match body {
+        DataBody::OfFile(body) => Prepared::Body { body, file },
+        DataBody::Saved(body) => Prepared::Saved { body },
+    }
+}
+
 /// The answer that is data.
-fn body_prepared<F: Drop>(body: Result<(Body, F), Stop>) -> Prepared<F>
+fn body_prepared<F: Drop>(body: Result<(DataBody, F), Stop>) -> Prepared<F>
     ensures { result ≡ body_prepared body }
 {
     match body {
-        Ok((body, file)) => Prepared::Body { body, file },
+        Ok((body, file)) => data_prepared(body, file),
         Err(stop) => stopped(stop),
     }
 }
@@ -101,19 +112,23 @@ pub fn prepare<R: Threads + Sync, S: Shelf>(
     requires many { workers ≤ 64 }
     ensures text { WhereText result (λ kind text. (kind ≢ Kind.Dods) × MayGive (S.files shelf.old) (asked_of target.now) (Ok (text_of kind text))) }
 
-    // Over the bytes of its file the body is the data response; one of a table is it over any.
+    // Over the bytes of its file the body is the data response; one whose values were read is it over any.
     ensures body { WhereBody result (λ body file. (bytes : List ℕ) → IsOver target.now.name (S.content shelf.new file) bytes →
         MayGive (S.files shelf.old) (asked_of target.now) (Ok (text_of Kind.Dods (text_in body bytes)))) }
     ensures accepted { WhereBody result (λ body file. (text : List ℕ) × MayGive (S.files shelf.old) (asked_of target.now) (Ok (text_of Kind.Dods text))) }
     ensures of_file { WhereBody result (λ body file. (target.now.kind ≡ Kind.Dods) × IsTrue (is_some (form_of target.now.name))) }
     ensures tells { WhereBody result (λ body file. IsSome (S.files shelf.old) → IsSome (S.content shelf.new file)) }
-    ensures alone { WhereBody result (λ body file. form_of target.now.name ≡ Some table → HasNoFile body) }
+    ensures alone { WhereBody result (λ body file. IsTrue (is_read_first (form_of target.now.name)) → HasNoFile body) }
 
     // It reads within its file, and no more than its marks cost.
     ensures fits { WhereBody result (λ body file. FitsFile body (S.size_of shelf.new file)) }
     ensures cost { WhereBody result (λ body file. (cost : ℕ) × IsCost (S.files shelf.old) (asked_of target.now) cost × (cost_in body ≤ cost)) }
     ensures cost_at { WhereBody result (λ body file. (bytes : List ℕ) (put cost : ℕ) → S.content shelf.new file ≡ Some bytes → MayAsk body bytes put cost →
         IsCostAt (S.files shelf.old) (asked_of target.now) put cost) }
+
+    // The body of a saved response sends the data response. It has all its values.
+    ensures sends { WhereSaved result (λ body. (text : List ℕ) × Sends body text × MayGive (S.files shelf.old) (asked_of target.now) (Ok (text_of Kind.Dods text))) }
+    ensures of_saved { WhereSaved result (λ body. (target.now.kind ≡ Kind.Dods) × (form_of target.now.name ≡ Some saved)) }
 
     ensures refused { WhereRefuse result (λ cause. MayGive (S.files shelf.old) (asked_of target.now) (Err cause)) }
     ensures shelf_fault { WhereShelfFault result (IsTrue (asks_shelf (asked_of target.now)) × Rose (S.faults shelf.old) (S.faults shelf.new)) }

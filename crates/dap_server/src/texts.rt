@@ -5,6 +5,7 @@ ghost use Rattle.dap_model.specs.Dds.{dds};
 ghost use Rattle.dap_model.specs.Filter.{constrained};
 ghost use Rattle.das_text.specs.Das.{das};
 ghost use Rattle.das_text.specs.View.{attributes_view};
+ghost use Rattle.dap_types.specs.Model.{Tree};
 ghost use Rattle.dap_types.specs.View.{dataset_view};
 ghost use Rattle.dap_types.specs.WellFormed.{IsWellFormed};
 ghost use Rattle.grid_projection.specs.Resolved.{marks_in};
@@ -28,6 +29,7 @@ fn attributes_in(alloc: Global, opened: &Opened) -> Result<Attributes, Memory>
     match opened {
         Opened::Netcdf(header) => header.attributes(alloc),
         Opened::Table(table) => table.attributes(alloc),
+        Opened::Saved(response) => response.saved.attributes(alloc),
     }
 }
 
@@ -39,6 +41,7 @@ pub fn dataset_in(alloc: Global, opened: &Opened, name: &str) -> Result<Dataset,
     match opened {
         Opened::Netcdf(header) => header.dataset(alloc, name.as_bytes()),
         Opened::Table(table) => table.dataset(alloc),
+        Opened::Saved(response) => response.dataset(alloc),
     }
 }
 
@@ -67,8 +70,8 @@ fn dds_left(alloc: Global, dataset: &Dataset, marks: &Marks) -> Result<Bytes, St
 
 /// The DDS of what a query leaves of a stored file.
 pub fn dds_of(alloc: Global, opened: &Opened, name: &str, query: &[u8]) -> Result<Bytes, Stop>
-    ensures text { IfOk result (λ text. (bytes : List ℕ) → DdsAnswers (stored_of opened.now name.now bytes) query.now (Ok (text_of Kind.Dds text))) }
-    ensures refused { IfErr result (WhereRefused (λ why. (bytes : List ℕ) → DdsAnswers (stored_of opened.now name.now bytes) query.now (Err why))) }
+    ensures text { IfOk result (λ text. (ts : List Tree) → DdsAnswers (stored_of opened.now name.now ts) query.now (Ok (text_of Kind.Dds text))) }
+    ensures refused { IfErr result (WhereRefused (λ why. (ts : List Tree) → DdsAnswers (stored_of opened.now name.now ts) query.now (Err why))) }
     ensures no_fault { IfErr result (WhereFault ⊥) }
 {
     let dataset = dataset_in(alloc, opened, name)?;

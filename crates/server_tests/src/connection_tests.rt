@@ -26,6 +26,20 @@ const DATA_HEAD_CLOSE: &[u8] =
 const BUOYS_BODY: &[u8] =
     b"Dataset {\n    Sequence {\n        String station;\n        Int32 depth;\n    } buoys;\n} buoys.csv;\nData:\n\x5a\0\0\0\0\0\0\x02A1\0\0\0\0\0\x05\x5a\0\0\0\0\0\0\x03B22\0\xff\xff\xff\xf9\xa5\0\0\0";
 
+/// What a clause and one column leave of the same, saved under another name.
+const SAVED_PART: &[u8] =
+    b"Dataset {\n    Sequence {\n        Int32 depth;\n    } buoys;\n} saved.dods;\nData:\n\x5a\0\0\0\xff\xff\xff\xf9\xa5\0\0\0";
+
+const SAVED_DAS: &[u8] =
+    b"HTTP/1.1 200 OK\r\nXDODS-Server: dap2/1.0\r\nXDAP: 2.0\r\nContent-Description: dods_das\r\nContent-Type: text/plain\r\nContent-Length: 33\r\n\r\nAttributes {\n    buoys {\n    }\n}\n";
+
+const SAVED_DDS: &[u8] =
+    b"HTTP/1.1 200 OK\r\nXDODS-Server: dap2/1.0\r\nXDAP: 2.0\r\nContent-Description: dods_dds\r\nContent-Type: text/plain\r\nContent-Length: 73\r\n\r\nDataset {\n    Sequence {\n        Int32 depth;\n    } buoys;\n} saved.dods;\n";
+
+/// Of a saved response without its last byte.
+const SAVED_CUT: &[u8] =
+    b"HTTP/1.1 500 Internal Server Error\r\nXDODS-Server: dap2/1.0\r\nXDAP: 2.0\r\nContent-Description: dods_error\r\nContent-Type: text/plain\r\nContent-Length: 73\r\n\r\nError {\n    code = 19;\n    message = \"damaged file: bad body at 137\";\n};\n";
+
 const LAST_CHUNK: &[u8] = b"\r\n0\r\n\r\n";
 
 const VERSION: &[u8] =
@@ -73,6 +87,9 @@ const GET_BUOYS: &[u8] = b"GET /buoys.csv.dods HTTP/1.1\r\nHost: x\r\n\r\n";
 
 const TWO: &[u8] =
     b"GET /none.html HTTP/1.1\r\n\r\nHEAD /buoys.csv.dds HTTP/1.1\r\nConnection: close\r\n\r\n";
+
+const GET_SAVED: &[u8] =
+    b"GET /saved.dods.dods?buoys.depth&buoys.depth%3C0 HTTP/1.1\r\nHost: x\r\n\r\n";
 
 const GET_VERSION: &[u8] = b"GET /any.ver HTTP/1.1\r\n\r\n";
 
@@ -123,6 +140,9 @@ fn files(alloc: Global) -> Result<List<MemFile>, Memory> {
     let mut files = List::new(alloc);
     files.push(file(alloc, "buoys.csv", &[], BUOYS)?)?;
     files.push(file(alloc, "v.nc", V, b"")?)?;
+    files.push(file(alloc, "saved.dods", &[], BUOYS_BODY)?)?;
+    let short = BUOYS_BODY.len().min(137);
+    files.push(file(alloc, "short.dods", &[], &BUOYS_BODY[..short])?)?;
     Ok(files)
 }
 
@@ -204,6 +224,41 @@ const ROWS: &[Row] = &[
         &[DATA_HEAD],
         1,
         200,
+        Ending::Gone,
+    ),
+    (
+        GET_SAVED,
+        &[DATA_HEAD, b"5b\r\n", SAVED_PART, LAST_CHUNK],
+        1,
+        200,
+        Ending::Gone,
+    ),
+    (
+        b"GET /saved.dods.dods?buoys.depth&buoys.depth%3C0 HTTP/1.0\r\n\r\n",
+        &[DATA_HEAD_CLOSE, SAVED_PART],
+        1,
+        200,
+        Ending::Closed,
+    ),
+    (
+        b"HEAD /saved.dods.dods HTTP/1.1\r\n\r\n",
+        &[DATA_HEAD],
+        1,
+        200,
+        Ending::Gone,
+    ),
+    (
+        b"GET /saved.dods.das HTTP/1.1\r\n\r\nGET /saved.dods.dds?buoys.depth HTTP/1.1\r\n\r\n",
+        &[SAVED_DAS, SAVED_DDS],
+        2,
+        200,
+        Ending::Gone,
+    ),
+    (
+        b"GET /saved.dods.dods?nope HTTP/1.1\r\n\r\nGET /short.dods.dods HTTP/1.1\r\n\r\n",
+        &[REFUSED, SAVED_CUT],
+        2,
+        500,
         Ending::Gone,
     ),
     (
@@ -510,8 +565,10 @@ fn expect_fronts<R: Threads + Abort + AllocGlobal + Sync>(
 fn each_put_may_fail(rt: HostRuntime) -> Result<(), Fail> {
     let alloc = rt.alloc();
     let data = joined(alloc, &[DATA_HEAD, b"8a\r\n", BUOYS_BODY, LAST_CHUNK])?;
+    let saved = joined(alloc, &[DATA_HEAD, b"5b\r\n", SAVED_PART, LAST_CHUNK])?;
     for piece in [13, 100_000] {
         expect_fronts(&rt, GET_BUOYS, (&data, b""), piece)?;
+        expect_fronts(&rt, GET_SAVED, (&saved, b""), piece)?;
         expect_fronts(&rt, TWO, (BAD_TARGET, DDS_HEAD), piece)?;
     }
     Ok(())
@@ -520,7 +577,7 @@ fn each_put_may_fail(rt: HostRuntime) -> Result<(), Fail> {
 /// A reply that fits in the room goes out in one put, its head with it.
 #[test]
 fn small_replies_are_one_put(rt: HostRuntime) -> Result<(), Fail> {
-    for (input, replies) in [(GET_VERSION, 1), (TWO, 2), (GET_BUOYS, 1)] {
+    for (input, replies) in [(GET_VERSION, 1), (TWO, 2), (GET_BUOYS, 1), (GET_SAVED, 1)] {
         let fails: [u64; 1] = [u64::from(replies) + 1];
         let faults = Faults {
             puts: &fails,

@@ -92,6 +92,14 @@ pub const DAMAGED: &[Cause] = &[
     ),
     ("ragged.csv.dods", 19, "damaged file: ragged row 1"),
     ("twice.csv.dods", 19, "damaged file: repeated column 2"),
+    ("bad.dods.dods?v[", 19, "damaged file: bad body at 33"),
+    ("bad.dods.das", 19, "damaged file: bad body at 33"),
+    ("error.dods.dds", 19, "damaged file: bad body at 23"),
+    (
+        "again.dods.dods",
+        19,
+        "damaged file: repeated name in member 2",
+    ),
 ];
 
 /// A word of the header of `v.nc`, by its number, a word in its place, and the message.

@@ -1,7 +1,9 @@
 //! Each call of the shelf and each put that a run makes fails in turn.
 
 use super::samples::{alone, bytes_of, coads, file, files};
-use super::texts::{COADS_TARGET, EACH_SECOND, Row, UNSIGNED, WHOLE_GRID, WHOLE_TABLE, coads_body};
+use super::texts::{
+    COADS_TARGET, EACH_SECOND, Row, SAVED_DEPTHS, UNSIGNED, WHOLE_GRID, WHOLE_TABLE, coads_body,
+};
 use super::{Faults, SURE, answered};
 use crate::counted::Counted;
 use crate::running::run_words;
@@ -99,6 +101,11 @@ fn expect_faults<R: Threads + Abort + AllocGlobal + Sync>(rt: &R, row: Row) -> R
 #[test]
 fn each_call_for_a_table_may_fail(rt: HostRuntime) -> Result<(), Fail> {
     expect_faults(&rt, WHOLE_TABLE)
+}
+
+#[test]
+fn each_call_for_a_saved_response_may_fail(rt: HostRuntime) -> Result<(), Fail> {
+    expect_faults(&rt, SAVED_DEPTHS)
 }
 
 #[test]

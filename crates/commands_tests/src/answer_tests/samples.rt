@@ -96,6 +96,14 @@ pub fn alone(alloc: Global, file: MemFile) -> Result<List<MemFile>, Memory> {
     Ok(files)
 }
 
+/// The data response for `buoys.csv`.
+const SAVED: &[u8] =
+    b"Dataset {\n    Sequence {\n        String station;\n        Int32 depth;\n    } buoys;\n} buoys.csv;\nData:\n\x5a\0\0\0\0\0\0\x02A1\0\0\0\0\0\x05\x5a\0\0\0\0\0\0\x03B22\0\xff\xff\xff\xf9\xa5\0\0\0";
+
+/// That for a part of the Grid of `g.nc`.
+const PART: &[u8] =
+    b"Dataset {\n    Structure {\n        Int16 g[lat = 1][lon = 2];\n        Int32 lon[lon = 2];\n    } g;\n} g.nc;\nData:\n\0\0\0\x02\0\0\0\x02\0\0\x7f\xff\0\0\0\x03\0\0\0\x02\0\0\0\x02\0\0\0\x02\0\0\0\x03";
+
 /// Files by their names: some words, and bytes behind them.
 const NAMED: &[(&str, &[u32], &[u8])] = &[
     ("buoys.csv", &[], b"station,depth:Int32\nA1,5\nB22,-7\n"),
@@ -118,6 +126,15 @@ const NAMED: &[(&str, &[u32], &[u8])] = &[
     ("u.nc", U, b""),
     ("cut.nc", CUT, b"\0\0\0"),
     ("lists.nc", &[0x43444601, 0, 0x0a, 0xffffffff], b""),
+    ("saved.dods", &[], SAVED),
+    ("sea/part.dods", &[], PART),
+    ("error.dods", &[], b"\nError {\n    code = 1;\n"),
+    (
+        "again.dods",
+        &[],
+        b"Dataset { Int32 a.b; Int32 a%2eb; } f;\nData:\n\0\0\0\x01\0\0\0\x02",
+    ),
+    ("bad.dods", &[], b"Dataset {\n    Byte a;\n} f;\nData:\n"),
 ];
 
 pub fn files(alloc: Global) -> Result<List<MemFile>, Memory> {

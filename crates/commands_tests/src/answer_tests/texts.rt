@@ -94,6 +94,39 @@ pub const TABLES: &[Row] = &[
     ),
 ];
 
+pub const SAVED_DEPTHS: Row = (
+    "saved.dods.dods?buoys.depth&buoys.depth<0",
+    b"Dataset {\n    Sequence {\n        Int32 depth;\n    } buoys;\n} saved.dods;\nData:\n",
+    &[0x5a000000, 0xfffffff9, 0xa5000000],
+);
+
+/// Saved responses, whole and cut further.
+pub const RESPONSES: &[Row] = &[
+    SAVED_DEPTHS,
+    (
+        "saved.dods.dods",
+        b"Dataset {\n    Sequence {\n        String station;\n        Int32 depth;\n    } buoys;\n} saved.dods;\nData:\n",
+        &[
+            0x5a000000, 2, 0x41310000, 5, 0x5a000000, 3, 0x42323200, 0xfffffff9, 0xa5000000,
+        ],
+    ),
+    (
+        "sea/part.dods.dods?g.lon[1]",
+        b"Dataset {\n    Structure {\n        Int32 lon[lon = 1];\n    } g;\n} part.dods;\nData:\n",
+        &[1, 1, 3],
+    ),
+    (
+        "sea/part.dods.dds?g.g",
+        b"Dataset {\n    Structure {\n        Int16 g[lat = 1][lon = 2];\n    } g;\n} part.dods;\n",
+        &[],
+    ),
+    (
+        "saved.dods.das",
+        b"Attributes {\n    buoys {\n    }\n}\n",
+        &[],
+    ),
+];
+
 /// Parts of arrays, and targets that are spelled otherwise.
 pub const HYPERSLABS: &[Row] = &[
     EACH_SECOND,

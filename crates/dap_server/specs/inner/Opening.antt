@@ -2,24 +2,29 @@
 use Rattle.std.specs.Prelude.{◌≡◌, ℕ, ◌≤◌, ◌*◌, ⊤, List, length, max, Option, Some, None, IsSome, Result, Ok, Err}
 use Rattle.dap_outside.specs.Files.{IsBytes, Reads, Told}
 use Rattle.das_text.specs.Model.{Attributes}
-use Rattle.dap_types.specs.Model.{Dataset}
+use Rattle.dap_types.specs.Model.{Dataset, Tree}
 use Rattle.dap_errors.specs.declared.cause.Cause.{Cause}
 use Rattle.dap_errors.specs.declared.cause.Cause.TheVariants.{Damaged, Syntax, TooLarge}
 use Rattle.dap_errors.specs.declared.file_cause.FileCause.{FileCause}
 use Rattle.constraint_parse.specs.declared.refusal.ParseRefusal.{ParseRefusal}
 use Rattle.constraint_parse.specs.declared.refusal.ParseRefusal.TheVariants as parse
 use Rattle.csv_source.specs.Causes.{table_of}
-use Rattle.csv_source.specs.Dataset.{table_attributes, table_dataset}
+use Rattle.csv_source.specs.Dataset.{table_attributes, table_dataset, table_trees}
 use Rattle.netcdf_source.specs.Attributes.{attributes_of}
 use Rattle.netcdf_source.specs.Header.{IsCut, IsHeader}
 use Rattle.netcdf_source.specs.Mapping.{dataset_of}
+use Rattle.netcdf_source.specs.Values.{file_trees}
+use Rattle.saved_source.specs.Responses.{Holds, IsSaved, saved_attributes}
+use Rattle.saved_source.specs.Responses as responses
+use Rattle.saved_source.specs.declared.refusal.SavedBodyRefusal.{SavedBodyRefusal}
+use Rattle.saved_source.specs.declared.refusal.SavedBodyRefusal.TheVariants as saved_bodies
 use Rattle.xdr_encode.specs.declared.refusal.BodyRefusal.{BodyRefusal}
 use Rattle.xdr_encode.specs.declared.refusal.BodyRefusal.TheVariants as bodies
-use Rattle.dap_server.specs.Files.{Files, Form, MayHave, Stored, form_of, front, netcdf, table, netcdf_stored, table_stored}
+use Rattle.dap_server.specs.Files.{Files, Form, MayHave, Stored, form_of, front, netcdf, saved, table}
 use Rattle.dap_server.specs.declared.open.FileForm.{FileForm}
 use Rattle.dap_server.specs.declared.open.FileForm.TheVariants as forms
 use Rattle.dap_server.specs.declared.open.Opened.{Opened}
-use Rattle.dap_server.specs.declared.open.Opened.TheVariants.{Netcdf, Table}
+use Rattle.dap_server.specs.declared.open.Opened.TheVariants.{Netcdf, Saved, Table}
 use Rattle.dap_server.specs.declared.stop.Stop.{Stop}
 use Rattle.dap_server.specs.declared.stop.Stop.TheVariants.{Refused, ShelfFault, Memory}
 
@@ -55,29 +60,35 @@ IsMissing (Some told) name = told name ≡ None
 abbrev pub form_view : FileForm → Form
 form_view forms.Netcdf = netcdf
 form_view forms.Table = table
+form_view forms.Saved = saved
 
--- it was opened as the file of this name and these bytes
-abbrev pub OpenedAs : Opened → List ℕ → List ℕ → Type 0
-OpenedAs (Netcdf h) name bytes = (form_of name ≡ Some netcdf) × IsHeader h.contents (front bytes) (length bytes) × (h.length ≡ length bytes)
-OpenedAs (Table t) name bytes = (form_of name ≡ Some table) × (table_of name bytes ≡ Ok t)
+-- it was opened as the file of this name and these bytes, which has these values
+abbrev pub OpenedAs : Opened → List ℕ → List ℕ → List Tree → Type 0
+OpenedAs (Netcdf h) name bytes ts = (form_of name ≡ Some netcdf) × IsHeader h.contents (front bytes) (length bytes) × (h.length ≡ length bytes) × (ts ≡ file_trees h.contents bytes)
+OpenedAs (Table t) name bytes ts = (form_of name ≡ Some table) × (table_of name bytes ≡ Ok t) × (ts ≡ table_trees t)
+OpenedAs (Saved s) name bytes ts = (form_of name ≡ Some saved) × IsSaved bytes name (responses.dataset_in s.saved) ts × Holds s.saved ts
 
--- the bytes over which its body goes out: the file's, each of them a byte, or for a table any
+-- the bytes over which its body goes out: the file's, each of them a byte, or where its values were read
+-- before any
 abbrev pub IsHeldBy : Opened → List ℕ → List ℕ → Type 0
 IsHeldBy (Netcdf h) bytes held = (held ≡ bytes) × IsBytes bytes
 IsHeldBy (Table t) bytes held = ⊤
+IsHeldBy (Saved s) bytes held = ⊤
 
--- what it has
-abbrev pub stored_of : Opened → List ℕ → List ℕ → Stored
-stored_of (Netcdf h) name bytes = netcdf_stored name bytes h.contents
-stored_of (Table t) name bytes = table_stored t
-
+-- its dataset and its attributes
 abbrev pub dataset_in : Opened → List ℕ → Dataset
 dataset_in (Netcdf h) name = dataset_of h.contents name
 dataset_in (Table t) name = table_dataset t
+dataset_in (Saved s) name = responses.dataset_in s.saved
 
 abbrev pub attributes_in : Opened → Attributes
 attributes_in (Netcdf h) = attributes_of h.contents
 attributes_in (Table t) = table_attributes t
+attributes_in (Saved s) = saved_attributes (responses.dataset_in s.saved)
+
+-- what it has, with these values
+abbrev pub stored_of : Opened → List ℕ → List Tree → Stored
+stored_of o name ts = record { dataset = dataset_in o name; trees = ts; attributes = attributes_in o }
 
 -- the stop for the cause of a file
 abbrev pub stop_of : Option FileCause → Stop
@@ -93,6 +104,11 @@ parse_stop parse.Memory = Memory
 abbrev pub body_stop : BodyRefusal → Stop
 body_stop (bodies.TooLarge leaf) = Refused (TooLarge leaf)
 body_stop bodies.Memory = Memory
+
+-- a body of a saved response that is too large, by its DDS alone
+abbrev pub saved_stop : SavedBodyRefusal → Stop
+saved_stop saved_bodies.TooLarge = Refused (TooLarge 0)
+saved_stop saved_bodies.Memory = Memory
 
 -- by the stop
 abbrev pub WhereRefused : (Cause → Type 0) → Stop → Type 0

@@ -28,11 +28,15 @@ use Rattle.dap_server.specs.declared.turn.Next.TheVariants as next
 
 -- ---- Bytes that are put.
 
+-- some of a text is put, from the front, and not all
+abbrev pub PutsPart : List ℕ → Option (List ℕ) → Option (List ℕ) → Type 0
+PutsPart bytes old new = (part : List ℕ) × IsProperFront part bytes × Appends old new part
+
 -- a text that stands whole is put as a reply of that status, or where the sink fails some of it
 abbrev pub PutsText : List ℕ → ℕ → Bool → Option (List ℕ) → Option (List ℕ) → Answered → Type 0
 PutsText bytes status last old new (answered.Whole s l) = (s ≡ status) × (l ≡ last) × Appends old new bytes
 PutsText bytes status last old new answered.Broken = ⊥
-PutsText bytes status last old new answered.WriteFault = (part : List ℕ) × IsProperFront part bytes × Appends old new part
+PutsText bytes status last old new answered.WriteFault = PutsPart bytes old new
 
 -- a body goes out over these bytes: they are those of its file, or it has no values of one
 abbrev pub GoesOver : Body → Option (List ℕ) → List ℕ → Type 0

@@ -4,6 +4,7 @@ use Rattle.dap_outside.specs.Causes.{Rose}
 use Rattle.dap_outside.specs.Streams.{AppendsFront}
 use Rattle.dap_server.specs.Prepared.{asked_of}
 use Rattle.dap_server.specs.Results.{text_of}
+use Rattle.dap_http.specs.declared.kind.Kind.TheVariants.{Dods}
 use Rattle.xdr_encode.specs.Bodies.{MayAsk, cost_in, text_in}
 use Rattle.dap_commands.proofs.Answering as answering
 use Rattle.dap_commands.specs.Answer.{status_for}
@@ -49,6 +50,28 @@ pub returns-in-Body-clause-asked_then : goal.returns-in-Body-clause-asked_then
 returns-in-Body-clause-asked_then g c = λ some is.
     answering.asked_then _ c.args.target.now (asked_of c.args.asked.now) (g.S.Shelf.content c.prepare.new.shelf c.in-Body.file) (text_in c.in-Body.body) (MayAsk c.in-Body.body) _ _ _ _ _ c.requires.is_asked some
     c.in-Body.ensures.tells c.in-Body.ensures.body c.in-Body.ensures.cost_at (λ bytes holds. c.put_body.ensures.stops bytes holds is) c.in-Body.ensures.asked
+
+pub returns-in-Saved-clause-says : goal.returns-in-Saved-clause-says
+returns-in-Saved-clause-says g c =
+    let Out = Appends (g.O.Sink.written c.args.out.now) (g.O.Sink.written c.put_saved.new.out) in
+    let Front = AppendsFront (g.O.Sink.written c.args.out.now) (g.O.Sink.written c.put_saved.new.out) in
+    let (text, sends, may) = c.in-Saved.ensures.sends in
+    answering.text_says (g.S.Shelf.files c.args.shelf.now) c.args.target.now Out Front (λ line. IsSaid line (g.E.Sink.put_faults c.args.err.now) (g.E.Sink.put_faults c.args.err.now) (g.E.Sink.written c.args.err.now) (g.E.Sink.written c.args.err.now)) (text_of Dods text)
+    (answering.may_result _ c.args.target.now (asked_of c.args.asked.now) _ c.requires.is_asked may) c.put_saved.result (c.put_saved.ensures.put text sends)
+
+pub returns-in-Saved-clause-only : goal.returns-in-Saved-clause-only
+returns-in-Saved-clause-only g c = λ r must still quiet had.
+    let (text, sends, may) = c.in-Saved.ensures.sends in
+    answering.text_only text (Appends (g.O.Sink.written c.args.out.now) (g.O.Sink.written c.put_saved.new.out)) (AppendsFront (g.O.Sink.written c.args.out.now) (g.O.Sink.written c.put_saved.new.out)) (Rose (g.O.Sink.put_faults c.args.out.now) (g.O.Sink.put_faults c.put_saved.new.out)) c.put_saved.result (c.put_saved.ensures.put text sends) c.put_saved.ensures.write_fault quiet
+    ∙ sym (ap status_for (c.in-Saved.ensures.only r (answering.must_give _ c.args.target.now (asked_of c.args.asked.now) r c.requires.is_asked must)).1)
+
+pub returns-in-Saved-clause-asked : goal.returns-in-Saved-clause-asked
+returns-in-Saved-clause-asked g c = answering.asks_first _ c.args.target.now (asked_of c.args.asked.now) _ _ c.requires.is_asked c.in-Saved.ensures.asked
+
+pub returns-in-Saved-clause-asked_first : goal.returns-in-Saved-clause-asked_first
+returns-in-Saved-clause-asked_first g c = λ none.
+    let (text, sends, may) = c.in-Saved.ensures.sends in
+    absurd (answering.text_is_put text (Appends (g.O.Sink.written c.args.out.now) (g.O.Sink.written c.put_saved.new.out)) (AppendsFront (g.O.Sink.written c.args.out.now) (g.O.Sink.written c.put_saved.new.out)) c.put_saved.result (c.put_saved.ensures.put text sends) none)
 
 pub returns-in-Refuse-clause-says : goal.returns-in-Refuse-clause-says
 returns-in-Refuse-clause-says g c =

@@ -4,7 +4,7 @@ use Rattle.dap_server.specs.Prepared.{MayGive, asked_of}
 use Rattle.dap_server.specs.Results.{text_of}
 use Rattle.dap_http.specs.declared.kind.Kind.TheVariants.{Dods}
 use Rattle.xdr_encode.specs.Bodies.{text_in}
-use Rattle.dap_server.proofs.Answered.{failed-answer, refused-answer, text-answer, wanted-answer, with-first}
+use Rattle.dap_server.proofs.Answered.{failed-answer, refused-answer, saved-answer, text-answer, wanted-answer, with-first}
 use Rattle.dap_server.proofs.answer.answer_target.Goals as goal
 
 pub returns-in-Text-clause-answers : goal.returns-in-Text-clause-answers
@@ -21,6 +21,12 @@ pub returns-in-Body-clause-answers : goal.returns-in-Body-clause-answers
 returns-in-Body-clause-answers g c =
     with-first (g.S.Shelf.files c.args.shelf.now) _ (request_in c.args.head.now c.args.ends) (asked_of c.args.target.now) _ _ _ _ _ _ c.answer_data.result c.requires.target
     c.in-Body.ensures.kept c.in-Body.ensures.asked c.in-Body.ensures.files c.answer_data.ensures.answers
+
+pub returns-in-Saved-clause-answers : goal.returns-in-Saved-clause-answers
+returns-in-Saved-clause-answers g c =
+    let (text, sends, may) = c.in-Saved.ensures.sends in
+    saved-answer _ (request_in c.args.head.now c.args.ends) (asked_of c.args.target.now) text _ _ _ _ _ _ c.put_saved.result c.requires.served c.requires.target c.in-Saved.ensures.of_saved.1
+    may c.in-Saved.ensures.kept c.in-Saved.ensures.asked (c.put_saved.ensures.puts text sends)
 
 pub returns-in-ShelfFault-clause-answers : goal.returns-in-ShelfFault-clause-answers
 returns-in-ShelfFault-clause-answers g c =

@@ -7,8 +7,8 @@ use Rattle.dap_server.proofs.kinds.das_answer.Goals as goal
 
 pub returns-clause-text : goal.returns-clause-text
 returns-clause-text g c = λ query.
-    let (bytes, l, is) = c.in_ok-opened.ensures.opened in
-    making.das_follows _ _ _ c.args.name.now bytes c.in_ok-opened.opened c.in_ok-das_of.field-0 l is c.in_ok-das_of.ensures
+    let (bytes, l, (ts, is)) = c.in_ok-opened.ensures.opened in
+    making.das_follows _ _ _ c.args.name.now bytes ts c.in_ok-opened.opened c.in_ok-das_of.field-0 l is c.in_ok-das_of.ensures
 
 pub returns-in_err-opened-clause-refused : goal.returns-in_err-opened-clause-refused
 returns-in_err-opened-clause-refused g c =

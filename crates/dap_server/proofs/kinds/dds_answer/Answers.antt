@@ -8,13 +8,13 @@ use Rattle.dap_server.proofs.kinds.dds_answer.Goals as goal
 
 pub returns-clause-text : goal.returns-clause-text
 returns-clause-text g c =
-    let (bytes, l, is) = c.in_ok-opened.ensures.opened in
-    making.follows_ok _ _ _ c.args.name.now bytes c.in_ok-opened.opened (λ s. DdsAnswers s c.args.query.now) (text_of Dds) c.dds_of.result l is c.dds_of.ensures.text
+    let (bytes, l, (ts, is)) = c.in_ok-opened.ensures.opened in
+    making.follows_ok _ _ _ c.args.name.now bytes ts c.in_ok-opened.opened (λ s. DdsAnswers s c.args.query.now) (text_of Dds) c.dds_of.result l is c.dds_of.ensures.text
 
 pub returns-clause-refused : goal.returns-clause-refused
 returns-clause-refused g c =
-    let (bytes, l, is) = c.in_ok-opened.ensures.opened in
-    making.follows_err _ _ _ c.args.name.now bytes c.in_ok-opened.opened (λ s. DdsAnswers s c.args.query.now) c.dds_of.result l is c.dds_of.ensures.refused
+    let (bytes, l, (ts, is)) = c.in_ok-opened.ensures.opened in
+    making.follows_err _ _ _ c.args.name.now bytes ts c.in_ok-opened.opened (λ s. DdsAnswers s c.args.query.now) c.dds_of.result l is c.dds_of.ensures.refused
 
 pub returns-in_err-opened-clause-refused : goal.returns-in_err-opened-clause-refused
 returns-in_err-opened-clause-refused g c =

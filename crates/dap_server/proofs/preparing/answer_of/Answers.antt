@@ -17,6 +17,9 @@ returns-in-Das-clause-made g c =
     (making.das_not_given (g.S.Shelf.files c.args.shelf.now) c.as_str-name.result.now c.bytes-query.result.now c.das_answer.result c.das_answer.ensures.refused)
     c.das_answer.ensures.why
 
+pub returns-in-Das-clause-untouched : goal.returns-in-Das-clause-untouched
+returns-in-Das-clause-untouched g c = λ none. c.das_answer.ensures.untouched (making.no_form c.args.target.now Das c.as_str-name.result.now c.in-Das.is c.as_str-name.ensures refl none)
+
 pub returns-in-Dds-clause-made : goal.returns-in-Dds-clause-made
 returns-in-Dds-clause-made g c =
     making.text_for (g.S.Shelf.files c.args.shelf.now) _ _ c.args.target.now Dds c.as_str-name.result.now c.bytes-query.result.now _ c.dds_answer.result c.text_prepared-in-Dds.result c.text_prepared-in-Dds.ensures c.in-Dds.is c.as_str-name.ensures
@@ -30,7 +33,7 @@ returns-in-Dds-clause-untouched g c = λ none. c.dds_answer.ensures.untouched (m
 pub returns-in-Dods-clause-made : goal.returns-in-Dods-clause-made
 returns-in-Dods-clause-made g c =
     making.body_for (g.S.Shelf.files c.args.shelf.now) _ _ c.args.target.now c.as_str-name.result.now c.bytes-query.result.now _ c.dods_answer.result c.body_prepared.result c.body_prepared.ensures c.in-Dods.is c.as_str-name.ensures
-    c.bytes-query.ensures c.dods_answer.ensures.body c.dods_answer.ensures.accepted c.dods_answer.ensures.form c.dods_answer.ensures.tells c.dods_answer.ensures.alone c.dods_answer.ensures.fits
+    c.bytes-query.ensures c.dods_answer.ensures.body c.dods_answer.ensures.sends c.dods_answer.ensures.of_saved c.dods_answer.ensures.accepted c.dods_answer.ensures.form c.dods_answer.ensures.tells c.dods_answer.ensures.alone c.dods_answer.ensures.fits
     c.dods_answer.ensures.cost c.dods_answer.ensures.cost_at c.dods_answer.ensures.refused c.dods_answer.ensures.why
 
 pub returns-in-Dods-clause-untouched : goal.returns-in-Dods-clause-untouched

@@ -6,7 +6,7 @@ use Rattle.dap_server.proofs.preparing.prepare.Goals as goal
 
 pub returns-clause-only : goal.returns-clause-only
 returns-clause-only g c =
-    making.only _ _ c.answer_of.result (all_bytes _ (subst IsBytes c.bytes.ensures c.are_bytes.ensures)) c.answer_of.ensures.made.text c.answer_of.ensures.made.accepted c.answer_of.ensures.made.refused
+    making.only _ _ c.answer_of.result (all_bytes _ (subst IsBytes c.bytes.ensures c.are_bytes.ensures)) c.answer_of.ensures.made.text c.answer_of.ensures.made.accepted c.answer_of.ensures.made.sends c.answer_of.ensures.made.refused
 
 pub returns-clause-text : goal.returns-clause-text
 returns-clause-text g c = c.answer_of.ensures.made.text
@@ -34,6 +34,12 @@ returns-clause-cost g c = c.answer_of.ensures.made.cost
 
 pub returns-clause-cost_at : goal.returns-clause-cost_at
 returns-clause-cost_at g c = c.answer_of.ensures.made.cost_at
+
+pub returns-clause-sends : goal.returns-clause-sends
+returns-clause-sends g c = c.answer_of.ensures.made.sends
+
+pub returns-clause-of_saved : goal.returns-clause-of_saved
+returns-clause-of_saved g c = c.answer_of.ensures.made.of_saved
 
 pub returns-clause-refused : goal.returns-clause-refused
 returns-clause-refused g c = c.answer_of.ensures.made.refused
