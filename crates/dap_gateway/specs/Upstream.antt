@@ -12,7 +12,8 @@ use Rattle.dap_http.specs.declared.coding.Coding.{Coding}
 use Rattle.xdr_decode.specs.declared.bad.BadField.{BadField}
 use Rattle.dap_client.specs.Fetched.{DialState}
 use Rattle.dap_client.specs.Held.{IsLong, IsTold, Says, told_of}
-use Rattle.dap_client.specs.Replies.{BringsFirst, first_of}
+use Rattle.dap_client.specs.Replies.{BringsFirst, StopsInTime, first_of}
+use Rattle.dap_client.specs.Shows.{Takes}
 use Rattle.dap_client.specs.Verdict.{Form, Verdict, IsVerdict}
 use Rattle.dap_client.specs.declared.body_outcome.BodyOutcome.{BodyOutcome}
 use Rattle.dap_client.specs.declared.body_outcome.BodyOutcome.TheVariants.{TooLarge, ReadFault}
@@ -38,13 +39,18 @@ pub record IsUnasked (key : List ℕ) (came back : LinkState) (outcome : BodyOut
   pub none_taken : back.left ≡ came.left
   pub is_fault : outcome ≡ ReadFault
   pub fault : Rose came.put_faults back.put_faults
+  pub no_read : back.take_faults ≡ came.take_faults
 
--- the request went out, and this is what the reply brought
+-- the request went out without a failed put, and this is what the reply brought, of which no more was taken than settles it,
+-- and a piece; a fault came only where the count of takes rose, and with any other outcome it is what it was
 pub record IsAsked (form : Form) (key : List ℕ) (came back : LinkState) (outcome : BodyOutcome) : Type 0 where
   pub sent : Appends came.written back.written key
   pub says : (taken : List ℕ) × Consumes came.left back.left taken × Says form most_body taken back.ended outcome
+  pub most : Takes came.left back.left (StopsInTime form)
   pub exact : (reply : List ℕ) → came.left ≡ Some reply → IsExact form most_body reply outcome
   pub fault : outcome ≡ ReadFault → Rose came.take_faults back.take_faults
+  pub kept_reading : ¬ (outcome ≡ ReadFault) → back.take_faults ≡ came.take_faults
+  pub kept_sending : back.put_faults ≡ came.put_faults
 
 -- over a link as it came and as it was handed back
 pub record IsAskedOver (form : Form) (key : List ℕ) (came back : LinkState) (outcome : BodyOutcome) : Type 0 where
@@ -53,11 +59,12 @@ pub record IsAskedOver (form : Form) (key : List ℕ) (came back : LinkState) (o
   pub end : IsTrue back.ended → IsAtEnd back.left
   pub asked : IsUnasked key came back outcome ⊎ IsAsked form key came back outcome
 
--- a link was connected to the host and the port, and came back to the dial
+-- a link was connected to the host and the port, without a failure of the dial, and came back to it
 pub record IsConnected {W : Type 0} (state : W → LinkState) (host : List ℕ) (port : ℕ) (form : Form) (key : List ℕ) (a b : DialState W) (outcome : BodyOutcome) : Type 0 where
   pub came : W
   pub link : W
   pub back : b.back ≡ option_map (λ links. links ++ ((host, port), link) ∷ []) a.back
+  pub kept : b.faults ≡ a.faults
   pub over : IsAskedOver form key (state came) (state link) outcome
 
 -- or the dial failed

@@ -35,6 +35,7 @@ fn put_kept<O: Sink>(
     ensures puts { (body : List ℕ) → lookup (bytes_eq wanted.now.key) (pairs cache.now) ≡ Some body →
         Puts (ready_text ready wanted.now.head_alone body) ready.status hit (O.written out.old) (O.written out.new) result }
     ensures fault { result ≡ Relayed.WriteFault → Rose (O.put_faults out.old) (O.put_faults out.new) }
+    ensures kept { result ≢ Relayed.WriteFault → O.put_faults out.new ≡ O.put_faults out.old }
     ensures no_read_fault { result ≢ Relayed.ReadFault }
     ensures later { O.put_faults out.old ≤ O.put_faults out.new }
     ensures beside { O.beside_writing out.new ≡ O.beside_writing out.old }
@@ -52,6 +53,7 @@ pub fn relay_hit<O: Sink>(alloc: Global, out: &mut O, cache: &mut Cache, wanted:
         (Puts (reply wanted.now.head_alone wanted.now.minor (text wanted.now.kind body)) 200 true (O.written out.old) (O.written out.new) result × (pairs cache.new ≡ promoted (bytes_eq wanted.now.key) (pairs cache.old)))
         ⊎ (Puts (reply wanted.now.head_alone 1 (refused Cause.OutOfMemory)) 503 false (O.written out.old) (O.written out.new) result × (pairs cache.new ≡ pairs cache.old)) }
     ensures fault { result ≡ Relayed.WriteFault → Rose (O.put_faults out.old) (O.put_faults out.new) }
+    ensures kept { result ≢ Relayed.WriteFault → O.put_faults out.new ≡ O.put_faults out.old }
     ensures no_read_fault { result ≢ Relayed.ReadFault }
     ensures later { O.put_faults out.old ≤ O.put_faults out.new }
     ensures room { room_of cache.new ≡ room_of cache.old }
@@ -89,6 +91,7 @@ pub fn relay_good<O: Sink>(
     ensures puts { (Puts (reply wanted.now.head_alone wanted.now.minor (text wanted.now.kind body)) 200 false (O.written out.old) (O.written out.new) result × (pairs cache.new ≡ kept_with (room_of cache.old) wanted.now.key (text wanted.now.kind body) (pairs cache.old)))
         ⊎ (Puts (reply wanted.now.head_alone 1 (refused Cause.OutOfMemory)) 503 false (O.written out.old) (O.written out.new) result × (pairs cache.new ≡ pairs cache.old)) }
     ensures fault { result ≡ Relayed.WriteFault → Rose (O.put_faults out.old) (O.put_faults out.new) }
+    ensures kept { result ≢ Relayed.WriteFault → O.put_faults out.new ≡ O.put_faults out.old }
     ensures no_read_fault { result ≢ Relayed.ReadFault }
     ensures later { O.put_faults out.old ≤ O.put_faults out.new }
     ensures room { room_of cache.new ≡ room_of cache.old }
@@ -111,6 +114,7 @@ pub fn relay_object<O: Sink>(alloc: Global, out: &mut O, wanted: &Wanted, object
     ensures puts { Puts (reply wanted.now.head_alone wanted.now.minor (server_error object.now)) 400 false (O.written out.old) (O.written out.new) result
         ⊎ Puts (reply wanted.now.head_alone 1 (refused Cause.OutOfMemory)) 503 false (O.written out.old) (O.written out.new) result }
     ensures fault { result ≡ Relayed.WriteFault → Rose (O.put_faults out.old) (O.put_faults out.new) }
+    ensures kept { result ≢ Relayed.WriteFault → O.put_faults out.new ≡ O.put_faults out.old }
     ensures no_read_fault { result ≢ Relayed.ReadFault }
     ensures later { O.put_faults out.old ≤ O.put_faults out.new }
     ensures beside { O.beside_writing out.new ≡ O.beside_writing out.old }
@@ -134,6 +138,7 @@ pub fn relay_outcome<O: Sink>(
         × (pairs cache.new ≡ kept_with (room_of cache.old) wanted.now.key (given_for wanted.now.kind outcome) (pairs cache.old)))
         ⊎ (Puts (reply wanted.now.head_alone 1 (refused Cause.OutOfMemory)) 503 false (O.written out.old) (O.written out.new) result × (pairs cache.new ≡ pairs cache.old)) }
     ensures fault { result ≡ Relayed.WriteFault → Rose (O.put_faults out.old) (O.put_faults out.new) }
+    ensures kept { result ≢ Relayed.WriteFault → O.put_faults out.new ≡ O.put_faults out.old }
     ensures no_read_fault { result ≢ Relayed.ReadFault }
     ensures later { O.put_faults out.old ≤ O.put_faults out.new }
     ensures room { room_of cache.new ≡ room_of cache.old }

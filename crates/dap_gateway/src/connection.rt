@@ -55,6 +55,7 @@ fn relay_wanted<L: Link, C: Dial>(
     requires host { IsTrue (is_host host.now) }
     ensures comes { (bytes : List ℕ) → Wants host.now port bytes wanted.now → ComesTo (λ l. record { whole = C.Wire.whole l; left = C.Wire.left l; ended = C.Wire.ended l; written = C.Wire.written l; take_faults = C.Wire.take_faults l; put_faults = C.Wire.put_faults l }) (dial.new ≡ dial.old) host.now port (room_of cache.old) bytes (record { written = L.written link.old; pairs = pairs cache.old }) (record { written = L.written link.new; pairs = pairs cache.new }) (record { back = C.back dial.old; faults = C.faults dial.old }) (record { back = C.back dial.new; faults = C.faults dial.new }) result }
     ensures write_fault { result ≡ Relayed.WriteFault → Rose (L.put_faults link.old) (L.put_faults link.new) }
+    ensures kept { result ≢ Relayed.WriteFault → L.put_faults link.new ≡ L.put_faults link.old }
     ensures no_read_fault { result ≢ Relayed.ReadFault }
     ensures later { L.put_faults link.old ≤ L.put_faults link.new }
     ensures later_dial { C.faults dial.old ≤ C.faults dial.new }
@@ -102,6 +103,7 @@ fn relay_target<L: Link, C: Dial>(
     requires served { is_other head.now.method ≡ false }
     ensures comes { (bytes rest : List ℕ) (tree : RequestHead) → FirstRequest bytes tree rest → IsHead head.now tree → ComesTo (λ l. record { whole = C.Wire.whole l; left = C.Wire.left l; ended = C.Wire.ended l; written = C.Wire.written l; take_faults = C.Wire.take_faults l; put_faults = C.Wire.put_faults l }) (dial.new ≡ dial.old) host.now port (room_of cache.old) bytes (record { written = L.written link.old; pairs = pairs cache.old }) (record { written = L.written link.new; pairs = pairs cache.new }) (record { back = C.back dial.old; faults = C.faults dial.old }) (record { back = C.back dial.new; faults = C.faults dial.new }) result }
     ensures write_fault { result ≡ Relayed.WriteFault → Rose (L.put_faults link.old) (L.put_faults link.new) }
+    ensures kept { result ≢ Relayed.WriteFault → L.put_faults link.new ≡ L.put_faults link.old }
     ensures no_read_fault { result ≢ Relayed.ReadFault }
     ensures later { L.put_faults link.old ≤ L.put_faults link.new }
     ensures later_dial { C.faults dial.old ≤ C.faults dial.new }
@@ -132,6 +134,7 @@ fn relay<L: Link, C: Dial>(
     requires host { IsTrue (is_host host.now) }
     ensures comes { (bytes rest : List ℕ) (tree : RequestHead) → FirstRequest bytes tree rest → IsHead head.now tree → ComesTo (λ l. record { whole = C.Wire.whole l; left = C.Wire.left l; ended = C.Wire.ended l; written = C.Wire.written l; take_faults = C.Wire.take_faults l; put_faults = C.Wire.put_faults l }) (dial.new ≡ dial.old) host.now port (room_of cache.old) bytes (record { written = L.written link.old; pairs = pairs cache.old }) (record { written = L.written link.new; pairs = pairs cache.new }) (record { back = C.back dial.old; faults = C.faults dial.old }) (record { back = C.back dial.new; faults = C.faults dial.new }) result }
     ensures write_fault { result ≡ Relayed.WriteFault → Rose (L.put_faults link.old) (L.put_faults link.new) }
+    ensures kept { result ≢ Relayed.WriteFault → L.put_faults link.new ≡ L.put_faults link.old }
     ensures no_read_fault { result ≢ Relayed.ReadFault }
     ensures later { L.put_faults link.old ≤ L.put_faults link.new }
     ensures later_dial { C.faults dial.old ≤ C.faults dial.new }
@@ -156,6 +159,9 @@ fn relay<L: Link, C: Dial>(
 /// What the other server sends that is no body of DAP 2.0, a fault of the connection to it, and a body of more
 /// than 67,108,864 bytes are answered with status 502; its Error objects go out with status 400. A want of
 /// memory is answered with status 503, and leaves the cache unchanged.
+///
+/// `ReadFault` comes only where the count of the link's takes rose, and `WriteFault` only where that of its
+/// puts did; with any other answer the count is what it was.
 pub fn relay_connection<L: Link, C: Dial>(
     alloc: Global,
     link: &mut L,
@@ -179,7 +185,9 @@ pub fn relay_connection<L: Link, C: Dial>(
         → AreBacked host.now port (history (λ l. record { whole = C.Wire.whole l; left = C.Wire.left l; ended = C.Wire.ended l; written = C.Wire.written l; take_faults = C.Wire.take_faults l; put_faults = C.Wire.put_faults l }) (C.back dial.new)) (pairs cache.new) }
 
     ensures read_fault { result ≡ Relayed.ReadFault → Rose (L.take_faults link.old) (L.take_faults link.new) }
+    ensures kept_reading { result ≢ Relayed.ReadFault → L.take_faults link.new ≡ L.take_faults link.old }
     ensures write_fault { result ≡ Relayed.WriteFault → Rose (L.put_faults link.old) (L.put_faults link.new) }
+    ensures kept { result ≢ Relayed.WriteFault → L.put_faults link.new ≡ L.put_faults link.old }
     ensures later { (L.take_faults link.old ≤ L.take_faults link.new) × (L.put_faults link.old ≤ L.put_faults link.new) }
     ensures later_dial { C.faults dial.old ≤ C.faults dial.new }
     ensures room { room_of cache.new ≡ room_of cache.old }

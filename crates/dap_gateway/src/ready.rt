@@ -1,6 +1,6 @@
 //! A reply whose body stands whole in memory, for which all other memory was taken.
 
-ghost use Rattle.std.specs.Prelude.{◌≡◌, ◌≤◌, ◌++◌, [], Some, true, false, codes, length, if◌then◌else◌, ℕ, List, IfOk, OnErr, OnOk};
+ghost use Rattle.std.specs.Prelude.{◌≡◌, ◌≢◌, ◌≤◌, ◌++◌, [], Some, true, false, codes, length, if◌then◌else◌, ℕ, List, IfOk, OnErr, OnOk};
 ghost use Rattle.std.specs.Io.KnownBytes.{Appends};
 ghost use Rattle.dap_outside.specs.Causes.{HasCause, Rose};
 ghost use Rattle.dap_http.specs.Frames.{IsProperFront, framed};
@@ -67,6 +67,7 @@ impl Ready {
     pub fn put<O: Sink>(self, out: &mut O, body: &[u8], head_alone: bool, hit: bool) -> Relayed
         ensures puts { Puts (self.head ++ (if head_alone then [] else framed self.framer.chunked body.now)) self.status hit (O.written out.old) (O.written out.new) result }
         ensures fault { result ≡ Relayed.WriteFault → Rose (O.put_faults out.old) (O.put_faults out.new) }
+        ensures kept { result ≢ Relayed.WriteFault → O.put_faults out.new ≡ O.put_faults out.old }
         ensures later { O.put_faults out.old ≤ O.put_faults out.new }
         ensures beside { O.beside_writing out.new ≡ O.beside_writing out.old }
     {

@@ -1,6 +1,6 @@
 //! The replies of a gateway, each of which ends its connection.
 
-ghost use Rattle.std.specs.Prelude.{◌≡◌, ◌≤◌, ◌++◌, [], false, if◌then◌else◌};
+ghost use Rattle.std.specs.Prelude.{◌≡◌, ◌≢◌, ◌≤◌, ◌++◌, [], false, if◌then◌else◌};
 ghost use Rattle.dap_errors.specs.Causes.{http_status};
 ghost use Rattle.dap_outside.specs.Causes.{Rose};
 ghost use Rattle.dap_http.specs.Texts.{version};
@@ -19,6 +19,7 @@ use std::alloc::Global;
 fn put_whole<O: Sink>(out: &mut O, bytes: &[u8], status: u16) -> Relayed
     ensures puts { Puts bytes.now status false (O.written out.old) (O.written out.new) result }
     ensures fault { result ≡ Relayed.WriteFault → Rose (O.put_faults out.old) (O.put_faults out.new) }
+    ensures kept { result ≢ Relayed.WriteFault → O.put_faults out.new ≡ O.put_faults out.old }
     ensures later { O.put_faults out.old ≤ O.put_faults out.new }
     ensures beside { O.beside_writing out.new ≡ O.beside_writing out.old }
 {
@@ -32,6 +33,7 @@ fn put_whole<O: Sink>(out: &mut O, bytes: &[u8], status: u16) -> Relayed
 pub fn put_memory<O: Sink>(out: &mut O, head_alone: bool) -> Relayed
     ensures puts { Puts (reply head_alone 1 (refused Cause.OutOfMemory)) 503 false (O.written out.old) (O.written out.new) result }
     ensures fault { result ≡ Relayed.WriteFault → Rose (O.put_faults out.old) (O.put_faults out.new) }
+    ensures kept { result ≢ Relayed.WriteFault → O.put_faults out.new ≡ O.put_faults out.old }
     ensures later { O.put_faults out.old ≤ O.put_faults out.new }
     ensures beside { O.beside_writing out.new ≡ O.beside_writing out.old }
 {
@@ -42,6 +44,7 @@ pub fn put_memory<O: Sink>(out: &mut O, head_alone: bool) -> Relayed
 pub fn put_cause<O: Sink>(alloc: Global, out: &mut O, cause: &Cause, head_alone: bool) -> Relayed
     ensures puts { MayPut (reply head_alone 1 (refused cause.now)) (http_status cause.now) head_alone (O.written out.old) (O.written out.new) result }
     ensures fault { result ≡ Relayed.WriteFault → Rose (O.put_faults out.old) (O.put_faults out.new) }
+    ensures kept { result ≢ Relayed.WriteFault → O.put_faults out.new ≡ O.put_faults out.old }
     ensures later { O.put_faults out.old ≤ O.put_faults out.new }
     ensures beside { O.beside_writing out.new ≡ O.beside_writing out.old }
 {
@@ -55,6 +58,7 @@ pub fn put_cause<O: Sink>(alloc: Global, out: &mut O, cause: &Cause, head_alone:
 pub fn put_version<O: Sink>(alloc: Global, out: &mut O, head_alone: bool) -> Relayed
     ensures puts { MayPut (reply head_alone 1 (text Ver version)) 200 head_alone (O.written out.old) (O.written out.new) result }
     ensures fault { result ≡ Relayed.WriteFault → Rose (O.put_faults out.old) (O.put_faults out.new) }
+    ensures kept { result ≢ Relayed.WriteFault → O.put_faults out.new ≡ O.put_faults out.old }
     ensures later { O.put_faults out.old ≤ O.put_faults out.new }
     ensures beside { O.beside_writing out.new ≡ O.beside_writing out.old }
 {

@@ -24,6 +24,7 @@ returns-in-Ok g c = record {
   comes = λ bytes rest tree first head.
       c.relay_wanted.ensures.comes bytes (rw c.in-Ok.ensures (wanted c.args.host.now c.args.port bytes c.args.head.now c.args.target.now _ tree rest first head c.requires.served c.requires.target refl (search rules)));
   write_fault = c.relay_wanted.ensures.write_fault;
+  kept = c.relay_wanted.ensures.kept;
   no_read_fault = c.relay_wanted.ensures.no_read_fault;
   later = c.relay_wanted.ensures.later;
   later_dial = c.relay_wanted.ensures.later_dial;
@@ -36,6 +37,7 @@ returns-in-Err g c = record {
   comes = λ bytes rest tree first head.
       memory-comes _ _ _ _ _ bytes _ _ _ _ c.put_memory.result c.is_head-in-Err.result (inr (tree, rest, first, c.is_head-in-Err.ensures ∙ ap is_head_method head.method)) c.put_memory.ensures.puts refl refl;
   write_fault = c.put_memory.ensures.fault;
+  kept = c.put_memory.ensures.kept;
   no_read_fault = search rules;
   later = c.put_memory.ensures.later;
   later_dial = search rules;
