@@ -8,7 +8,9 @@ use arrayvec::ArrayVec;
 use dap_outside::{Dial, Door, Failed, Link, Sink, Source};
 use std::io;
 use std::io::{ErrorKind, Read, Write};
-use std::net::{Ipv4Addr, Net, OpenListener, OpenStream, Shutdown, TcpListener, TcpStream};
+use std::net::{
+    Ipv4Addr, Net, OpenListener, OpenStream, Shutdown, TcpListener, TcpStream, ToSocketAddrs,
+};
 use std::time::Duration;
 
 /// For how many seconds a peer that is served may be silent.
@@ -19,6 +21,9 @@ const WRITE: u64 = 30;
 
 /// For how many seconds a server that is asked may be silent.
 const ASKED_READ: u64 = 30;
+
+/// For how many seconds each address of a host is waited for.
+const CONNECT: u64 = 10;
 
 /// For how many milliseconds, and how many times, bytes of a link that is done are waited for.
 const DRAIN_READ: u64 = 200;
@@ -180,6 +185,18 @@ fn set_up<T: OpenStream>(stream: &T, read: u64) -> io::Result<()> {
     stream.set_write_timeout(Some(Duration::from_secs(WRITE)))
 }
 
+/// A stream to the first of a host's addresses that answers in time.
+fn stream_to<N: Net>(net: &N, host: &str, port: u16) -> io::Result<N::Stream> {
+    let mut last = io::Error::from(ErrorKind::NotFound);
+    for address in (host, port).to_socket_addrs(net)? {
+        match TcpStream::connect_timeout(net, &address, Duration::from_secs(CONNECT)) {
+            Ok(stream) => return Ok(stream),
+            Err(why) => last = why,
+        }
+    }
+    Err(last)
+}
+
 /// Ends a stream. Bytes that its peer still sends are taken for a while: a stream that is closed over
 /// them is reset, and what was written last is lost.
 fn end<T: Read + OpenStream>(stream: &mut T) {
@@ -310,7 +327,7 @@ impl<'a, N: Net> TcpDial<'a, N> {
         }
     }
 
-    /// The name of a host, and a stream to its first address that answers.
+    /// The name of a host, and a stream to its first address that answers in time.
     fn reached(&self, host: &str, port: u16) -> io::Result<(ArrayVec<u8, HOST>, N::Stream)>
         ensures { IfOk result (λ found. found.0.items ≡ host.now) }
     {
@@ -318,7 +335,7 @@ impl<'a, N: Net> TcpDial<'a, N> {
         if name.try_extend_from_slice(host.as_bytes()).is_err() {
             return Err(io::Error::from(ErrorKind::InvalidInput));
         }
-        let stream = TcpStream::connect(self.net, (host, port))?;
+        let stream = stream_to(self.net, host, port)?;
         set_up(&stream, ASKED_READ)?;
         Ok((name, stream))
     }
@@ -337,7 +354,8 @@ impl<N: Net> Dial for TcpDial<'_, N> {
 
     ghost faults = { λ d. d.faults };
 
-    /// Connects to the first address of the host that answers. A host of more than 255 bytes is a fault.
+    /// Connects to the first address of the host that answers within 10 seconds. A host of more than 255 bytes is
+    /// a fault.
     fn connect(&mut self, host: &str, port: u16) -> Result<TcpLink<N::Stream>, Failed> {
         match self.reached(host, port) {
             Ok((name, stream)) => {
