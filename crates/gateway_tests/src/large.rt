@@ -1,0 +1,67 @@
+//! Bodies at the limits of what is kept and of what is read.
+
+use crate::relaying::{Peer, are_replies, relayed, relayed_to};
+use crate::texts::GET_V;
+use dap_types::Memory;
+use std::alloc::Global;
+use std::test::Fail;
+
+/// A reply with a data response of so many bytes, eight times `eights`, in one array; the line of its declaration and
+/// the name of its dataset are these.
+fn reply(alloc: Global, line: &[u8], name: &[u8], eights: u32) -> Result<Vec<u8>, Memory> {
+    let mut reply = Vec::new(alloc);
+    reply.extend_from_slice(b"HTTP/1.1 200 OK\r\n\r\nDataset {\n    ")?;
+    reply.extend_from_slice(line)?;
+    reply.extend_from_slice(b"\n} ")?;
+    reply.extend_from_slice(name)?;
+    reply.extend_from_slice(b";\nData:\n")?;
+    let count = eights.saturating_mul(8).to_be_bytes();
+    reply.extend_from_slice(&count)?;
+    reply.extend_from_slice(&count)?;
+    for _ in 0..eights {
+        reply.extend_from_slice(b"12345678")?;
+    }
+    Ok(reply)
+}
+
+/// The DDS and the line behind it have 45 bytes and the name of the dataset, the two counts 8, and the values 1,048,520:
+/// a name of three bytes makes 1,048,576; one of four makes one byte more, and the body is asked for again.
+#[test]
+fn a_body_is_kept_up_to_its_limit(rt: HostRuntime) -> Result<(), Fail> {
+    let client: Peer = (GET_V, &[], &[]);
+    for (name, kept) in [(b"vwx".as_slice(), true), (b"vwxy".as_slice(), false)] {
+        let reply = reply(rt.alloc(), b"Byte b[n = 1048520];", name, 131_065)?;
+        let server: Peer = (reply.as_slice(), &[], &[]);
+        let done = relayed(
+            rt.alloc(),
+            &[server, server],
+            &[],
+            &[client, client],
+            1,
+            65_536,
+        )?;
+        assert!(rt; are_replies(done.ends.as_slice(), &[(200, false), (200, kept)]));
+    }
+    Ok(())
+}
+
+const TOO_LARGE: &[u8] =
+    b"Error {\n    code = 24;\n    message = \"upstream reply too large\";\n};\n";
+
+/// The DDS and the line behind it have 46 bytes and the name of the dataset, the two counts 8, and the values 67,108,808:
+/// a name of two bytes makes 67,108,864; one of three makes one byte more.
+#[test]
+fn a_body_is_read_up_to_its_limit(rt: HostRuntime) -> Result<(), Fail> {
+    let client: Peer = (GET_V, &[], &[]);
+    for (name, status) in [(b"vw".as_slice(), 200), (b"vwx".as_slice(), 502)] {
+        let reply = reply(rt.alloc(), b"Byte b[n = 67108808];", name, 8_388_601)?;
+        let server: Peer = (reply.as_slice(), &[], &[]);
+        let done = relayed_to(rt.alloc(), &[server], &[], &[client], 1, 65_536, 67_200_000)?;
+        assert!(rt; are_replies(done.ends.as_slice(), &[(status, false)]));
+        for written in done.written.items() {
+            assert_eq!(rt; written.bytes().len() > 67_108_864, status == 200);
+            assert_eq!(rt; written.bytes().ends_with(TOO_LARGE), status == 502);
+        }
+    }
+    Ok(())
+}
