@@ -83,7 +83,7 @@ fn words_that_are_no_soak(rt: HostRuntime) -> Result<(), Fail> {
         assert_eq!(rt; found.out.bytes(), b"".as_slice());
         assert_eq!(rt;
             found.err.bytes(),
-            b"usage: dap2 answer TARGET [WORKERS] | show | serve PORT WORKERS REQUESTS | fetch URL KIND CE [CE ..] | soak START SIZE | ver\n".as_slice()
+            b"usage: dap2 answer TARGET [WORKERS] | show | serve PORT WORKERS REQUESTS | fetch URL KIND CE [CE ..] | soak START SIZE | relay HOST UPPORT PORT ROOM REQUESTS | ver\n".as_slice()
         );
     }
     Ok(())

@@ -130,14 +130,14 @@ fn each_status_comes_from_its_cause(rt: HostRuntime) -> Result<(), Fail> {
             SURE,
             Status::Words,
             none,
-            b"usage: dap2 answer TARGET [WORKERS] | show | serve PORT WORKERS REQUESTS | fetch URL KIND CE [CE ..] | soak START SIZE | ver\n",
+            b"usage: dap2 answer TARGET [WORKERS] | show | serve PORT WORKERS REQUESTS | fetch URL KIND CE [CE ..] | soak START SIZE | relay HOST UPPORT PORT ROOM REQUESTS | ver\n",
         ),
         (
             &["show", "head.csv.dods"],
             SURE,
             Status::Words,
             none,
-            b"usage: dap2 answer TARGET [WORKERS] | show | serve PORT WORKERS REQUESTS | fetch URL KIND CE [CE ..] | soak START SIZE | ver\n",
+            b"usage: dap2 answer TARGET [WORKERS] | show | serve PORT WORKERS REQUESTS | fetch URL KIND CE [CE ..] | soak START SIZE | relay HOST UPPORT PORT ROOM REQUESTS | ver\n",
         ),
         (
             &["answer", "none.csv.dods"],

@@ -9,7 +9,7 @@ use Rattle.dap_client.specs.declared.outcome.Outcome.{Outcome}
 use Rattle.dap_client.specs.declared.outcome.Outcome.TheVariants as outcomes
 use Rattle.dap_commands.specs.Fetch.{FetchSays, SaysWhy, status_of}
 use Rattle.dap_commands.specs.Lines.{line_of}
-use Rattle.dap_commands.specs.Words.{AreAnswer, AreFetch, AreServe, AreSoak, HaveFetchForm, IsCommand, IsFetch, IsKindWord, IsShow, IsVer}
+use Rattle.dap_commands.specs.Words.{AreAnswer, AreFetch, AreRelay, AreServe, AreSoak, HaveFetchForm, IsCommand, IsFetch, IsKindWord, IsShow, IsVer}
 use Rattle.dap_commands.specs.declared.status.Status.{Status}
 use Rattle.dap_commands.specs.declared.status.Status.TheVariants.{Memory}
 
@@ -55,6 +55,13 @@ soak-named words start records (s, r, is, a, b) = ap (λ (l : List (List ℕ)). 
 pub no-soak : (words : List (List ℕ)) (start records : ℕ) (url : List ℕ) (kind : Kind) (ces : List (List ℕ)) → AreSoak words start records → HaveFetchForm words url kind ces → ⊥
 no-soak words start records url kind ces s f =
     let same : 115 ≡ 102 = no-words words (codes "soak") (codes "fetch") 115 102 (soak-named words start records s) (fetch-named words url kind ces f) refl refl in omega (arith, same)
+
+relay-named : (words : List (List ℕ)) (host : List ℕ) (upport port room requests : ℕ) → AreRelay words host upport port room requests → get_or words 0 [] ≡ codes "relay"
+relay-named words host upport port room requests (w1, w2, w3, w4, is, named, a, b, c, d) = ap (λ (l : List (List ℕ)). get_or l 0 []) is
+
+pub no-relay : (words : List (List ℕ)) (host : List ℕ) (upport port room requests : ℕ) (url : List ℕ) (kind : Kind) (ces : List (List ℕ)) → AreRelay words host upport port room requests → HaveFetchForm words url kind ces → ⊥
+no-relay words host upport port room requests url kind ces r f =
+    let same : 114 ≡ 102 = no-words words (codes "relay") (codes "fetch") 114 102 (relay-named words host upport port room requests r) (fetch-named words url kind ces f) refl refl in omega (arith, same)
 
 pub soak-no-answer : (words : List (List ℕ)) (target : List ℕ) (workers start records : ℕ) → AreAnswer words target workers → AreSoak words start records → ⊥
 soak-no-answer words target workers start records a s =
@@ -137,7 +144,8 @@ no-command words url kind ces form none (inr (inr (inr (inr (inl (u, mode, rest,
     let one = one-form words url other kind mode ces rest form same in
     let clash : None ≡ Some u = sym none ∙ ap url_of one.url_is ∙ is in
     cc clash
-no-command words url kind ces form none (inr (inr (inr (inr (inr (start, records, are)))))) = no-soak words start records url kind ces are form
+no-command words url kind ces form none (inr (inr (inr (inr (inr (inl (start, records, are))))))) = no-soak words start records url kind ces are form
+no-command words url kind ces form none (inr (inr (inr (inr (inr (inr (host, upport, port, room, requests, are))))))) = no-relay words host upport port room requests url kind ces are form
 
 -- what is said on another line, where the status has a line of its own
 why-other : (o : Outcome) (status : Status) (l : List ℕ) (Line Other : List ℕ → Type 0) → status ≡ status_of o → Some l ≡ line_of status → SaysWhy o Line → SaysWhy o Other

@@ -4,10 +4,12 @@ pub mod Commanding
 pub mod Connected
 pub mod FetchedWhole
 pub mod Fetching
+pub mod Gateways
 pub mod Headlines
 pub mod Obeying
 pub mod Pieces
 pub mod ReadBack
+pub mod RelayWords
 pub mod Running
 pub mod Seeds
 pub mod Shortness

@@ -19,7 +19,8 @@ soak-only s r (inr (inl is)) = cc is
 soak-only s r (inr (inr (inl (port, workers, requests, (port_word, workers_word, requests_word, is, a, b, c))))) = cc is
 soak-only s r (inr (inr (inr (inl is)))) = cc is
 soak-only s r (inr (inr (inr (inr (inl (u, kind, ces, (url, (word, is, is_kind, some, few), known))))))) = absurd (no-fetch (ap (λ words. get_or words 0 []) is))
-soak-only s r (inr (inr (inr (inr (inr (start, records, (start_word, size_word, is, a, b))))))) = (
+soak-only s r (inr (inr (inr (inr (inr (inr (host, upport, port, room, requests, (w1, w2, w3, w4, is, named, a, b, c, d)))))))) = cc is
+soak-only s r (inr (inr (inr (inr (inr (inl (start, records, (start_word, size_word, is, a, b)))))))) = (
   (start, subst (λ word. IsSeed word start) (sym (ap (λ words. get_or words 1 []) is)) a),
   (records, subst (λ word. IsNumber 4096 word records) (sym (ap (λ words. get_or words 2 []) is)) b),
 )

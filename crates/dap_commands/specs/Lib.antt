@@ -5,6 +5,7 @@ pub mod Fetch
 pub mod Headline
 pub mod Laws
 pub mod Lines
+pub mod Relay
 pub mod Serve
 pub mod ServerHalf
 pub mod Show

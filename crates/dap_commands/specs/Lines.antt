@@ -27,7 +27,7 @@ number_of Memory = 10
 -- for standard error. Those of a refusal, of a damaged file, of a bad reply and of an Error object say what is wrong
 abbrev pub line_of : Status → Option (List ℕ)
 line_of Complete = None
-line_of Words = Some (codes "usage: dap2 answer TARGET [WORKERS] | show | serve PORT WORKERS REQUESTS | fetch URL KIND CE [CE ..] | soak START SIZE | ver\n")
+line_of Words = Some (codes "usage: dap2 answer TARGET [WORKERS] | show | serve PORT WORKERS REQUESTS | fetch URL KIND CE [CE ..] | soak START SIZE | relay HOST UPPORT PORT ROOM REQUESTS | ver\n")
 line_of Refused = None
 line_of Damaged = None
 line_of BadReply = None

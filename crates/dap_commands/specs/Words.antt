@@ -1,12 +1,12 @@
 -- The words of a command line (this project's).
 use Rattle.std.specs.Prelude.{◌≡◌, ℕ, ◌^◌, ◌<◌, ◌≤◌, List, [], ◌∷◌, ◌⊎◌, IsTrue, codes, length, Some}
 use Rattle.std.specs.Str.Parse.{digits_value}
-use Rattle.dap_http.specs.Urls.{UrlParts, url_of}
+use Rattle.dap_http.specs.Urls.{UrlParts, is_host, url_of}
 use Rattle.dap_http.specs.declared.kind.Kind.{Kind}
 use Rattle.dap_http.specs.declared.kind.Kind.TheVariants as kinds
 use Rattle.viable.specs.Numerals.{is_numeral}
 use Rattle.dap_commands.specs.declared.command.Command.{Command}
-use Rattle.dap_commands.specs.declared.command.Command.TheVariants.{Answer, Show, Serve, Ver, Soak, Fetch, Other}
+use Rattle.dap_commands.specs.declared.command.Command.TheVariants.{Answer, Show, Serve, Ver, Soak, Fetch, Relay, Other}
 
 -- the word is a number from 1 to that one, in 1 to 20 digits
 abbrev pub IsNumber : ℕ → List ℕ → ℕ → Type 0
@@ -42,6 +42,13 @@ abbrev pub AreSoak : List (List ℕ) → ℕ → ℕ → Type 0
 AreSoak words start records =
     (start_word : List ℕ) × (size_word : List ℕ) × (words ≡ codes "soak" ∷ start_word ∷ size_word ∷ []) × IsSeed start_word start × IsNumber 4096 size_word records
 
+-- `relay HOST UPPORT PORT ROOM REQUESTS`
+abbrev pub AreRelay : List (List ℕ) → List ℕ → ℕ → ℕ → ℕ → ℕ → Type 0
+AreRelay words host upport port room requests =
+    (upport_word : List ℕ) × (port_word : List ℕ) × (room_word : List ℕ) × (requests_word : List ℕ)
+    × (words ≡ codes "relay" ∷ host ∷ upport_word ∷ port_word ∷ room_word ∷ requests_word ∷ [])
+    × IsTrue (is_host host) × IsNumber 65535 upport_word upport × IsNumber 65535 port_word port × IsNumber 1024 room_word room × IsNumber 1000000000 requests_word requests
+
 -- the word of a kind that is fetched
 abbrev pub IsKindWord : List ℕ → Kind → Type 0
 IsKindWord word kinds.Dds = word ≡ codes "dds"
@@ -70,8 +77,12 @@ IsServe words = (port : ℕ) × (workers : ℕ) × (requests : ℕ) × AreServe 
 abbrev pub IsSoak : List (List ℕ) → Type 0
 IsSoak words = (start : ℕ) × (records : ℕ) × AreSoak words start records
 
+-- `relay` with a host and some numbers
+abbrev pub IsRelay : List (List ℕ) → Type 0
+IsRelay words = (host : List ℕ) × (upport : ℕ) × (port : ℕ) × (room : ℕ) × (requests : ℕ) × AreRelay words host upport port room requests
+
 abbrev pub IsCommand : List (List ℕ) → Type 0
-IsCommand words = ((target : List ℕ) × (workers : ℕ) × AreAnswer words target workers) ⊎ (IsShow words ⊎ (IsServe words ⊎ (IsVer words ⊎ (IsFetch words ⊎ IsSoak words))))
+IsCommand words = ((target : List ℕ) × (workers : ℕ) × AreAnswer words target workers) ⊎ (IsShow words ⊎ (IsServe words ⊎ (IsVer words ⊎ (IsFetch words ⊎ (IsSoak words ⊎ IsRelay words)))))
 
 -- what the words ask for
 abbrev pub Reads : List (List ℕ) → Command → Type 0
@@ -81,4 +92,5 @@ Reads words (Serve port workers requests) = AreServe words port workers requests
 Reads words Ver = IsVer words
 Reads words (Soak start records) = AreSoak words start records
 Reads words (Fetch url kind ces) = HaveFetchForm words url.now kind ces.now
+Reads words (Relay host upport port room requests) = AreRelay words host.now upport port room requests
 Reads words Other = ¬ (IsCommand words)

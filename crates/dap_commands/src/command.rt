@@ -1,4 +1,6 @@
-ghost use Rattle.std.specs.Prelude.{[], ◌∷◌, ◌≤◌, codes, length, MatchOption};
+ghost use Rattle.std.specs.Prelude.{◌≡◌, [], ◌∷◌, ◌≤◌, codes, length, MatchOption};
+ghost use Rattle.std.specs.List.{list_all};
+ghost use Rattle.dap_http.specs.Urls.{is_host, is_host_byte};
 ghost use Rattle.dap_http.specs.declared.kind.Kind.{Kind};
 ghost use Rattle.dap_commands.specs.Words.{IsKindWord, Reads};
 
@@ -31,6 +33,15 @@ pub enum Command<'a> {
         url: &'a str,
         kind: Kind,
         ces: &'a [Name],
+    },
+    /// `relay HOST UPPORT PORT ROOM REQUESTS`: so many links that come in at the port, answered out of a cache
+    /// with so much room or by the server at the host and its port.
+    Relay {
+        host: &'a str,
+        upport: u16,
+        port: u16,
+        room: u32,
+        requests: u32,
     },
     /// The words are no command.
     Other,
@@ -107,6 +118,53 @@ fn serve_of<'a>(port: &str, workers: &str, requests: &str) -> Command<'a>
     }
 }
 
+/// Whether a word is a host: 1 to 255 letters, digits, `-` and `.` (RFC 1123, section 2.1).
+fn is_host(word: &[u8]) -> bool
+    ensures { result ≡ is_host word.now }
+{
+    !word.is_empty() && word.len() <= 255 && are_host_bytes(word)
+}
+
+fn are_host_bytes(word: &[u8]) -> bool
+    ensures { result ≡ list_all is_host_byte word.now }
+{
+    word.iter().all(|byte| is_host_byte(*byte))
+}
+
+fn is_host_byte(byte: u8) -> bool
+    ensures { result ≡ is_host_byte byte }
+{
+    byte.is_ascii_alphanumeric() || byte == b'-' || byte == b'.'
+}
+
+/// `relay` of a host, which may be none.
+fn relay_of<'a>(host: &'a str, upport: &str, port: &str, room: &str, requests: &str) -> Command<'a>
+    ensures { Reads (codes "relay" ∷ host.now ∷ upport.now ∷ port.now ∷ room.now ∷ requests.now ∷ []) result }
+{
+    if !is_host(host.as_bytes()) {
+        return Command::Other;
+    }
+    match number_to(upport, 65_535) {
+        Some(upport) => match number_to(port, 65_535) {
+            Some(port) => match number_to(room, 1_024) {
+                Some(room) => match number_to(requests, 1_000_000_000) {
+                    Some(requests) => Command::Relay {
+                        host,
+                        upport: upport as u16,
+                        port: port as u16,
+                        room: room as u32,
+                        requests: requests as u32,
+                    },
+                    None => Command::Other,
+                },
+                None => Command::Other,
+            },
+            None => Command::Other,
+        },
+        None => Command::Other,
+    }
+}
+
 /// The kind of which this is the word.
 fn kind_of(word: &str) -> Option<Kind>
     ensures { MatchOption result ((kind : Kind) → ¬ (IsKindWord word.now kind)) (λ kind. IsKindWord word.now kind) }
@@ -141,6 +199,13 @@ fn command_of_more<'a>(name: &str, first: &'a str, second: &'a str, rest: &'a [N
     }
     match rest {
         [third] if name == "serve" => serve_of(first, second, third.as_str()),
+        [third, fourth, fifth] if name == "relay" => relay_of(
+            first,
+            second,
+            third.as_str(),
+            fourth.as_str(),
+            fifth.as_str(),
+        ),
         _ => Command::Other,
     }
 }

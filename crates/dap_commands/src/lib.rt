@@ -9,6 +9,7 @@ mod fetch;
 mod laws;
 mod lines;
 mod numbers;
+mod relaying;
 mod runs;
 mod serving;
 mod show;
@@ -18,6 +19,7 @@ mod top;
 mod version;
 
 pub use laws::{answered_is_good, headline, visits_are_good};
+pub use relaying::relay;
 pub use runs::{run_answer, run_fetch, run_show};
 pub use serving::serve;
 pub use status::Status;

@@ -67,7 +67,7 @@ impl Status {
             | Status::BadReply
             | Status::ServerError => None,
             Status::Words => Some(
-                "usage: dap2 answer TARGET [WORKERS] | show | serve PORT WORKERS REQUESTS | fetch URL KIND CE [CE ..] | soak START SIZE | ver\n",
+                "usage: dap2 answer TARGET [WORKERS] | show | serve PORT WORKERS REQUESTS | fetch URL KIND CE [CE ..] | soak START SIZE | relay HOST UPPORT PORT ROOM REQUESTS | ver\n",
             ),
             Status::ReadFault => Some("dap2: read fault\n"),
             Status::WriteFault => Some("dap2: write fault\n"),

@@ -13,15 +13,17 @@ ghost use Rattle.dap_commands.specs.Answer as answers;
 ghost use Rattle.dap_commands.specs.Answer.{AnswerSays, HasNoText, MayAskFor, MayHaveAsked, MustResult, looks_up, most_before};
 ghost use Rattle.dap_commands.specs.Fetch.{FetchSays};
 ghost use Rattle.dap_commands.specs.Lines.{IsSaid, line_of};
+ghost use Rattle.dap_commands.specs.Relay.{RelayedLink, Relays};
 ghost use Rattle.dap_commands.specs.Show.{IsFor, ShowSays, status_for};
 ghost use Rattle.dap_commands.specs.Soak.{SoakSays};
 ghost use Rattle.dap_commands.specs.Serve.{Serves, VerSays, Visit};
-ghost use Rattle.dap_commands.specs.Words.{AreAnswer, AreFetch, AreServe, AreSoak, IsCommand, IsFetch, IsServe, IsShow, IsSoak, IsVer};
+ghost use Rattle.dap_commands.specs.Words.{AreAnswer, AreFetch, AreRelay, AreServe, AreSoak, IsCommand, IsFetch, IsRelay, IsServe, IsShow, IsSoak, IsVer};
 
 use crate::answer::answer;
 use crate::command::{Command, command_of};
 use crate::fetch::fetch;
 use crate::lines::say;
+use crate::relaying::relay;
 use crate::serving::serve;
 use crate::show::show_input;
 use crate::soaking::soak_lines;
@@ -62,12 +64,19 @@ fn obey<R: Threads + Sync, S: Shelf, I: Source, O: Sink, E: Sink, D: Door, C: Di
         (record { back = D.back door.old; faults = S.faults shelf.old; asked = S.asked shelf.old; written = O.written out.old })
         (record { back = D.back door.new; faults = S.faults shelf.new; asked = S.asked shelf.new; written = O.written out.new }) visits result
         × (visits ≢ [] → D.listens_at door.new ≡ Some port) }
+    ensures relay { (host : List ℕ) (upport port room requests : ℕ) → AreRelay words.now host upport port room requests → (relays : List (RelayedLink D.Wire C.Wire C))
+        × Relays (record { door_link = λ l. record { whole = D.Wire.whole l; left = D.Wire.left l; ended = D.Wire.ended l; written = D.Wire.written l; take_faults = D.Wire.take_faults l; put_faults = D.Wire.put_faults l }; dial_link = λ l. record { whole = C.Wire.whole l; left = C.Wire.left l; ended = C.Wire.ended l; written = C.Wire.written l; take_faults = C.Wire.take_faults l; put_faults = C.Wire.put_faults l }; dial = λ d. record { back = C.back d; faults = C.faults d }; host = host; port = upport; room = room }) requests
+        (record { back = D.back door.old; dial = dial.old; written = O.written out.old })
+        (record { back = D.back door.new; dial = dial.new; written = O.written out.new }) relays result
+        × (relays ≢ [] → D.listens_at door.new ≡ Some port) }
+    ensures relay_memory { IsRelay words.now → result ≡ Status.Memory → (door.new ≡ door.old) × (dial.new ≡ dial.old) × (out.new ≡ out.old) }
+    ensures relay_shelf { IsRelay words.now → shelf.new ≡ shelf.old }
     ensures link_fault { ¬ (IsFetch words.now) → result ≡ Status.LinkFault → Rose (D.faults door.old) (D.faults door.new) }
     ensures ver { IsVer words.now → VerSays (Appends (O.written out.old) (O.written out.new)) (AppendsFront (O.written out.old) (O.written out.new)) result }
     ensures ver_shelf { IsVer words.now → shelf.new ≡ shelf.old }
     ensures soak { (start records : ℕ) → AreSoak words.now start records → SoakSays start records (Appends (O.written out.old) (O.written out.new)) (AppendsFront (O.written out.old) (O.written out.new)) result }
     ensures soak_shelf { IsSoak words.now → shelf.new ≡ shelf.old }
-    ensures door { ¬ (IsServe words.now) → door.new ≡ door.old }
+    ensures door { ¬ (IsServe words.now) → ¬ (IsRelay words.now) → door.new ≡ door.old }
     ensures show { IsShow words.now → ShowSays (I.left input.old) (I.left input.new) (IsTrue (I.ended input.new)) (IsAtEnd (I.left input.new)) (O.written out.old) (O.written out.new)
         (λ line. IsSaid line (E.put_faults err.old) (E.put_faults err.new) (E.written err.old) (E.written err.new)) result }
     ensures most { IsShow words.now → Takes (I.left input.old) (I.left input.new) (λ taken. length taken ≤ body_limit) }
@@ -81,7 +90,7 @@ fn obey<R: Threads + Sync, S: Shelf, I: Source, O: Sink, E: Sink, D: Door, C: Di
         (λ line. IsSaid line (E.put_faults err.old) (E.put_faults err.new) (E.written err.old) (E.written err.new)) result }
     ensures fetch_link { IsFetch words.now → result ≡ Status.LinkFault → Rose (C.faults dial.old) (C.faults dial.new) }
     ensures fetch_shelf { IsFetch words.now → shelf.new ≡ shelf.old }
-    ensures dial { ¬ (IsFetch words.now) → dial.new ≡ dial.old }
+    ensures dial { ¬ (IsFetch words.now) → ¬ (IsRelay words.now) → dial.new ≡ dial.old }
     ensures words { (result ≡ Status.Words) ↔ (¬ (IsCommand words.now)) }
     ensures no_command { ¬ (IsCommand words.now) → (shelf.new ≡ shelf.old) × (out.new ≡ out.old) }
     ensures write_fault { ¬ (IsFetch words.now) → result ≡ Status.WriteFault → Rose (O.put_faults out.old) (O.put_faults out.new) }
@@ -89,7 +98,7 @@ fn obey<R: Threads + Sync, S: Shelf, I: Source, O: Sink, E: Sink, D: Door, C: Di
     ensures input_kept { result ≢ Status.ReadFault → I.take_faults input.new ≡ I.take_faults input.old }
     ensures answer_kept { (target : List ℕ) (workers : ℕ) → AreAnswer words.now target workers → result ≢ Status.ReadFault → S.faults shelf.new ≡ S.faults shelf.old }
     ensures door_kept { result ≢ Status.LinkFault → D.faults door.new ≡ D.faults door.old }
-    ensures dial_kept { result ≢ Status.LinkFault → C.faults dial.new ≡ C.faults dial.old }
+    ensures dial_kept { ¬ (IsRelay words.now) → result ≢ Status.LinkFault → C.faults dial.new ≡ C.faults dial.old }
     ensures input { ¬ (IsShow words.now) → input.new ≡ input.old }
     ensures whole { I.whole input.new ≡ I.whole input.old }
     ensures beside_input { I.beside_reading input.new ≡ I.beside_reading input.old }
@@ -108,6 +117,23 @@ fn obey<R: Threads + Sync, S: Shelf, I: Source, O: Sink, E: Sink, D: Door, C: Di
         Command::Ver => ver(out),
         Command::Soak { start, records } => soak_lines(rt, alloc, start, records, out),
         Command::Fetch { url, kind, ces } => fetch(alloc, url, kind, ces, out, err, dial),
+        Command::Relay {
+            host,
+            upport,
+            port,
+            room,
+            requests,
+        } => relay(
+            alloc,
+            host.as_bytes(),
+            upport,
+            port,
+            room,
+            requests,
+            out,
+            door,
+            dial,
+        ),
         Command::Other => Status::Words,
     }
 }
@@ -118,8 +144,10 @@ fn obey<R: Threads + Sync, S: Shelf, I: Source, O: Sink, E: Sink, D: Door, C: Di
 /// REQUESTS` serves so many links that come in at the door, and puts a line for each to `out`; `fetch URL
 /// KIND CE [CE ..]` asks for what a URL gives for each constraint over a link of the dial, and shows the
 /// replies on `out`; `soak START SIZE` generates a file of so many records, serves a part of it and reads the
-/// reply, both in memory, and puts the lines of what came; `ver` puts the version text. For each status but
-/// `Complete` a line goes to `err`.
+/// reply, both in memory, and puts the lines of what came; `relay HOST UPPORT PORT ROOM REQUESTS` answers so many
+/// links that come in at the door out of a cache or by what the server at the host and its port replies over a
+/// link of the dial, and puts a line for each; `ver` puts the version text. For each status but `Complete` a line
+/// goes to `err`.
 pub fn run<R: Threads + Sync, S: Shelf, I: Source, O: Sink, E: Sink, D: Door, C: Dial>(
     rt: &R,
     alloc: Global,
@@ -158,12 +186,24 @@ pub fn run<R: Threads + Sync, S: Shelf, I: Source, O: Sink, E: Sink, D: Door, C:
         (record { back = D.back door.old; faults = S.faults shelf.old; asked = S.asked shelf.old; written = O.written out.old })
         (record { back = D.back door.new; faults = S.faults shelf.new; asked = S.asked shelf.new; written = O.written out.new }) visits result
         × (visits ≢ [] → D.listens_at door.new ≡ Some port) }
+
+    // The links that came in at the port of `relay`, each answered out of the cache or by what the other server replied,
+    // and a line for each; where equal requests got equal replies there, as it would be without the cache. Memory is
+    // wanted before the door listens alone.
+    ensures relay { (host : List ℕ) (upport port room requests : ℕ) → AreRelay words.now host upport port room requests → (relays : List (RelayedLink D.Wire C.Wire C))
+        × Relays (record { door_link = λ l. record { whole = D.Wire.whole l; left = D.Wire.left l; ended = D.Wire.ended l; written = D.Wire.written l; take_faults = D.Wire.take_faults l; put_faults = D.Wire.put_faults l }; dial_link = λ l. record { whole = C.Wire.whole l; left = C.Wire.left l; ended = C.Wire.ended l; written = C.Wire.written l; take_faults = C.Wire.take_faults l; put_faults = C.Wire.put_faults l }; dial = λ d. record { back = C.back d; faults = C.faults d }; host = host; port = upport; room = room }) requests
+        (record { back = D.back door.old; dial = dial.old; written = O.written out.old })
+        (record { back = D.back door.new; dial = dial.new; written = O.written out.new }) relays result
+        × (relays ≢ [] → D.listens_at door.new ≡ Some port) }
+    ensures relay_memory { IsRelay words.now → result ≡ Status.Memory → (door.new ≡ door.old) × (dial.new ≡ dial.old) × (out.new ≡ out.old) }
+    ensures relay_shelf { IsRelay words.now → shelf.new ≡ shelf.old }
+
     ensures link_fault { ¬ (IsFetch words.now) → result ≡ Status.LinkFault → Rose (D.faults door.old) (D.faults door.new) }
     ensures ver { IsVer words.now → VerSays (Appends (O.written out.old) (O.written out.new)) (AppendsFront (O.written out.old) (O.written out.new)) result }
     ensures ver_shelf { IsVer words.now → shelf.new ≡ shelf.old }
     ensures soak { (start records : ℕ) → AreSoak words.now start records → SoakSays start records (Appends (O.written out.old) (O.written out.new)) (AppendsFront (O.written out.old) (O.written out.new)) result }
     ensures soak_shelf { IsSoak words.now → shelf.new ≡ shelf.old }
-    ensures door { ¬ (IsServe words.now) → door.new ≡ door.old }
+    ensures door { ¬ (IsServe words.now) → ¬ (IsRelay words.now) → door.new ≡ door.old }
 
     // What each status of `show` says of the bytes that came in, of the output and of the line on `err`; and the
     // verdict on what a source that tells has left is told, where no count rose and memory was had.
@@ -188,7 +228,7 @@ pub fn run<R: Threads + Sync, S: Shelf, I: Source, O: Sink, E: Sink, D: Door, C:
         (λ line. IsSaid line (E.put_faults err.old) (E.put_faults err.new) (E.written err.old) (E.written err.new)) result }
     ensures fetch_link { IsFetch words.now → result ≡ Status.LinkFault → Rose (C.faults dial.old) (C.faults dial.new) }
     ensures fetch_shelf { IsFetch words.now → shelf.new ≡ shelf.old }
-    ensures dial { ¬ (IsFetch words.now) → dial.new ≡ dial.old }
+    ensures dial { ¬ (IsFetch words.now) → ¬ (IsRelay words.now) → dial.new ≡ dial.old }
 
     ensures words { (result ≡ Status.Words) ↔ (¬ (IsCommand words.now)) }
     ensures no_command { ¬ (IsCommand words.now) → (shelf.new ≡ shelf.old) × (out.new ≡ out.old) }
@@ -199,7 +239,7 @@ pub fn run<R: Threads + Sync, S: Shelf, I: Source, O: Sink, E: Sink, D: Door, C:
     ensures input_kept { result ≢ Status.ReadFault → I.take_faults input.new ≡ I.take_faults input.old }
     ensures answer_kept { (target : List ℕ) (workers : ℕ) → AreAnswer words.now target workers → result ≢ Status.ReadFault → S.faults shelf.new ≡ S.faults shelf.old }
     ensures door_kept { result ≢ Status.LinkFault → D.faults door.new ≡ D.faults door.old }
-    ensures dial_kept { result ≢ Status.LinkFault → C.faults dial.new ≡ C.faults dial.old }
+    ensures dial_kept { ¬ (IsRelay words.now) → result ≢ Status.LinkFault → C.faults dial.new ≡ C.faults dial.old }
 
     ensures input { ¬ (IsShow words.now) → input.new ≡ input.old }
     ensures whole { I.whole input.new ≡ I.whole input.old }

@@ -3,8 +3,9 @@ use Rattle.std.specs.Io.KnownBytes.{Appends}
 use Rattle.dap_outside.specs.Streams.{AppendsFront}
 use Rattle.dap_commands.proofs.Answering.{same_target}
 use Rattle.dap_commands.proofs.Commanding.{same-serve}
-use Rattle.dap_commands.proofs.Fetching.{for-words, form-kind, form-of, no-answer, no-command, no-command-url, no-serve, no-show, no-soak, no-url, no-ver, soak-no-answer}
+use Rattle.dap_commands.proofs.Fetching.{for-words, form-kind, form-of, no-answer, no-command, no-command-url, no-relay, no-serve, no-show, no-soak, no-url, no-ver, soak-no-answer}
 use Rattle.dap_commands.proofs.Obeying.{answer-no-words, serve-for, serve-no-words}
+use Rattle.dap_commands.proofs.RelayWords.{relay-as, relay-for, relay-host, relays-no-words}
 use Rattle.dap_commands.proofs.Seeds.{soak-for}
 use Rattle.dap_commands.specs.Answer.{AnswerSays, MustResult, most_before}
 use Rattle.dap_commands.specs.Lines.{IsSaid}
@@ -96,7 +97,7 @@ pub returns-in-Fetch-clause-fetch : goal.returns-in-Fetch-clause-fetch
 returns-in-Fetch-clause-fetch g c = λ u kind ces are. for-words _ _ _ _ _ _ _ u _ _ _ _ _ _ c.in-Fetch.ensures c.fetch.ensures.says are
 
 pub returns-in-Fetch-clause-dial : goal.returns-in-Fetch-clause-dial
-returns-in-Fetch-clause-dial g c = λ no_fetch. (c.fetch.ensures.untouched (no-url _ _ _ _ c.in-Fetch.ensures no_fetch)).0
+returns-in-Fetch-clause-dial g c = λ no_fetch no_relay. (c.fetch.ensures.untouched (no-url _ _ _ _ c.in-Fetch.ensures no_fetch)).0
 
 pub returns-in-Fetch-clause-link_fault : goal.returns-in-Fetch-clause-link_fault
 returns-in-Fetch-clause-link_fault g c = λ no_fetch is. let clash : Words ≡ LinkFault = sym (c.fetch.ensures.words.1 (no-url _ _ _ _ c.in-Fetch.ensures no_fetch)) ∙ is in cc clash
@@ -179,10 +180,10 @@ returns-in-Soak-clause-soak g c = λ start records are.
     c.in-Soak.ensures c.soak_lines.ensures.says are
 
 pub returns-in-Soak-clause-words : goal.returns-in-Soak-clause-words
-returns-in-Soak-clause-words g c = (λ is command. c.soak_lines.ensures.words is, λ no_one. absurd (no_one (inr (inr (inr (inr (inr (_, _, c.in-Soak.ensures))))))))
+returns-in-Soak-clause-words g c = (λ is command. c.soak_lines.ensures.words is, λ no_one. absurd (no_one (inr (inr (inr (inr (inr (inl (_, _, c.in-Soak.ensures)))))))))
 
 pub returns-in-Soak-clause-no_command : goal.returns-in-Soak-clause-no_command
-returns-in-Soak-clause-no_command g c = λ no_one. absurd (no_one (inr (inr (inr (inr (inr (_, _, c.in-Soak.ensures)))))))
+returns-in-Soak-clause-no_command g c = λ no_one. absurd (no_one (inr (inr (inr (inr (inr (inl (_, _, c.in-Soak.ensures))))))))
 
 pub returns-in-Answer-clause-soak : goal.returns-in-Answer-clause-soak
 returns-in-Answer-clause-soak g c = λ start records are. absurd (soak-no-answer _ _ _ start records c.in-Answer.ensures.0 are)
@@ -197,7 +198,7 @@ pub returns-in-Fetch-clause-soak_shelf : goal.returns-in-Fetch-clause-soak_shelf
 returns-in-Fetch-clause-soak_shelf g c = λ is. let (start, records, are) = is in absurd (no-soak _ start records _ _ _ are c.in-Fetch.ensures)
 
 pub returns-in-Other-clause-soak : goal.returns-in-Other-clause-soak
-returns-in-Other-clause-soak g c = λ start records are. absurd (c.in-Other.ensures (inr (inr (inr (inr (inr (start, records, are)))))))
+returns-in-Other-clause-soak g c = λ start records are. absurd (c.in-Other.ensures (inr (inr (inr (inr (inr (inl (start, records, are))))))))
 
 pub returns-in-Answer-clause-answer_asks_first : goal.returns-in-Answer-clause-answer_asks_first
 returns-in-Answer-clause-answer_asks_first g c = λ target workers are none.
@@ -208,3 +209,43 @@ returns-in-Fetch-clause-answer_asks_first g c = λ target workers are. absurd (n
 
 pub returns-in-Soak-clause-answer_asks_first : goal.returns-in-Soak-clause-answer_asks_first
 returns-in-Soak-clause-answer_asks_first g c = λ target workers are. absurd (soak-no-answer _ target workers _ _ are c.in-Soak.ensures)
+
+pub relay-requires-clause-host : goal.relay-requires-clause-host
+relay-requires-clause-host g c = relay-host _ _ _ _ _ _ _ c.in-Relay.ensures c.as_bytes.ensures.value
+
+pub returns-in-Relay-clause-relay : goal.returns-in-Relay-clause-relay
+returns-in-Relay-clause-relay g c = λ host upport port room requests are.
+    relay-for _ _ _ _ _ _ _ _ _ _ _ _ _ _ _ _ _ _ (relay-as _ _ _ _ _ _ _ c.in-Relay.ensures c.as_bytes.ensures.value) c.relay.ensures.relayed are
+
+pub returns-in-Relay-clause-door : goal.returns-in-Relay-clause-door
+returns-in-Relay-clause-door g c = λ no_serve no_relay. absurd (no_relay (_, _, _, _, _, c.in-Relay.ensures))
+
+pub returns-in-Relay-clause-dial : goal.returns-in-Relay-clause-dial
+returns-in-Relay-clause-dial g c = λ no_fetch no_relay. absurd (no_relay (_, _, _, _, _, c.in-Relay.ensures))
+
+pub returns-in-Relay-clause-dial_kept : goal.returns-in-Relay-clause-dial_kept
+returns-in-Relay-clause-dial_kept g c = λ no_relay. absurd (no_relay (_, _, _, _, _, c.in-Relay.ensures))
+
+pub returns-in-Relay-clause-words : goal.returns-in-Relay-clause-words
+returns-in-Relay-clause-words g c = (
+  λ is command. relays-no-words _ _ _ _ _ _ c.relay.ensures.relayed.1 is,
+  λ no_one. absurd (no_one (inr (inr (inr (inr (inr (inr (_, _, _, _, _, c.in-Relay.ensures)))))))),
+)
+
+pub returns-in-Relay-clause-no_command : goal.returns-in-Relay-clause-no_command
+returns-in-Relay-clause-no_command g c = λ no_one. absurd (no_one (inr (inr (inr (inr (inr (inr (_, _, _, _, _, c.in-Relay.ensures))))))))
+
+pub returns-in-Relay-clause-fetch : goal.returns-in-Relay-clause-fetch
+returns-in-Relay-clause-fetch g c = λ u kind ces are. let (url, form) = form-of _ u kind ces are in absurd (no-relay _ _ _ _ _ _ url kind ces c.in-Relay.ensures form)
+
+pub returns-in-Relay-clause-fetch_link : goal.returns-in-Relay-clause-fetch_link
+returns-in-Relay-clause-fetch_link g c = λ is. let (u, kind, ces, are) = is in let (url, form) = form-of _ u kind ces are in absurd (no-relay _ _ _ _ _ _ url kind ces c.in-Relay.ensures form)
+
+pub returns-in-Fetch-clause-relay : goal.returns-in-Fetch-clause-relay
+returns-in-Fetch-clause-relay g c = λ host upport port room requests are. absurd (no-relay _ host upport port room requests _ _ _ are c.in-Fetch.ensures)
+
+pub returns-in-Fetch-clause-relay_memory : goal.returns-in-Fetch-clause-relay_memory
+returns-in-Fetch-clause-relay_memory g c = λ is. let (host, upport, port, room, requests, are) = is in absurd (no-relay _ host upport port room requests _ _ _ are c.in-Fetch.ensures)
+
+pub returns-in-Other-clause-relay : goal.returns-in-Other-clause-relay
+returns-in-Other-clause-relay g c = λ host upport port room requests are. absurd (c.in-Other.ensures (inr (inr (inr (inr (inr (inr (host, upport, port, room, requests, are))))))))
