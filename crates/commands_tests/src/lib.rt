@@ -8,6 +8,8 @@ mod counted;
 #[cfg(test)]
 mod fetch_tests;
 #[cfg(test)]
+mod relay_tests;
+#[cfg(test)]
 mod running;
 #[cfg(test)]
 mod serve_tests;

@@ -23,7 +23,8 @@ pub fn numbers(alloc: Global, all: &[u64]) -> Result<List<u64>, Memory> {
     Ok(list)
 }
 
-fn named(alloc: Global, words: &[&str]) -> Result<List<Name>, Memory> {
+/// These words.
+pub fn named(alloc: Global, words: &[&str]) -> Result<List<Name>, Memory> {
     let mut names = List::new(alloc);
     for word in words {
         names.push(Name::new(alloc, *word)?)?;
