@@ -1,14 +1,13 @@
 -- A pair that was looked up, once it stands in front; and a reply that stands ready with its body.
-use Rattle.std.proofs.Common.{◌≡◌, ◌∷◌, ◌++◌, ℕ, Bool, true, false, List, [], cond, Option, Some, None, if◌then◌else◌, refl, ap, ◌∙◌}
+use Rattle.std.proofs.Common.{◌≡◌, ◌∷◌, ℕ, Bool, true, false, List, [], cond, Option, Some, None, refl, ap}
 use Rattle.std.specs.Prelude.{IsSome}
 use Rattle.std.specs.Map.{lookup, lookup_entry}
 use Rattle.std.specs.Str.{bytes_eq}
 use Rattle.std.proofs.lemmas.Slice.Eq.{bytes_eq-Decides}
 use Rattle.lru.specs.LruCache.{promoted}
-use Rattle.dap_http.specs.Frames.{framed}
 use Rattle.dap_http.specs.declared.kind.Kind.{Kind}
 use Rattle.dap_gateway.proofs.Sending.{puts-as, status-as}
-use Rattle.dap_gateway.specs.Given.{head_of, reply, text}
+use Rattle.dap_gateway.specs.Given.{reply, server_error, text}
 use Rattle.dap_gateway.specs.Turns.{IsReady, Puts, ready_text}
 use Rattle.dap_gateway.specs.declared.ready.Ready.{Ready}
 use Rattle.dap_gateway.specs.declared.relayed.Relayed.{Relayed}
@@ -43,9 +42,14 @@ some-promoted test es some = go (lookup test es) refl some where
 pub lookup-front : (key body : List ℕ) (ps : List Pair) → lookup (bytes_eq key) ((key, body) ∷ ps) ≡ Some body
 lookup-front key body ps = rw ((bytes_eq-Decides key key).1 refl) refl
 
-pub ready-puts : (kind : Kind) (minor : ℕ) (body : List ℕ) (r : Ready) (h hit : Bool) (a b : Option (List ℕ)) (result : Relayed) → IsReady kind minor body r
-    → Puts (ready_text r h body) r.status hit a b result → Puts (reply h minor (text kind body)) 200 hit a b result
-ready-puts kind minor body r h hit a b result (head, chunked, status) puts =
+pub ready-puts : (kind : Kind) (minor : ℕ) (body : List ℕ) (r : Ready) (h hit : Bool) (a b : Option (List ℕ)) (result : Relayed) → IsReady kind minor h body r
+    → Puts (ready_text r body) r.status hit a b result → Puts (reply h minor (text kind body)) 200 hit a b result
+ready-puts kind minor body r h hit a b result (is, status) puts =
     status-as _ r.status 200 hit a b result status
-    (puts-as (ready_text r h body) (reply h minor (text kind body)) r.status hit a b result
-    (ap (λ t. t ++ (if h then [] else framed r.framer.chunked body)) head ∙ ap (λ f. head_of minor (text kind body) ++ (if h then [] else framed f body)) chunked) puts)
+    (puts-as (ready_text r body) (reply h minor (text kind body)) r.status hit a b result is puts)
+
+pub object-puts : (minor : ℕ) (object : List ℕ) (r : Ready) (h hit : Bool) (a b : Option (List ℕ)) (result : Relayed) → ready_text r object ≡ reply h minor (server_error object) → r.status ≡ 400
+    → Puts (ready_text r object) r.status hit a b result → Puts (reply h minor (server_error object)) 400 hit a b result
+object-puts minor object r h hit a b result is status puts =
+    status-as _ r.status 400 hit a b result status
+    (puts-as (ready_text r object) (reply h minor (server_error object)) r.status hit a b result is puts)

@@ -11,7 +11,8 @@ use Rattle.dap_outside.specs.Links.{LinkState}
 use Rattle.dap_http.specs.Frames.{IsProperFront, framed}
 use Rattle.dap_http.specs.Requests.{FirstRequest, HasNoRequest, IsBadRequest, IsGone, IsTooLong, is_other}
 use Rattle.dap_http.specs.Targets.{Asked, target_of}
-use Rattle.dap_http.specs.Texts.{is_chunked, version}
+use Rattle.dap_http.specs.Texts.{version}
+use Rattle.dap_http.specs.declared.framer.Framer.{Framer}
 use Rattle.dap_http.specs.declared.kind.Kind.{Kind}
 use Rattle.dap_http.specs.declared.kind.Kind.TheVariants.{Ver}
 use Rattle.dap_http.specs.declared.target.Target.{Target}
@@ -19,7 +20,7 @@ use Rattle.dap_client.specs.Fetched.{DialState}
 use Rattle.dap_client.specs.Replies.{form_of}
 use Rattle.dap_client.specs.declared.body_outcome.BodyOutcome.{BodyOutcome}
 use Rattle.dap_client.specs.declared.body_outcome.BodyOutcome.TheVariants.{Memory}
-use Rattle.dap_gateway.specs.Given.{Given, given_for, head_of, refused, reply, server_error, status_of, text}
+use Rattle.dap_gateway.specs.Given.{Given, given_for, refused, reply, server_error, status_of, text}
 use Rattle.dap_gateway.specs.Upstream.{Dials, key_of}
 use Rattle.dap_gateway.specs.declared.ready.Ready.{Ready}
 use Rattle.dap_gateway.specs.declared.relayed.Relayed.{Relayed}
@@ -169,12 +170,17 @@ abbrev pub Relays : {W : Type 0} → (W → LinkState) → Type 0 → List ℕ �
 Relays state NotCalled host port room bytes ended before now a b result =
     IsUnrelayed NotCalled bytes ended before now result ⊎ ComesTo state NotCalled host port room bytes before now a b result
 
--- a reply of a kept or a good body, but for the body
-abbrev pub IsReady : Kind → ℕ → List ℕ → Ready → Type 0
-IsReady kind minor body r = (r.head ≡ head_of minor (text kind body)) × (r.framer.chunked ≡ is_chunked kind minor) × (r.status ≡ 200)
+-- what is put behind the first of a reply that stands ready: the body, where it is large
+abbrev pub rest_text : Option Framer → List ℕ → List ℕ
+rest_text None body = []
+rest_text (Some framer) body = framed framer.chunked body
 
-abbrev pub ready_text : Ready → Bool → List ℕ → List ℕ
-ready_text r head_alone body = r.head ++ (if head_alone then [] else framed r.framer.chunked body)
+abbrev pub ready_text : Ready → List ℕ → List ℕ
+ready_text r body = r.first ++ rest_text r.rest body
+
+-- a reply of a kept or a good body, or its head alone
+abbrev pub IsReady : Kind → ℕ → Bool → List ℕ → Ready → Type 0
+IsReady kind minor head_alone body r = (ready_text r body ≡ reply head_alone minor (text kind body)) × (r.status ≡ 200)
 
 -- or in its place that for a want of memory
 abbrev pub MayPut : List ℕ → ℕ → Bool → Option (List ℕ) → Option (List ℕ) → Relayed → Type 0

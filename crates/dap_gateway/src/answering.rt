@@ -33,7 +33,7 @@ fn put_kept<O: Sink>(
 ) -> Relayed
     requires { IsSome (lookup (bytes_eq wanted.now.key) (pairs cache.now)) }
     ensures puts { (body : List ℕ) → lookup (bytes_eq wanted.now.key) (pairs cache.now) ≡ Some body →
-        Puts (ready_text ready wanted.now.head_alone body) ready.status hit (O.written out.old) (O.written out.new) result }
+        Puts (ready_text ready body) ready.status hit (O.written out.old) (O.written out.new) result }
     ensures fault { result ≡ Relayed.WriteFault → Rose (O.put_faults out.old) (O.put_faults out.new) }
     ensures kept { result ≢ Relayed.WriteFault → O.put_faults out.new ≡ O.put_faults out.old }
     ensures no_read_fault { result ≢ Relayed.ReadFault }
@@ -41,7 +41,7 @@ fn put_kept<O: Sink>(
     ensures beside { O.beside_writing out.new ≡ O.beside_writing out.old }
 {
     match cache.body(wanted.key.bytes()) {
-        Some(body) => ready.put(out, body, wanted.head_alone, hit),
+        Some(body) => ready.put(out, body, hit),
         None => unreachable!(),
     }
 }
@@ -68,13 +68,13 @@ pub fn relay_hit<O: Sink>(alloc: Global, out: &mut O, cache: &mut Cache, wanted:
     }
 }
 
-/// All but the body of the reply with the body that is kept for a request.
+/// The reply with the body that is kept for a request, or its head alone.
 fn ready_for(alloc: Global, cache: &Cache, wanted: &Wanted) -> Result<Ready, Memory>
     requires { IsSome (lookup (bytes_eq wanted.now.key) (pairs cache.now)) }
-    ensures { (body : List ℕ) → lookup (bytes_eq wanted.now.key) (pairs cache.now) ≡ Some body → IfOk result (λ r. IsReady wanted.now.kind wanted.now.minor body r) }
+    ensures { (body : List ℕ) → lookup (bytes_eq wanted.now.key) (pairs cache.now) ≡ Some body → IfOk result (λ r. IsReady wanted.now.kind wanted.now.minor wanted.now.head_alone body r) }
 {
     match cache.body(wanted.key.bytes()) {
-        Some(body) => Ready::body(alloc, wanted.kind, body, wanted.minor),
+        Some(body) => Ready::body(alloc, wanted.kind, body, wanted.minor, wanted.head_alone),
         None => unreachable!(),
     }
 }
@@ -97,11 +97,17 @@ pub fn relay_good<O: Sink>(
     ensures room { room_of cache.new ≡ room_of cache.old }
     ensures beside { O.beside_writing out.new ≡ O.beside_writing out.old }
 {
-    let Ok(ready) = Ready::body(alloc, wanted.kind, body.bytes(), wanted.minor) else {
+    let Ok(ready) = Ready::body(
+        alloc,
+        wanted.kind,
+        body.bytes(),
+        wanted.minor,
+        wanted.head_alone,
+    ) else {
         return put_memory(out, wanted.head_alone);
     };
     if body.bytes().len() > MOST_KEPT {
-        return ready.put(out, body.bytes(), wanted.head_alone, false);
+        return ready.put(out, body.bytes(), false);
     }
     match cache.keep(alloc, wanted.key.bytes(), body) {
         Ok(()) => put_kept(ready, out, cache, wanted, false),
@@ -119,8 +125,8 @@ pub fn relay_object<O: Sink>(alloc: Global, out: &mut O, wanted: &Wanted, object
     ensures later { O.put_faults out.old ≤ O.put_faults out.new }
     ensures beside { O.beside_writing out.new ≡ O.beside_writing out.old }
 {
-    match Ready::object(alloc, object) {
-        Ok(ready) => ready.put(out, object, wanted.head_alone, false),
+    match Ready::object(alloc, object, wanted.head_alone) {
+        Ok(ready) => ready.put(out, object, false),
         Err(Memory) => put_memory(out, wanted.head_alone),
     }
 }

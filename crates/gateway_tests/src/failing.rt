@@ -82,5 +82,10 @@ fn each_call_of_the_clients_link(rt: HostRuntime) -> Result<(), Fail> {
         let found = ends(rt.alloc(), (GET_BUOYS, &[], &[number]))?;
         assert_eq!(rt; found, (Relayed::WriteFault, hit));
     }
+    // and no call more: a head and its body go out in one piece
+    let takes = [pieces(GET_BUOYS.len()).saturating_add(1)];
+    let puts = [pieces(BUOYS.len()).saturating_add(1)];
+    let found = ends(rt.alloc(), (GET_BUOYS, &takes, &puts))?;
+    assert_eq!(rt; found, (miss, hit));
     Ok(())
 }
