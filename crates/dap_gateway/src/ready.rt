@@ -54,7 +54,7 @@ impl Ready {
         let chunked = kind.is_chunked(minor);
         let len = stated_length(kind, body);
         let head = reply_head(alloc, 200, kind.description(), len, chunked, true)?;
-        ready(alloc, 200, head, chunked, body, head_alone)
+        prepared(alloc, 200, head, chunked, body, head_alone)
     }
 
     /// For an Error object of the other server, which goes out as a bad request, or its head alone. Fails
@@ -65,7 +65,7 @@ impl Ready {
     {
         let len = object.len() as u64;
         let head = reply_head(alloc, 400, b"dods_error", Some(len), false, true)?;
-        ready(alloc, 400, head, false, object, head_alone)
+        prepared(alloc, 400, head, false, object, head_alone)
     }
 
     /// Puts the reply, in one piece where its body is small. Takes no memory.
@@ -89,7 +89,7 @@ impl Ready {
 }
 
 /// A head, and what follows it unless the head alone is wanted.
-fn ready(
+fn prepared(
     alloc: Global,
     status: u16,
     head: Bytes,
