@@ -1,11 +1,10 @@
 //! A reply whose body stands whole in memory, for which all other memory was taken.
 
-ghost use Rattle.std.specs.Prelude.{◌≡◌, ◌≢◌, ◌≤◌, ◌++◌, [], Some, true, false, codes, length, if◌then◌else◌, ℕ, List, IfOk, OnErr, OnOk};
+ghost use Rattle.std.specs.Prelude.{◌≡◌, ◌≢◌, ◌≤◌, ◌++◌, [], if◌then◌else◌, ℕ, List, IfOk, OnErr, OnOk};
 ghost use Rattle.std.specs.Io.KnownBytes.{Appends};
 ghost use Rattle.dap_outside.specs.Causes.{HasCause, Rose};
 ghost use Rattle.dap_http.specs.Frames.{IsProperFront, framed};
 ghost use Rattle.dap_http.specs.Sent.{stated_length};
-ghost use Rattle.dap_http.specs.Texts.{description_of, head_text, is_chunked};
 ghost use Rattle.dap_gateway.specs.Given.{reply, server_error, text};
 ghost use Rattle.dap_gateway.specs.Turns.{Puts, ready_text, rest_text};
 
