@@ -1,7 +1,7 @@
 //! Bodies at the limits of what is kept and of what is read.
 
 use crate::relaying::{Peer, are_replies, relayed, relayed_to};
-use crate::texts::GET_V;
+use crate::texts::{GET_V, HEAD};
 use dap_types::Memory;
 use std::alloc::Global;
 use std::test::Fail;
@@ -41,6 +41,27 @@ fn a_body_is_kept_up_to_its_limit(rt: HostRuntime) -> Result<(), Fail> {
             65_536,
         )?;
         assert!(rt; are_replies(done.ends.as_slice(), &[(200, false), (200, kept)]));
+    }
+    Ok(())
+}
+
+/// The DDS and the line behind it have 43 bytes and the name of the dataset, the two counts 8, and the values 65,480: a
+/// name of five bytes makes 65,536, which is one chunk and goes out in one piece with its head; one of six makes one byte
+/// more, in two chunks.
+#[test]
+fn a_body_is_one_piece_up_to_its_limit(rt: HostRuntime) -> Result<(), Fail> {
+    let client: Peer = (GET_V, &[], &[]);
+    for (name, framed) in [
+        (b"vwxyz".as_slice(), 65_550),
+        (b"vwxyza".as_slice(), 65_556),
+    ] {
+        let reply = reply(rt.alloc(), b"Byte b[n = 65480];", name, 8_185)?;
+        let server: Peer = (reply.as_slice(), &[], &[]);
+        let done = relayed(rt.alloc(), &[server], &[], &[client, client], 1, 65_536)?;
+        assert!(rt; are_replies(done.ends.as_slice(), &[(200, false), (200, true)]));
+        for written in done.written.items() {
+            assert_eq!(rt; written.bytes().len(), HEAD.len().saturating_add(framed));
+        }
     }
     Ok(())
 }
