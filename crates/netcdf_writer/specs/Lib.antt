@@ -1,0 +1,11 @@
+pub mod Names
+pub mod Variables
+pub mod Causes
+pub mod Printer
+pub mod File
+pub mod Outcomes
+pub mod Saved
+pub mod Saving
+pub mod Fetching
+pub mod Laws
+pub mod inner

@@ -1,0 +1,7 @@
+pub mod Undoing
+pub mod Tables
+pub mod Planned
+pub mod Printing
+pub mod Parts
+pub mod Writing
+pub mod Reading

@@ -1,0 +1,226 @@
+//! Saving what a source or a server sends.
+
+ghost use Rattle.std.specs.Prelude.{◌≡◌, ◌+◌, ◌<◌, ◌≤◌, ◌^◌, ◌++◌, ℕ, [], List, Some, IfOk, IfErr, IsTrue, OnErr, OnOk, length, not, take, true, false};
+ghost use Rattle.std.specs.Io.KnownBytes.{Consumes, IsAtEnd};
+ghost use Rattle.dap_outside.specs.Causes.{HasCause, Rose};
+ghost use Rattle.dap_client.specs.Shows.{Takes};
+ghost use Rattle.dap_client.specs.Verdict.{is_fault};
+ghost use Rattle.dap_model.specs.Body.{IsBody};
+ghost use Rattle.dap_types.specs.Model.{Dataset, Tree};
+ghost use Rattle.netcdf_writer.specs.Outcomes.{OnLinkFault, OnReadFault, OnWriteFault, WhereNothingPut};
+ghost use Rattle.netcdf_writer.specs.Saving.{Judges, Saves, IsReadWhole};
+ghost use Rattle.netcdf_writer.specs.inner.Reading.{HasNoFault, IsKept, IsOfLarge, IsShown, OnFailed, Refuses, TakesBody, TakesPiece, bad_or_large, large_of};
+ghost use Rattle.netcdf_writer.specs.declared.saving.Halt.TheVariants.{Failed as FailedRead, Memory as MemoryWanted};
+
+use crate::{Stored, write_cdf};
+use dap_client::{Outcome, show};
+use dap_outside::{Failed, MemSource, Sink, Source};
+use dap_types::{Bytes, List, Memory};
+use std::alloc::Global;
+use xdr_decode::{AllRefusal, Bad, BadField, Filled, decode_all};
+
+/// The most bytes of a body that is saved.
+const MOST_BODY: usize = 16_777_216;
+
+/// How many bytes are taken at once.
+const PIECE: usize = 65536;
+
+/// A sink that keeps nothing.
+#[derive(Drop)]
+struct Nowhere {}
+
+impl Sink for Nowhere {
+    ghost use Rattle.std.specs.Prelude.{ℕ, List, None};
+
+    ghost Rest = { Unit {0} };
+
+    ghost written = { λ _. None };
+
+    ghost put_faults = { λ _. 0 };
+
+    ghost beside_writing = { λ _. tt };
+
+    fn put(&mut self, bytes: &[u8]) -> Result<usize, Failed> {
+        Ok(bytes.len())
+    }
+}
+
+/// Why no body was read.
+#[derive(Debug, Drop)]
+enum Halt {
+    Failed,
+    Memory,
+}
+
+impl From<Failed> for Halt {
+    ghost from_gives = { λ _ e. e ≡ FailedRead };
+
+    fn from(_: Failed) -> Self {
+        Halt::Failed
+    }
+}
+
+impl From<Memory> for Halt {
+    ghost from_gives = { λ _ e. e ≡ MemoryWanted };
+
+    fn from(_: Memory) -> Self {
+        Halt::Memory
+    }
+}
+
+/// Room for a piece.
+fn piece_room(alloc: Global) -> Result<Vec<u8>, Memory>
+    ensures { IfOk result (λ room. length room.items ≡ 65536) }
+{
+    let mut room = Vec::new(alloc);
+    room.resize(PIECE, 0u8)?;
+    Ok(room)
+}
+
+/// Takes a piece of a body of which some bytes were taken. False says that the source is at its end.
+fn take_piece<I: Source>(body: &mut Vec<u8>, room: &mut [u8], source: &mut I) -> Result<bool, Halt>
+    requires room { length room.old ≡ 65536 }
+    requires few { length body.old.items ≤ 16777216 }
+    ensures takes { TakesPiece (I.left source.old) (I.left source.new) (IsTrue (I.ended source.new)) body.old.items body.new.items result }
+    ensures more { IfOk result (λ more. more ≡ true → length body.old.items < length body.new.items) }
+    ensures within { OnOk result (length body.new.items ≤ 16777217) }
+    ensures failed { OnFailed (Rose (I.take_faults source.old) (I.take_faults source.new)) result }
+    ensures later { I.take_faults source.old ≤ I.take_faults source.new }
+    ensures kept { IsKept (I.take_faults source.old) (I.take_faults source.new) result }
+    ensures whole { I.whole source.new ≡ I.whole source.old }
+    ensures beside { I.beside_reading source.new ≡ I.beside_reading source.old }
+{
+    let most = PIECE.min(MOST_BODY + 1 - body.len());
+    let count = source.take(&mut room[..most])?;
+    if count == 0 {
+        return Ok(false);
+    }
+    match body.extend_from_slice(&room[..count]) {
+        Ok(()) => Ok(true),
+        Err(_) => Err(Halt::Memory),
+    }
+}
+
+/// The bytes of a source, or one more than a body may have that is saved.
+fn read_body<I: Source>(alloc: Global, source: &mut I) -> Result<Vec<u8>, Halt>
+    ensures takes { TakesBody (I.left source.old) (I.left source.new) (IsTrue (I.ended source.new)) result }
+    ensures failed { OnFailed (Rose (I.take_faults source.old) (I.take_faults source.new)) result }
+    ensures later { I.take_faults source.old ≤ I.take_faults source.new }
+    ensures kept { IsKept (I.take_faults source.old) (I.take_faults source.new) result }
+    ensures whole { I.whole source.new ≡ I.whole source.old }
+    ensures beside { I.beside_reading source.new ≡ I.beside_reading source.old }
+{
+    let mut body = Vec::new(alloc);
+    let mut room = piece_room(alloc)?;
+    while body.len() <= MOST_BODY {
+        if !take_piece(&mut body, &mut room, source)? {
+            return Ok(body);
+        }
+    }
+    Ok(body)
+}
+
+/// What a body is, by `show`, of which nothing is kept.
+fn judged(alloc: Global, body: &[u8]) -> Outcome
+    ensures { IsShown body.now result }
+{
+    let Ok(bytes) = Bytes::new(alloc, body) else {
+        return Outcome::Memory;
+    };
+    let mut source = MemSource::new(bytes, 65536, List::new(alloc));
+    show(alloc, &mut source, &mut Nowhere {})
+}
+
+/// The outcome of a body that is no data response.
+fn refused(alloc: Global, body: &[u8]) -> Stored
+    requires { (d : Dataset) (ts : List Tree) → ¬ (IsBody body.now d ts) }
+    ensures { Refuses body.now result }
+{
+    match judged(alloc, body) {
+        Outcome::ServerError { code, message } => Stored::ServerError { code, message },
+        Outcome::BadReply(field) => Stored::BadReply(field),
+        Outcome::Memory => Stored::Memory,
+        Outcome::Complete { .. } => unreachable!(),
+        Outcome::ReadFault => unreachable!(),
+        Outcome::WriteFault => unreachable!(),
+        Outcome::LinkFault => unreachable!(),
+    }
+}
+
+/// The outcome of a longer body whose first bytes have this bad field.
+fn bad_or_large(field: BadField) -> Stored
+    ensures { result ≡ bad_or_large field }
+{
+    if field.kind == Bad::Cut {
+        return Stored::BodyTooLarge;
+    }
+    Stored::BadReply(field)
+}
+
+/// The outcome of a longer body, by that of its first bytes alone.
+fn large_of(front: Outcome) -> Stored
+    requires { HasNoFault front }
+    ensures { result ≡ large_of front }
+{
+    match front {
+        Outcome::BadReply(field) => bad_or_large(field),
+        Outcome::Complete { .. } => Stored::BodyTooLarge,
+        Outcome::ServerError { .. } => Stored::BodyTooLarge,
+        Outcome::Memory => Stored::Memory,
+        Outcome::ReadFault => unreachable!(),
+        Outcome::WriteFault => unreachable!(),
+        Outcome::LinkFault => unreachable!(),
+    }
+}
+
+/// The outcome of a body of more bytes than are saved, whose first bytes alone decide.
+fn save_large(alloc: Global, body: &[u8]) -> Stored
+    requires { 16777216 < length body.now }
+    ensures { IsOfLarge body.now result }
+{
+    large_of(judged(alloc, &body[..MOST_BODY]))
+}
+
+/// Saves a body.
+pub(crate) fn save_body<O: Sink>(alloc: Global, body: &[u8], out: &mut O) -> Stored
+    ensures judges { Judges body.now (O.written out.old) (O.written out.new) result }
+    ensures write_fault { OnWriteFault (Rose (O.put_faults out.old) (O.put_faults out.new)) result }
+    ensures later { O.put_faults out.old ≤ O.put_faults out.new }
+    ensures kept { ¬ (result ≡ Stored.WriteFault) → O.put_faults out.new ≡ O.put_faults out.old }
+    ensures beside { O.beside_writing out.new ≡ O.beside_writing out.old }
+{
+    if body.len() > MOST_BODY {
+        return save_large(alloc, body);
+    }
+    match decode_all(alloc, body) {
+        Ok(filled) => write_cdf(alloc, &filled, out),
+        Err(AllRefusal::Memory) => Stored::Memory,
+        Err(AllRefusal::Refused(_)) => refused(alloc, body),
+    }
+}
+
+/// Saves the data response (DAP 2.0, DODS) to the end of a source as a netCDF classic file. Of a body of
+/// more than 16,777,216 bytes the first 16,777,216 alone are looked at: `BadReply` says what is wrong with
+/// them, and `BodyTooLarge` comes exactly where they are good, an Error object or cut. Else `ServerError` and
+/// `BadReply` say what the body is, and a good one is saved as `write_cdf` does. `ReadFault` comes only where
+/// the count of the source rose, `WriteFault` where that of the sink did, and `Memory` where memory is
+/// wanted. At most 16,777,217 bytes are taken.
+pub fn save<I: Source, O: Sink>(alloc: Global, source: &mut I, out: &mut O) -> Stored
+    ensures saves { Saves (I.left source.old) (I.left source.new) (IsTrue (I.ended source.new)) (O.written out.old) (O.written out.new) result }
+    ensures read_fault { OnReadFault (Rose (I.take_faults source.old) (I.take_faults source.new)) result }
+    ensures write_fault { OnWriteFault (Rose (O.put_faults out.old) (O.put_faults out.new)) result }
+    ensures no_link { OnLinkFault ⊥ result }
+    ensures later_reading { I.take_faults source.old ≤ I.take_faults source.new }
+    ensures later { O.put_faults out.old ≤ O.put_faults out.new }
+    ensures kept_reading { ¬ (result ≡ Stored.ReadFault) → I.take_faults source.new ≡ I.take_faults source.old }
+    ensures kept_writing { ¬ (result ≡ Stored.WriteFault) → O.put_faults out.new ≡ O.put_faults out.old }
+    ensures whole { I.whole source.new ≡ I.whole source.old }
+    ensures beside_reading { I.beside_reading source.new ≡ I.beside_reading source.old }
+    ensures beside_writing { O.beside_writing out.new ≡ O.beside_writing out.old }
+{
+    match read_body(alloc, source) {
+        Ok(body) => save_body(alloc, body.as_slice(), out),
+        Err(Halt::Failed) => Stored::ReadFault,
+        Err(Halt::Memory) => Stored::Memory,
+    }
+}
