@@ -46,7 +46,7 @@ saved_is_served target name bytes files d ts asks there is leaves short =
     let suits : SuitsAll m 1 d.members = marks_suit d no_constraint well refl in
     let small : too_large (constrained m d) ≡ None = left_is_small m bytes name d ts is suits (subst (λ e. length (dds e) ≤ 16777216) (sym same) short) in
     let served : Results target files (Ok (text_of Dods (body (constrained m d) (constrained_trees m (kept []) d ts)))) =
-    accepted_is_served target name [] files s no_constraint asks.is_target (opens files name bytes saved (Ok s) asks.form there (d, ts, is, refl)) is_spelled refl small in
+    accepted_is_served target name [] files s no_constraint asks.is_target (opens (Some files) files name bytes saved (Ok s) asks.form there (d, ts, is, refl)) is_spelled refl small in
     subst (λ us. Results target files (Ok (text_of Dods (body d us)))) trees (subst (λ e. Results target files (Ok (text_of Dods (body e (constrained_trees m (kept []) d ts))))) same served)
 
 pub written_is_served_again : WrittenIsServedAgain

@@ -7,3 +7,4 @@ pub mod Standing
 pub mod WholeMarks
 pub mod LeftLeaves
 pub mod Again
+pub mod JoinedStored

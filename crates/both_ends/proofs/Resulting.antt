@@ -45,7 +45,9 @@ use Rattle.sequence_select.specs.Selections.{selections}
 use Rattle.dap_http.specs.Targets.{Asked, target_of}
 use Rattle.dap_http.specs.declared.kind.Kind.{Kind}
 use Rattle.dap_http.specs.declared.kind.Kind.TheVariants.{Dds, Das, Dods, Ver}
-use Rattle.dap_server.specs.Files.{Files, Form, IsStored, Stored, form_of, has_end, netcdf, saved, table}
+use Rattle.dap_server.specs.Files.{Files, Form, IsStored, Stored, form_of, has_end, joined, netcdf, saved, table}
+use Rattle.dap_server.specs.Joins.{IsJoined, bytes_in, contents_in}
+use Rattle.both_ends.proofs.JoinedStored.{joined-sent, members-headed}
 use Rattle.dap_server.specs.Results.{Answers, DodsAnswers, File, Left, Opens, Text, dds_text, dods_text, file_named, left_of, text_of}
 use Rattle.dap_server.specs.Steps.{found_or, unless}
 use Rattle.dap_client.proofs.Bodies.{body_good}
@@ -66,35 +68,45 @@ pub record CanBeSent (d : Dataset) (ts : List Tree) : Type 0 where
 name-long : (end name : List ℕ) → has_end end name ≡ true → length end < length (segment name)
 name-long end name is = ltb-true (length end) (length (segment name)) (and_parts (nat_lt (length end) (length (segment name))) (ends_with nat_eq (segment name) end) is).0
 
+-- the form of a name by its ends
+abbrev form-by : Bool → Bool → Bool → Bool → Option Form
+form-by nc csv dods join = cond nc (Some netcdf) (cond csv (Some table) (cond dods (Some saved) (cond join (Some joined) None)))
+
 form-netcdf : (name : List ℕ) → form_of name ≡ Some netcdf → length (codes ".nc") < length (segment name)
-form-netcdf name is = go (has_end (codes ".nc") name) refl is where
-  go : (b : Bool) → has_end (codes ".nc") name ≡ b → cond b (Some netcdf) (cond (has_end (codes ".csv") name) (Some table) (cond (has_end (codes ".dods") name) (Some saved) None)) ≡ Some netcdf → length (codes ".nc") < length (segment name)
-  go true e same = name-long (codes ".nc") name e
-  go false e same = absurd (not-netcdf (has_end (codes ".csv") name) (has_end (codes ".dods") name) same) where
-    not-netcdf : (c d : Bool) → cond c (Some table) (cond d (Some saved) None) ≡ Some netcdf → ⊥
-    not-netcdf true d s = let clash : table ≡ netcdf = cc in cc clash
-    not-netcdf false true s = let clash : saved ≡ netcdf = cc in cc clash
-    not-netcdf false false s = cc s
+form-netcdf name is = go (has_end (codes ".nc") name) (has_end (codes ".csv") name) (has_end (codes ".dods") name) (has_end (codes ".join") name) refl is where
+  go : (nc csv dods join : Bool) → has_end (codes ".nc") name ≡ nc → form-by nc csv dods join ≡ Some netcdf → length (codes ".nc") < length (segment name)
+  go true csv dods join e same = name-long (codes ".nc") name e
+  go false true dods join e same = let clash : table ≡ netcdf = cc in cc clash
+  go false false true join e same = let clash : saved ≡ netcdf = cc in cc clash
+  go false false false true e same = let clash : joined ≡ netcdf = cc in cc clash
+  go false false false false e same = cc same
 
 form-table : (name : List ℕ) → form_of name ≡ Some table → length (codes ".csv") < length (segment name)
-form-table name is = go (has_end (codes ".nc") name) is where
-  go : (b : Bool) → cond b (Some netcdf) (cond (has_end (codes ".csv") name) (Some table) (cond (has_end (codes ".dods") name) (Some saved) None)) ≡ Some table → length (codes ".csv") < length (segment name)
-  go true same = let clash : netcdf ≡ table = cc in cc clash
-  go false same = other (has_end (codes ".csv") name) refl same where
-    other : (c : Bool) → has_end (codes ".csv") name ≡ c → cond c (Some table) (cond (has_end (codes ".dods") name) (Some saved) None) ≡ Some table → length (codes ".csv") < length (segment name)
-    other true e s = name-long (codes ".csv") name e
-    other false e s = absurd (not-table (has_end (codes ".dods") name) s) where
-      not-table : (d : Bool) → cond d (Some saved) None ≡ Some table → ⊥
-      not-table true s = let clash : saved ≡ table = cc in cc clash
-      not-table false s = cc s
+form-table name is = go (has_end (codes ".nc") name) (has_end (codes ".csv") name) (has_end (codes ".dods") name) (has_end (codes ".join") name) refl is where
+  go : (nc csv dods join : Bool) → has_end (codes ".csv") name ≡ csv → form-by nc csv dods join ≡ Some table → length (codes ".csv") < length (segment name)
+  go true csv dods join e same = let clash : netcdf ≡ table = cc in cc clash
+  go false true dods join e same = name-long (codes ".csv") name e
+  go false false true join e same = let clash : saved ≡ table = cc in cc clash
+  go false false false true e same = let clash : joined ≡ table = cc in cc clash
+  go false false false false e same = cc same
 
 form-saved : (name : List ℕ) → form_of name ≡ Some saved → length (codes ".dods") < length (segment name)
-form-saved name is = go (has_end (codes ".nc") name) (has_end (codes ".csv") name) (has_end (codes ".dods") name) refl is where
-  go : (b c d : Bool) → has_end (codes ".dods") name ≡ d → cond b (Some netcdf) (cond c (Some table) (cond d (Some saved) None)) ≡ Some saved → length (codes ".dods") < length (segment name)
-  go true c d e same = let clash : netcdf ≡ saved = cc in cc clash
-  go false true d e same = let clash : table ≡ saved = cc in cc clash
-  go false false true e same = name-long (codes ".dods") name e
-  go false false false e same = cc same
+form-saved name is = go (has_end (codes ".nc") name) (has_end (codes ".csv") name) (has_end (codes ".dods") name) (has_end (codes ".join") name) refl is where
+  go : (nc csv dods join : Bool) → has_end (codes ".dods") name ≡ dods → form-by nc csv dods join ≡ Some saved → length (codes ".dods") < length (segment name)
+  go true csv dods join e same = let clash : netcdf ≡ saved = cc in cc clash
+  go false true dods join e same = let clash : table ≡ saved = cc in cc clash
+  go false false true join e same = name-long (codes ".dods") name e
+  go false false false true e same = let clash : joined ≡ saved = cc in cc clash
+  go false false false false e same = cc same
+
+form-joined : (name : List ℕ) → form_of name ≡ Some joined → length (codes ".join") < length (segment name)
+form-joined name is = go (has_end (codes ".nc") name) (has_end (codes ".csv") name) (has_end (codes ".dods") name) (has_end (codes ".join") name) refl is where
+  go : (nc csv dods join : Bool) → has_end (codes ".join") name ≡ join → form-by nc csv dods join ≡ Some joined → length (codes ".join") < length (segment name)
+  go true csv dods join e same = let clash : netcdf ≡ joined = cc in cc clash
+  go false true dods join e same = let clash : table ≡ joined = cc in cc clash
+  go false false true join e same = let clash : saved ≡ joined = cc in cc clash
+  go false false false true e same = name-long (codes ".join") name e
+  go false false false false e same = cc same
 
 some-segment : (xs : List ℕ) (n : ℕ) → n < length xs → xs ≢ []
 some-segment xs n long e = omega (arith, long, ap length e)
@@ -127,10 +139,18 @@ stored-saved name bytes d ts name_bytes file_bytes form is = record {
   fits = saved_fits bytes name d ts is;
 }
 
-stored : (form : Form) (name bytes : List ℕ) (s : Stored) → All (λ b. b < 256) name → IsBytes bytes → form_of name ≡ Some form → IsStored form name bytes (Ok s) → CanBeSent s.dataset s.trees
-stored netcdf name bytes s name_bytes file_bytes form (c, header, is) = subst (λ (x : Stored). CanBeSent x.dataset x.trees) (sym is) (stored-netcdf name bytes c name_bytes file_bytes form header)
-stored table name bytes s name_bytes file_bytes form (t, is_table, is) = subst (λ (x : Stored). CanBeSent x.dataset x.trees) (sym is) (stored-table name bytes t name_bytes file_bytes form is_table)
-stored saved name bytes s name_bytes file_bytes form (d, ts, is_saved, is) = subst (λ (x : Stored). CanBeSent x.dataset x.trees) (sym is) (stored-saved name bytes d ts name_bytes file_bytes form is_saved)
+stored-joined : (files : Files) (name bytes : List ℕ) (s : Stored) → All (λ b. b < 256) name → HoldBytes files → form_of name ≡ Some joined → IsJoined (Some files) name bytes (Ok s) → CanBeSent s.dataset s.trees
+stored-joined files name bytes s name_bytes hold form (inr (why, l, clash)) = cc clash
+stored-joined files name bytes s name_bytes hold form (inl (listed, l, inr (why, members, clash))) = cc clash
+stored-joined files name bytes s name_bytes hold form (inl (listed, l, inl (ms, members, (can, is)))) =
+    let sent = joined-sent (contents_in ms) (bytes_in ms) name can (members-headed files 1 listed ms hold members) name_bytes (some-segment (segment name) (length (codes ".join")) (form-joined name form)) in
+    subst (λ (x : Stored). CanBeSent x.dataset x.trees) (sym is) (record { words = sent.words; well_formed = sent.well_formed; fits = sent.fits })
+
+stored : (files : Files) (form : Form) (name bytes : List ℕ) (s : Stored) → All (λ b. b < 256) name → HoldBytes files → IsBytes bytes → form_of name ≡ Some form → IsStored (Some files) form name bytes (Ok s) → CanBeSent s.dataset s.trees
+stored files netcdf name bytes s name_bytes hold file_bytes form (c, header, is) = subst (λ (x : Stored). CanBeSent x.dataset x.trees) (sym is) (stored-netcdf name bytes c name_bytes file_bytes form header)
+stored files table name bytes s name_bytes hold file_bytes form (t, is_table, is) = subst (λ (x : Stored). CanBeSent x.dataset x.trees) (sym is) (stored-table name bytes t name_bytes file_bytes form is_table)
+stored files saved name bytes s name_bytes hold file_bytes form (d, ts, is_saved, is) = subst (λ (x : Stored). CanBeSent x.dataset x.trees) (sym is) (stored-saved name bytes d ts name_bytes file_bytes form is_saved)
+stored files joined name bytes s name_bytes hold file_bytes form is = stored-joined files name bytes s name_bytes hold form is
 
 -- what a name finds
 found : (files : Files) (name : List ℕ) (file : File) → file_named files name ≡ Some file → (form_of name ≡ Some file.form) × (files name ≡ Some file.bytes)
@@ -146,7 +166,7 @@ found files name file is = go (form_of name) refl (files name) refl is where
 pub opened : (files : Files) (name : List ℕ) (s : Stored) → HoldBytes files → All (λ b. b < 256) name → Opens files name (Ok s) → CanBeSent s.dataset s.trees
 opened files name s hold name_bytes (inl (file, is, stored_so)) =
     let (form, bytes) = found files name file (found-some (file_named files name) file is) in
-    stored file.form name file.bytes s name_bytes (hold name file.bytes bytes) form stored_so
+    stored files file.form name file.bytes s name_bytes hold (hold name file.bytes bytes) form stored_so
   where
     found-some : (o : Option File) (file : File) → Ok file ≡ found_or o NoFile → o ≡ Some file
     found-some None file e = cc e

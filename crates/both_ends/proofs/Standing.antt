@@ -9,7 +9,7 @@ use Rattle.dap_http.specs.declared.kind.Kind.TheVariants.{Dods}
 use Rattle.dap_outside.specs.Files.{Told}
 use Rattle.dap_server.specs.Connections.{AreTurns, Behind, IsClosed, MayAnswer, behind_text, ends_after, is_last_turn, nothing, part_of_refusal, part_of_reply, put_from, refusal}
 use Rattle.dap_server.specs.Files.{Files}
-use Rattle.dap_server.specs.Replies.{AreAnswered, IsAnswered, Request, Turn, is_head, replies, reply_of, request, wants}
+use Rattle.dap_server.specs.Replies.{AreAnswered, IsAnswered, IsAnsweredAmong, Request, Turn, is_head, replies, reply_of, request, wants}
 use Rattle.dap_server.specs.Results.{Results, Text, text_of}
 use Rattle.dap_server.specs.declared.served.Ending.{Ending}
 use Rattle.dap_server.specs.declared.served.Ending.TheVariants.{Closed, Gone, ReadFault, WriteFault, Broken}
@@ -98,7 +98,7 @@ answered files q answer get is = by (is_other q.method) (is-get q get) is where
   by false e m = m
 
 may-result : (files : Files) (q : Request) (answer : Result Text Cause) (t : Text) → q.method ≡ codes "GET" → answer ≡ Ok t → MayAnswer (Some files) q answer → Results q.target files answer
-may-result files q answer t get is (inl (others, same, answers)) = answered files q answer get (subst (λ (fs : Files). IsAnswered fs q answer) same answers)
+may-result files q answer t get is (inl (others, same, answers)) = answered files q answer get (subst (λ (fs : Files). IsAnsweredAmong (Some files) fs q answer) same answers)
 may-result files q answer t get is (inr (inl (failed, served, looks))) = cc (is, failed)
 may-result files q answer t get is (inr (inr wanted)) = cc (is, wanted)
 

@@ -1,28 +1,24 @@
-//! What `answer` writes for targets over small files, worked out by hand.
+//! What `answer` writes over outsides and files that are no data of a case, worked out by hand.
 
-mod causes;
 mod each_call;
 mod hostile;
+mod joins;
 mod samples;
 mod texts;
 
 use crate::running::{Said, numbers, run_words, said_alone};
-use causes::{CLAUSES, Cause, DAMAGED, HEADERS, ITEMS, TARGETS};
 use dap_commands::Status;
 use dap_host::FolderShelf;
 use dap_outside::{MemDial, MemFile, MemShelf, MemSink, MemSource, Shelf, SureShelf, SureSource};
 use dap_types::{Bytes, List, Memory, Name};
-use samples::{V, alone, bytes_of, coads, file, files};
+use samples::{alone, bytes_of, coads, file, files};
 use std::alloc::Global;
 use std::fs;
 use std::os::unix::fs as unix;
 use std::process::Abort;
 use std::test::Fail;
 use std::thread::Threads;
-use texts::{
-    ATTRIBUTES, COADS_TARGET, DECLARATIONS, GRIDS, HYPERSLABS, RESPONSES, Row, TABLES, VERSIONS,
-    WHOLE_FILES, coads_body,
-};
+use texts::{COADS_TARGET, coads_body};
 
 /// The numbers of the calls of the shelf and of the output that fail, and how much is put at once.
 #[derive(Clone, Copy)]
@@ -61,167 +57,30 @@ fn answered_by<R: Threads + AllocGlobal + Sync, S: Shelf>(
     said_alone(rt, words, shelf, &mut input, out)
 }
 
-/// Each target has its text, by 1 and by 7 workers, put whole and a byte at a time.
-fn expect_texts<R: Threads + Abort + AllocGlobal + Sync>(rt: &R, rows: &[Row]) -> Result<(), Fail> {
-    let alloc = rt.alloc();
-    for (target, text, words) in rows {
-        let expected = bytes_of(alloc, words, b"")?;
-        for (workers, piece) in [("1", 100000), ("7", 1)] {
-            let faults = Faults { piece, ..SURE };
-            let found = answered(rt, files(alloc)?, &["answer", *target, workers], faults)?;
-            let (front, rest) = found
-                .out
-                .bytes()
-                .split_at(text.len().min(found.out.bytes().len()));
-            assert_eq!(rt; front, *text, "{target}");
-            assert_eq!(rt; rest, expected.as_slice(), "{target}");
-            assert_eq!(rt; found.status, Status::Complete);
-            assert_eq!(rt; found.err.bytes(), b"".as_slice());
-        }
-    }
-    Ok(())
-}
-
-#[test]
-fn tables_are_answered(rt: HostRuntime) -> Result<(), Fail> {
-    expect_texts(&rt, TABLES)
-}
-
-#[test]
-fn saved_responses_are_answered(rt: HostRuntime) -> Result<(), Fail> {
-    expect_texts(&rt, RESPONSES)
-}
-
-#[test]
-fn hyperslabs_are_answered(rt: HostRuntime) -> Result<(), Fail> {
-    expect_texts(&rt, HYPERSLABS)?;
-    expect_texts(&rt, GRIDS)
-}
-
-#[test]
-fn whole_files_are_answered(rt: HostRuntime) -> Result<(), Fail> {
-    expect_texts(&rt, WHOLE_FILES)
-}
-
-#[test]
-fn texts_of_the_other_kinds_are_answered(rt: HostRuntime) -> Result<(), Fail> {
-    expect_texts(&rt, DECLARATIONS)?;
-    expect_texts(&rt, ATTRIBUTES)?;
-    expect_texts(&rt, VERSIONS)
-}
-
-/// The Error object and the line of a cause are what the run left.
-fn expect_cause<R: Abort + AllocGlobal>(
-    rt: &R,
-    found: &Said,
-    code: u32,
-    message: &str,
-) -> Result<(), Fail> {
-    let alloc = rt.alloc();
-    let object = format!(in alloc;
-        "Error {{\n    code = {code};\n    message = \"{message}\";\n}};\n"
-    )?;
-    let (status, start) = if code == 19 {
-        (Status::Damaged, "dap2: damaged: ")
-    } else {
-        (Status::Refused, "dap2: refused: ")
-    };
-    let line = format!(in alloc; "{start}{message}\n")?;
-    assert_eq!(rt; found.out.bytes(), object.as_bytes());
-    assert_eq!(rt; found.status, status);
-    assert_eq!(rt; found.err.bytes(), line.as_bytes());
-    Ok(())
-}
-
-fn expect_causes<R: Threads + Abort + AllocGlobal + Sync>(
-    rt: &R,
-    rows: &[Cause],
-) -> Result<(), Fail> {
-    for (target, code, message) in rows {
-        let found = answered(rt, files(rt.alloc())?, &["answer", *target], SURE)?;
-        expect_cause(rt, &found, *code, message)?;
-    }
-    Ok(())
-}
-
-#[test]
-fn constraints_are_refused_by_their_first_cause(rt: HostRuntime) -> Result<(), Fail> {
-    expect_causes(&rt, ITEMS)?;
-    expect_causes(&rt, CLAUSES)
-}
-
-#[test]
-fn targets_of_no_file_are_refused(rt: HostRuntime) -> Result<(), Fail> {
-    expect_causes(&rt, TARGETS)
-}
-
-#[test]
-fn damaged_files_are_told(rt: HostRuntime) -> Result<(), Fail> {
-    expect_causes(&rt, DAMAGED)
-}
-
-#[test]
-fn headers_with_one_word_changed_are_told(rt: HostRuntime) -> Result<(), Fail> {
-    let alloc = rt.alloc();
-    for (number, word, message) in HEADERS {
-        let mut words = Vec::from_slice(alloc, V)?;
-        if let Some(place) = words.get_mut(*number) {
-            *place = *word;
-        }
-        let files = alone(alloc, file(alloc, "v.nc", &words, b"")?)?;
-        let found = answered(&rt, files, &["answer", "v.nc.dods"], SURE)?;
-        expect_cause(&rt, &found, 19, message)?;
-    }
-    Ok(())
-}
-
 const USAGE: &[u8] =
-    b"usage: dap2 answer TARGET [WORKERS] | show | serve PORT WORKERS REQUESTS | fetch URL KIND CE [CE ..] | soak START SIZE | relay HOST UPPORT PORT ROOM REQUESTS | ver\n";
+    b"usage: dap2 answer TARGET [WORKERS] | show | serve PORT WORKERS REQUESTS | fetch URL KIND CE [CE ..] | soak START SIZE | relay HOST UPPORT PORT ROOM REQUESTS | save [URL CE] | ver\n";
 
-// The line does not fit on standard error; the status stays.
+/// The line does not fit on standard error; the status stays.
 #[test]
-fn words_that_are_no_command(rt: HostRuntime) -> Result<(), Fail> {
+fn a_line_that_does_not_fit(rt: HostRuntime) -> Result<(), Fail> {
     let alloc = rt.alloc();
-    let wrong: [&[&str]; 11] = [
+    let mut shelf = SureShelf::new(files(alloc)?);
+    let mut input = SureSource::new(Bytes::new(alloc, b"")?, 1);
+    let mut out = MemSink::new(alloc, 100, 7, List::new(alloc))?;
+    let mut err = MemSink::new(alloc, 100, 7, List::new(alloc))?;
+    let mut dial = MemDial::new(alloc, List::new(alloc), List::new(alloc))?;
+    let status = run_words(
+        &rt,
         &["answer"],
-        &["answer", "v.nc.dds", "65"],
-        &["answer", "v.nc.dds", "0"],
-        &["answer", "v.nc.dds", "+1"],
-        &["answer", "v.nc.dds", ""],
-        &["answer", "v.nc.dds", "000000000000000000001"],
-        &["answer", "v.nc.dds", "1", "1"],
-        &["Answer", "v.nc.dds"],
-        &["serve", "0", "1", "1"],
-        &["serve", "65536", "1", "1"],
-        &["serve", "80", "1", "0"],
-    ];
-    for words in wrong {
-        let mut shelf = SureShelf::new(files(alloc)?);
-        let mut input = SureSource::new(Bytes::new(alloc, b"")?, 1);
-        let mut out = MemSink::new(alloc, 100, 7, List::new(alloc))?;
-        let mut err = MemSink::new(alloc, 100, 7, List::new(alloc))?;
-        let mut dial = MemDial::new(alloc, List::new(alloc), List::new(alloc))?;
-        let status = run_words(
-            &rt, words, &mut shelf, &mut input, &mut out, &mut err, &mut dial,
-        )?;
-        assert_eq!(rt; status, Status::Words);
-        assert_eq!(rt; out.bytes(), b"".as_slice());
-        assert_eq!(rt; Some(err.bytes()), USAGE.get(..100));
-    }
-    for workers in ["1", "64", "00000000000000000064"] {
-        let found = answered(&rt, files(alloc)?, &["answer", "v.nc.dds", workers], SURE)?;
-        assert_eq!(rt; found.status, Status::Complete);
-    }
-    Ok(())
-}
-
-/// The door in memory has no links.
-#[test]
-fn a_door_at_which_no_link_comes(rt: HostRuntime) -> Result<(), Fail> {
-    let words = ["serve", "65535", "64", "1000000000"];
-    let found = answered(&rt, files(rt.alloc())?, &words, SURE)?;
-    assert_eq!(rt; found.status, Status::LinkFault);
-    assert_eq!(rt; found.err.bytes(), b"dap2: link fault\n".as_slice());
+        &mut shelf,
+        &mut input,
+        &mut out,
+        &mut err,
+        &mut dial,
+    )?;
+    assert_eq!(rt; status, Status::Words);
+    assert_eq!(rt; out.bytes(), b"".as_slice());
+    assert_eq!(rt; Some(err.bytes()), USAGE.get(..100));
     Ok(())
 }
 

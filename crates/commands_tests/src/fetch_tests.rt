@@ -1,4 +1,4 @@
-//! `fetch` and `ver` by their words, over a dial in memory; the requests and the replies are worked out by hand.
+//! `fetch` by its words, over a dial in memory; the requests and the replies are worked out by hand.
 
 ghost use Rattle.std.specs.Prelude.{All, IfOk};
 ghost use Rattle.dap_outside.specs.MemLinks.{IsNew};
@@ -105,39 +105,6 @@ const ROWS: &[Row] = &[
         b"dap2: link fault\n",
         b"",
     ),
-    (
-        &["ver"],
-        b"",
-        &[],
-        Status::Complete,
-        b"Core version: DAP/2.0\nServer version: dap2/1.0\n",
-        b"",
-        b"",
-    ),
-];
-
-/// Seventeen constraints.
-const MANY: &[&str] = &[
-    "fetch",
-    "http://h/v.nc",
-    "dods",
-    "",
-    "",
-    "",
-    "",
-    "",
-    "",
-    "",
-    "",
-    "",
-    "",
-    "",
-    "",
-    "",
-    "",
-    "",
-    "",
-    "",
 ];
 
 #[test]
@@ -148,23 +115,6 @@ fn what_is_fetched_is_told(rt: HostRuntime) -> Result<(), Fail> {
         assert_eq!(rt; done.said.out.bytes(), *out);
         assert_eq!(rt; done.said.err.bytes(), *err);
         assert_eq!(rt; done.sent.bytes(), *sent);
-    }
-    Ok(())
-}
-
-/// What is no URL, no kind of reply, or too many constraints.
-#[test]
-fn words_that_fetch_nothing(rt: HostRuntime) -> Result<(), Fail> {
-    for words in [
-        MANY,
-        &["fetch", "http://h/v.nc", "dods"],
-        &["fetch", "ftp://h/v.nc", "dods", ""],
-        &["fetch", "http://h:0/v.nc", "dods", ""],
-        &["fetch", "http://h/v.nc", "ver", ""],
-        &["fetch", "http://h/v.nc", "DDS", ""],
-    ] {
-        let done = fetched(&rt, words, GZIP, &[])?;
-        assert_eq!(rt; done.said.status, Status::Words);
     }
     Ok(())
 }

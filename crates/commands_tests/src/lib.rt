@@ -4,6 +4,8 @@
 #[cfg(test)]
 mod answer_tests;
 #[cfg(test)]
+mod case_tests;
+#[cfg(test)]
 mod counted;
 #[cfg(test)]
 mod fetch_tests;
@@ -11,6 +13,8 @@ mod fetch_tests;
 mod relay_tests;
 #[cfg(test)]
 mod running;
+#[cfg(test)]
+mod save_tests;
 #[cfg(test)]
 mod serve_tests;
 #[cfg(test)]

@@ -21,9 +21,6 @@ const GET_V: &[u8] = b"GET /v.nc.dods HTTP/1.1\r\n\r\n";
 
 const LINES: &[u8] = b"connection 1 200 miss\nconnection 2 200 hit\nconnection 3 502 miss\n";
 
-const USAGE: &[u8] =
-    b"usage: dap2 answer TARGET [WORKERS] | show | serve PORT WORKERS REQUESTS | fetch URL KIND CE [CE ..] | soak START SIZE | relay HOST UPPORT PORT ROOM REQUESTS | ver\n";
-
 /// How a run ended, its lines, what its links gained, and how many links came back to the dial.
 #[derive(Drop)]
 struct Done {
@@ -132,27 +129,6 @@ fn a_door_or_an_output_that_fails_ends_it(rt: HostRuntime) -> Result<(), Fail> {
         assert_eq!(rt; done.status, status);
         assert_eq!(rt; done.gained.items().len(), back);
         assert_eq!(rt; done.err.bytes(), line);
-    }
-    Ok(())
-}
-
-/// A host with another byte, or none; a port, a room or a number of links out of range; a word too few or too many.
-#[test]
-fn words_that_relay_nothing(rt: HostRuntime) -> Result<(), Fail> {
-    let rows: &[&[&str]] = &[
-        &["relay", "up_example", "8080", "8090", "4", "3"],
-        &["relay", "", "8080", "8090", "4", "3"],
-        &["relay", "up.example", "0", "8090", "4", "3"],
-        &["relay", "up.example", "8080", "65536", "4", "3"],
-        &["relay", "up.example", "8080", "8090", "1025", "3"],
-        &["relay", "up.example", "8080", "8090", "4", "1000000001"],
-        &["relay", "up.example", "8080", "8090", "4"],
-        &["relay", "up.example", "8080", "8090", "4", "3", "3"],
-    ];
-    for words in rows {
-        let done = relayed(&rt, words, &[], &[])?;
-        assert_eq!(rt; done.status, Status::Words);
-        assert_eq!(rt; done.err.bytes(), USAGE);
     }
     Ok(())
 }

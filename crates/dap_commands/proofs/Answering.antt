@@ -10,18 +10,18 @@ use Rattle.dap_http.specs.declared.kind.Kind.TheVariants.{Dods}
 use Rattle.dap_outside.specs.Files.{Told}
 use Rattle.dap_server.proofs.Lying.{some_files}
 use Rattle.dap_server.specs.Costs.{IsCost, IsCostAt, most_first}
-use Rattle.dap_server.specs.Files.{Form, form_of, is_read_first, netcdf, saved, table}
+use Rattle.dap_server.specs.Files.{Form, form_of, is_read_first, joined, netcdf, saved, table}
 use Rattle.dap_server.specs.Prepared.{IsOver, MayGive, MustGive}
-use Rattle.dap_server.specs.Results.{AnswersAsked, Text, error_object, text_of}
+use Rattle.dap_server.specs.Results.{AnswersAmong, Text, error_object, text_of}
 use Rattle.dap_server.specs.Steps.{found_or}
-use Rattle.dap_commands.specs.Answer.{AnswerSays, HasNoText, MayAskAs, MayAskFor, MayHaveAsked, MayResult, MustResult, WhereKnown, is_netcdf, is_read_late, looks_up, most_before, status_of}
+use Rattle.dap_commands.specs.Answer.{AnswerSays, HasNoText, MayAskAs, MayAskFor, MayHaveAsked, MayResult, MustResult, WhereKnown, has_netcdf, is_read_late, looks_up, most_before, status_of}
 use Rattle.dap_commands.specs.inner.Puts.{BodyPut, IsPut, RefusalPut, TextPut, start_of}
 use Rattle.dap_commands.specs.Lines.{cause_line, damaged_line, line_of}
 use Rattle.dap_commands.specs.Words.{AreAnswer}
 use Rattle.dap_outside.specs.Causes.{Rose}
 use Rattle.xdr_encode.specs.Streamed.{Stops}
 use Rattle.dap_commands.specs.declared.status.Status.{Status}
-use Rattle.dap_commands.specs.declared.status.Status.TheVariants.{Complete, Words, Refused, Damaged, BadReply, ReadFault, WriteFault, LinkFault, Memory, ServerError}
+use Rattle.dap_commands.specs.declared.status.Status.TheVariants.{Complete, Words, Unsaved, Refused, Damaged, BadReply, ReadFault, WriteFault, LinkFault, Memory, ServerError}
 
 pub may_result : (told : Told) (target : List ℕ) (a : Asked) (r : Result Text Cause) → target_of target ≡ Some a → MayGive told a r → MayResult told target r
 may_result told target a r is (files, may, answers) = (files, may, inl (a, sym (ap (λ o. found_or o causes.BadTarget) is), answers))
@@ -36,7 +36,7 @@ no_cause (Some c) a k is found = cc found
 
 pub must_give : (told : Told) (target : List ℕ) (a : Asked) (r : Result Text Cause) → target_of target ≡ Some a → MustResult told target r → MustGive told a r
 must_give told target a r is must = λ files may. elim (must files may) [
-  | inl (b, found, answers) ↦ subst (λ x. AnswersAsked files x r) (same_asked (target_of target) a b is found) answers
+  | inl (b, found, answers) ↦ subst (λ (x : Asked). AnswersAmong told x.kind files x.name x.query r) (same_asked (target_of target) a b is found) answers
   | inr (k, found, is_r) ↦ absurd (no_cause (target_of target) a k is found)
 ]
 
@@ -101,6 +101,7 @@ module _ (told : Told) (target : List ℕ) (Out Front Line : List ℕ → Type 0
   text_says t may Complete put = (t, may, where_known told target (Ok t) (Out t.text) put)
   text_says t may WriteFault put = (Ok t, may, where_known told target (Ok t) (Front t.text) put)
   text_says t may Words put = absurd put
+  text_says t may Unsaved put = absurd put
   text_says t may Refused put = absurd put
   text_says t may Damaged put = absurd put
   text_says t may BadReply put = absurd put
@@ -119,6 +120,7 @@ module _ (told : Told) (target : List ℕ) (Out Front Line : List ℕ → Type 0
   refusal_says cause Memory may out = out
   refusal_says cause Complete may put = absurd put
   refusal_says cause Words may put = absurd put
+  refusal_says cause Unsaved may put = absurd put
   refusal_says cause BadReply may put = absurd put
   refusal_says cause ReadFault may put = absurd put
   refusal_says cause ServerError may put = absurd put
@@ -130,6 +132,7 @@ module _ (told : Told) (target : List ℕ) (Out Front Line : List ℕ → Type 0
   known_says text ReadFault looks may put = (looks, inr (text, may, where_known told target _ (Front text) put))
   known_says text WriteFault looks may put = (Ok (text_of Dods text), may, where_known told target _ (Front text) put)
   known_says text Words looks may put = absurd put
+  known_says text Unsaved looks may put = absurd put
   known_says text Refused looks may put = absurd put
   known_says text Damaged looks may put = absurd put
   known_says text BadReply looks may put = absurd put
@@ -143,6 +146,7 @@ module _ (told : Told) (target : List ℕ) (Out Front Line : List ℕ → Type 0
   hidden_says text ReadFault looks may hidden put = (looks, inr (text, may, hidden (Front text)))
   hidden_says text WriteFault looks may hidden put = (Ok (text_of Dods text), may, hidden (Front text))
   hidden_says text Words looks may hidden put = absurd put
+  hidden_says text Unsaved looks may hidden put = absurd put
   hidden_says text Refused looks may hidden put = absurd put
   hidden_says text Damaged looks may hidden put = absurd put
   hidden_says text BadReply looks may hidden put = absurd put
@@ -157,6 +161,9 @@ refuse_says = refusal_says
 -- nothing is said of data that is read from a netCDF file which is not told
 late : (target : List ℕ) (a : Asked) → target_of target ≡ Some a → a.kind ≡ Dods → form_of a.name ≡ Some netcdf → is_read_late target ≡ true
 late target a is is_dods is_netcdf = rw (is, is_dods, is_netcdf) refl
+
+late_join : (target : List ℕ) (a : Asked) → target_of target ≡ Some a → a.kind ≡ Dods → form_of a.name ≡ Some joined → is_read_late target ≡ true
+late_join target a is is_dods is_joined = rw (is, is_dods, is_joined) refl
 
 looks : (target : List ℕ) (a : Asked) → target_of target ≡ Some a → a.kind ≡ Dods → IsTrue (is_some (form_of a.name)) → IsTrue (looks_up target)
 looks target a is is_dods has = rw (is, is_dods) has
@@ -188,15 +195,34 @@ body_says None target Out Front Line a content text_over status is is_dods has o
     by_form (Some saved) e =
         let first : IsTrue (is_read_first (form_of a.name)) = ap is_read_first e in
         known_says None target Out Front Line (text_over []) status (looks target a is is_dods has) (may_result None target a _ is (over [] (inr first))) (alone first [])
+    by_form (Some joined) e =
+        hidden_says None target Out Front Line accepted.0 status (looks target a is is_dods has) (may_result None target a _ is accepted.1)
+        (hidden_none target (text_of Dods accepted.0) (late_join target a is is_dods e)) is_put
     by_form (Some netcdf) e =
         hidden_says None target Out Front Line accepted.0 status (looks target a is is_dods has) (may_result None target a _ is accepted.1)
         (hidden_none target (text_of Dods accepted.0) (late target a is is_dods e)) is_put
+
+-- the body of joined files
+pub joined_says : (told : Told) (target : List ℕ) (Out Front Line : List ℕ → Type 0) (a : Asked) (AreThese : List (List ℕ) → Type 0) (text_over : List (List ℕ) → List ℕ) (status : Status)
+    → target_of target ≡ Some a → (a.kind ≡ Dods) × (form_of a.name ≡ Some joined)
+    → ((contents : List (List ℕ)) → AreThese contents → MayGive told a (Ok (text_of Dods (text_over contents))))
+    → (text : List ℕ) × MayGive told a (Ok (text_of Dods text))
+    → (IsSome told → (contents : List (List ℕ)) × AreThese contents)
+    → ((contents : List (List ℕ)) → AreThese contents → BodyPut (text_over contents) Out Front status)
+    → IsPut status → AnswerSays told target Out Front Line status
+joined_says None target Out Front Line a AreThese text_over status is (is_dods, form) over accepted tells put is_put =
+    hidden_says None target Out Front Line accepted.0 status (looks target a is is_dods (ap is_some form)) (may_result None target a _ is accepted.1)
+    (hidden_none target (text_of Dods accepted.0) (late_join target a is is_dods form)) is_put
+joined_says (Some files) target Out Front Line a AreThese text_over status is (is_dods, form) over accepted tells put is_put =
+    let (contents, these) = tells refl in
+    known_says (Some files) target Out Front Line (text_over contents) status (looks target a is is_dods (ap is_some form)) (may_result (Some files) target a _ is (over contents these)) (put contents these)
 
 -- where no count rose
 pub text_only : (text : List ℕ) (Out Front : List ℕ → Type 0) (Rises : Type 0) (status : Status) → TextPut text Out Front status → (status ≡ WriteFault → Rises) → ¬ Rises → status ≡ Complete
 text_only text Out Front Rises Complete put rises quiet = refl
 text_only text Out Front Rises WriteFault put rises quiet = absurd (quiet (rises refl))
 text_only text Out Front Rises Words put rises quiet = absurd put
+text_only text Out Front Rises Unsaved put rises quiet = absurd put
 text_only text Out Front Rises Refused put rises quiet = absurd put
 text_only text Out Front Rises Damaged put rises quiet = absurd put
 text_only text Out Front Rises BadReply put rises quiet = absurd put
@@ -210,6 +236,7 @@ body_only Reads Rises Complete put reads rises still quiet = refl
 body_only Reads Rises ReadFault put reads rises still quiet = absurd (still (reads refl))
 body_only Reads Rises WriteFault put reads rises still quiet = absurd (quiet (rises refl))
 body_only Reads Rises Words put reads rises still quiet = absurd put
+body_only Reads Rises Unsaved put reads rises still quiet = absurd put
 body_only Reads Rises Refused put reads rises still quiet = absurd put
 body_only Reads Rises Damaged put reads rises still quiet = absurd put
 body_only Reads Rises BadReply put reads rises still quiet = absurd put
@@ -225,6 +252,7 @@ refuse_only cause Out Front Line Rises WriteFault put rises quiet had = absurd (
 refuse_only cause Out Front Line Rises Memory put rises quiet had = absurd (had refl)
 refuse_only cause Out Front Line Rises Complete put rises quiet had = absurd put
 refuse_only cause Out Front Line Rises Words put rises quiet had = absurd put
+refuse_only cause Out Front Line Rises Unsaved put rises quiet had = absurd put
 refuse_only cause Out Front Line Rises BadReply put rises quiet had = absurd put
 refuse_only cause Out Front Line Rises ReadFault put rises quiet had = absurd put
 refuse_only cause Out Front Line Rises ServerError put rises quiet had = absurd put
@@ -249,6 +277,7 @@ text_is_put text Out Front Complete put none = none
 text_is_put text Out Front WriteFault put none = none
 text_is_put text Out Front ReadFault put none = none
 text_is_put text Out Front Words put none = put
+text_is_put text Out Front Unsaved put none = put
 text_is_put text Out Front Refused put none = put
 text_is_put text Out Front Damaged put none = put
 text_is_put text Out Front BadReply put none = put
@@ -261,6 +290,7 @@ body_is_put Complete put none = none
 body_is_put WriteFault put none = none
 body_is_put ReadFault put none = none
 body_is_put Words put none = put
+body_is_put Unsaved put none = put
 body_is_put Refused put none = put
 body_is_put Damaged put none = put
 body_is_put BadReply put none = put
@@ -291,6 +321,22 @@ asked_then told target a (Some bytes) text_over may_ask old new before mid now i
       record { put = s.put; within = s.within; front = s.front; most = s.most; may = costs bytes s.put s.most refl s.may; few = omega (arith, s.few, first) },
     ))
 
+-- the same of joined files
+pub joined_asked_then : (told : Told) (target : List ℕ) (a : Asked) (AreThese : List (List ℕ) → Type 0) (text_over : List (List ℕ) → List ℕ) (may_ask : List (List ℕ) → ℕ → ℕ → Type 0) (old new : Option (List ℕ)) (before mid now : ℕ)
+    → target_of target ≡ Some a → IsSome told → (IsSome told → (contents : List (List ℕ)) × AreThese contents)
+    → ((contents : List (List ℕ)) → AreThese contents → MayGive told a (Ok (text_of Dods (text_over contents))))
+    → ((contents : List (List ℕ)) (put cost : ℕ) → AreThese contents → may_ask contents put cost → IsCostAt told a put cost)
+    → ((contents : List (List ℕ)) → AreThese contents → Stops (text_over contents) (may_ask contents) old new mid now)
+    → mid ≤ before + most_first told a.name → MayHaveAsked told target old new before now
+joined_asked_then told target a AreThese text_over may_ask old new before mid now is some tells over costs stops first =
+    let (contents, these) = tells some in
+    let s = stops contents these in
+    rw is (inr (
+      text_over contents,
+      over contents these,
+      record { put = s.put; within = s.within; front = s.front; most = s.most; may = costs contents s.put s.most these s.may; few = omega (arith, s.few, first) },
+    ))
+
 -- a count that rose later rose
 pub rose_later : (a b c : ℕ) → a ≤ b → Rose b c → Rose a c
 rose_later a b c le rose = omega (arith, le, rose)
@@ -312,6 +358,7 @@ another_line told target Out Front Line Other ReadFault l is says = says
 another_line told target Out Front Line Other WriteFault l is says = says
 another_line told target Out Front Line Other Memory l is says = says
 another_line told target Out Front Line Other Words l is says = says
+another_line told target Out Front Line Other Unsaved l is says = says
 another_line told target Out Front Line Other BadReply l is says = says
 another_line told target Out Front Line Other ServerError l is says = says
 another_line told target Out Front Line Other LinkFault l is says = says

@@ -20,7 +20,9 @@ serve-only p w r (inr (inr (inl (port, workers, requests, (port_word, workers_wo
 serve-only p w r (inr (inr (inr (inl is)))) = cc is
 serve-only p w r (inr (inr (inr (inr (inl (u, kind, ces, (url, (word, is, is_kind, some, few), known))))))) = absurd (no-fetch (ap (λ words. get_or words 0 []) is))
 serve-only p w r (inr (inr (inr (inr (inr (inl (start, records, (start_word, size_word, is, a, b)))))))) = cc is
-serve-only p w r (inr (inr (inr (inr (inr (inr (host, upport, port, room, requests, (w1, w2, w3, w4, is, named, a, b, c, d)))))))) = cc is
+serve-only p w r (inr (inr (inr (inr (inr (inr (inl (host, upport, port, room, requests, (w1, w2, w3, w4, is, named, a, b, c, d))))))))) = cc is
+serve-only p w r (inr (inr (inr (inr (inr (inr (inr (inl is)))))))) = cc is
+serve-only p w r (inr (inr (inr (inr (inr (inr (inr (inr (u, ce, (url, is, known)))))))))) = cc is
 
 -- words have one port, and one number of links
 pub same-serve : (words : List (List ℕ)) (p w r p2 w2 r2 : ℕ) → AreServe words p w r → AreServe words p2 w2 r2 → (p ≡ p2) × (r ≡ r2)

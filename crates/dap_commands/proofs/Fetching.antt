@@ -9,7 +9,7 @@ use Rattle.dap_client.specs.declared.outcome.Outcome.{Outcome}
 use Rattle.dap_client.specs.declared.outcome.Outcome.TheVariants as outcomes
 use Rattle.dap_commands.specs.Fetch.{FetchSays, SaysWhy, status_of}
 use Rattle.dap_commands.specs.Lines.{line_of}
-use Rattle.dap_commands.specs.Words.{AreAnswer, AreFetch, AreRelay, AreServe, AreSoak, HaveFetchForm, IsCommand, IsFetch, IsKindWord, IsShow, IsVer}
+use Rattle.dap_commands.specs.Words.{AreAnswer, AreFetch, AreRelay, AreServe, AreSoak, HaveFetchForm, HaveSaveForm, IsCommand, IsFetch, IsKindWord, IsSave, IsShow, IsVer}
 use Rattle.dap_commands.specs.declared.status.Status.{Status}
 use Rattle.dap_commands.specs.declared.status.Status.TheVariants.{Memory}
 
@@ -20,13 +20,13 @@ memory-says state u kind ces a before Line = (record { whole = 0; last = outcome
 
 -- ---- words of one command
 
-no-words : (words : List (List ℕ)) (x y : List ℕ) (a b : ℕ) → get_or words 0 [] ≡ x → get_or words 0 [] ≡ y → get_or x 0 0 ≡ a → get_or y 0 0 ≡ b → a ≡ b
+pub no-words : (words : List (List ℕ)) (x y : List ℕ) (a b : ℕ) → get_or words 0 [] ≡ x → get_or words 0 [] ≡ y → get_or x 0 0 ≡ a → get_or y 0 0 ≡ b → a ≡ b
 no-words words x y a b p q r s = sym r ∙ ap (λ (l : List ℕ). get_or l 0 0) (sym p ∙ q) ∙ s
 
 fetch-named : (words : List (List ℕ)) (url : List ℕ) (kind : Kind) (ces : List (List ℕ)) → HaveFetchForm words url kind ces → get_or words 0 [] ≡ codes "fetch"
 fetch-named words url kind ces (word, is, is_kind, some, few) = ap (λ (l : List (List ℕ)). get_or l 0 []) is
 
-answer-named : (words : List (List ℕ)) (target : List ℕ) (workers : ℕ) → AreAnswer words target workers → get_or words 0 [] ≡ codes "answer"
+pub answer-named : (words : List (List ℕ)) (target : List ℕ) (workers : ℕ) → AreAnswer words target workers → get_or words 0 [] ≡ codes "answer"
 answer-named words target workers (inl (is, one)) = ap (λ (l : List (List ℕ)). get_or l 0 []) is
 answer-named words target workers (inr (word, is, number)) = ap (λ (l : List (List ℕ)). get_or l 0 []) is
 
@@ -49,7 +49,7 @@ pub no-ver : (words : List (List ℕ)) (url : List ℕ) (kind : Kind) (ces : Lis
 no-ver words url kind ces v f =
     let same : 118 ≡ 102 = no-words words (codes "ver") (codes "fetch") 118 102 (ap (λ (l : List (List ℕ)). get_or l 0 []) v) (fetch-named words url kind ces f) refl refl in omega (arith, same)
 
-soak-named : (words : List (List ℕ)) (start records : ℕ) → AreSoak words start records → get_or words 0 [] ≡ codes "soak"
+pub soak-named : (words : List (List ℕ)) (start records : ℕ) → AreSoak words start records → get_or words 0 [] ≡ codes "soak"
 soak-named words start records (s, r, is, a, b) = ap (λ (l : List (List ℕ)). get_or l 0 []) is
 
 pub no-soak : (words : List (List ℕ)) (start records : ℕ) (url : List ℕ) (kind : Kind) (ces : List (List ℕ)) → AreSoak words start records → HaveFetchForm words url kind ces → ⊥
@@ -66,6 +66,14 @@ no-relay words host upport port room requests url kind ces r f =
 pub soak-no-answer : (words : List (List ℕ)) (target : List ℕ) (workers start records : ℕ) → AreAnswer words target workers → AreSoak words start records → ⊥
 soak-no-answer words target workers start records a s =
     let same : 97 ≡ 115 = no-words words (codes "answer") (codes "soak") 97 115 (answer-named words target workers a) (soak-named words start records s) refl refl in omega (arith, same)
+
+pub no-save : (words : List (List ℕ)) (url : List ℕ) (kind : Kind) (ces : List (List ℕ)) → IsSave words → HaveFetchForm words url kind ces → ⊥
+no-save words url kind ces s f =
+    let same : 115 ≡ 102 = no-words words (codes "save") (codes "fetch") 115 102 (ap (λ (l : List (List ℕ)). get_or l 0 []) s) (fetch-named words url kind ces f) refl refl in omega (arith, same)
+
+pub no-save-url : (words : List (List ℕ)) (other ce url : List ℕ) (kind : Kind) (ces : List (List ℕ)) → HaveSaveForm words other ce → HaveFetchForm words url kind ces → ⊥
+no-save-url words other ce url kind ces s f =
+    let same : 115 ≡ 102 = no-words words (codes "save") (codes "fetch") 115 102 (ap (λ (l : List (List ℕ)). get_or l 0 []) s) (fetch-named words url kind ces f) refl refl in omega (arith, same)
 
 -- the form of a `fetch` in the words of one
 pub form-of : (words : List (List ℕ)) (u : UrlParts) (kind : Kind) (ces : List (List ℕ)) → AreFetch words u kind ces → (url : List ℕ) × HaveFetchForm words url kind ces
@@ -122,7 +130,7 @@ for-words state words url kind mode ces rest u a b before now Line status form s
     (subst (λ (k : Kind). FetchSays state u k ces a b before now Line status) one.kind_is (says u (ap url_of one.url_is ∙ is)))
 
 -- words of the form whose URL is none are no command, and no others are
-some-or-none : (o : Option UrlParts) → (o ≡ None) ⊎ ((u : UrlParts) × (o ≡ Some u))
+pub some-or-none : (o : Option UrlParts) → (o ≡ None) ⊎ ((u : UrlParts) × (o ≡ Some u))
 some-or-none None = inl refl
 some-or-none (Some u) = inr (u, refl)
 
@@ -145,7 +153,9 @@ no-command words url kind ces form none (inr (inr (inr (inr (inl (u, mode, rest,
     let clash : None ≡ Some u = sym none ∙ ap url_of one.url_is ∙ is in
     cc clash
 no-command words url kind ces form none (inr (inr (inr (inr (inr (inl (start, records, are))))))) = no-soak words start records url kind ces are form
-no-command words url kind ces form none (inr (inr (inr (inr (inr (inr (host, upport, port, room, requests, are))))))) = no-relay words host upport port room requests url kind ces are form
+no-command words url kind ces form none (inr (inr (inr (inr (inr (inr (inl (host, upport, port, room, requests, are)))))))) = no-relay words host upport port room requests url kind ces are form
+no-command words url kind ces form none (inr (inr (inr (inr (inr (inr (inr (inl is)))))))) = no-save words url kind ces is form
+no-command words url kind ces form none (inr (inr (inr (inr (inr (inr (inr (inr (u, ce, (other, is, known)))))))))) = no-save-url words other ce url kind ces is form
 
 -- what is said on another line, where the status has a line of its own
 why-other : (o : Outcome) (status : Status) (l : List ℕ) (Line Other : List ℕ → Type 0) → status ≡ status_of o → Some l ≡ line_of status → SaysWhy o Line → SaysWhy o Other

@@ -31,7 +31,7 @@ use Rattle.dap_gateway.specs.declared.relayed.Relayed.TheVariants as endings
 use Rattle.dap_gateway.specs.declared.wanted.Wanted.{Wanted}
 use Rattle.dap_commands.specs.Relay.{AreCounted, CameTo, Follow, Gateway, IsAnsweredAlike, IsAsWithout, IsBacked, IsRelayed, MayHaveFailed, RelaySays, RelayedLink, Relays, RelaysFrom, Standing, TellsWritten, came_back, ending_name, failed_in, failures_in, fault_in, fault_of, faults_in, has_failed, history_of, lines_from, relay_line, source_name}
 use Rattle.dap_commands.specs.declared.status.Status.{Status}
-use Rattle.dap_commands.specs.declared.status.Status.TheVariants.{Complete, Words, Refused, Damaged, BadReply, ReadFault, WriteFault, LinkFault, Memory, ServerError}
+use Rattle.dap_commands.specs.declared.status.Status.TheVariants.{Complete, Words, Unsaved, Refused, Damaged, BadReply, ReadFault, WriteFault, LinkFault, Memory, ServerError}
 
 abbrev Pairs : Type 0
 Pairs = List (List ℕ × List ℕ)
@@ -103,6 +103,7 @@ says-more requests came line lines a m b WriteFault had puts (some, few, front) 
 says-more requests came line lines a m b LinkFault had puts (few, out) = (omega (arith, few), Appends-trans a m b line lines puts out)
 says-more requests came line lines a m b Memory had puts says = absurd (had refl)
 says-more requests came line lines a m b Words had puts says = absurd says
+says-more requests came line lines a m b Unsaved had puts says = absurd says
 says-more requests came line lines a m b Refused had puts says = absurd says
 says-more requests came line lines a m b Damaged had puts says = absurd says
 says-more requests came line lines a m b BadReply had puts says = absurd says

@@ -18,7 +18,7 @@ use Rattle.dap_http.specs.declared.kind.Kind.TheVariants.{Dods}
 use Rattle.dap_http.proofs.Carrying.{carries-data, carries-text}
 use Rattle.dap_server.specs.Files.{Files, Stored}
 use Rattle.dap_server.specs.Replies.{IsAnswered, Request, error_head, is_head, is_last, reply_of, request}
-use Rattle.dap_server.specs.Results.{AnswersAsked, DodsAnswers, Left, Results, Text, error_object, left_of, text_of}
+use Rattle.dap_server.specs.Results.{AnswersAsked, DodsAnswers, Left, Results, ResultsAmong, Text, error_object, left_of, text_of}
 use Rattle.dap_server.specs.Steps.{found_or, unless}
 use Rattle.dap_server.proofs.Accepted.{accepted_is_served}
 use Rattle.dap_server.proofs.OneAnswer.{one_result}
@@ -72,7 +72,7 @@ getting files k head target answer is_get is_target answered =
 has-result : (files : Files) (target name query : List ℕ) (r : Result Text Cause) → target_of target ≡ Some (record { name = name; kind = Dods; query = query }) → IsTrue (list_all is_byte query)
     → Results target files r → HasResult target files r
 has-result files target name query r is bytes has = record {
-  must = λ others same. subst (λ (fs : Files). Results target fs r) (sym same) has;
+  must = λ others same. subst (λ (fs : Files). ResultsAmong (Some files) target fs r) (sym same) has;
   only = λ other given. one files target name query r other is bytes has given;
   get = λ k head answer is_get is_target answered. one files target name query r answer is bytes has (getting files k head target answer is_get is_target answered);
 }
@@ -80,7 +80,7 @@ has-result files target name query r is bytes has = record {
 -- ---- what is put
 
 pub told : (files : Files) (target : List ℕ) (r : Result Text Cause) → MayResult (Some files) target r → Results target files r
-told files target r (others, same, given) = subst (λ (fs : Files). Results target fs r) same given
+told files target r (others, same, given) = subst (λ (fs : Files). ResultsAmong (Some files) target fs r) same given
 
 put-body : (files : Files) (target bytes : List ℕ) → HasResult target files (Ok (text_of Dods bytes)) → (Out Front Line : List ℕ → Type 0) → AnswerSays (Some files) target Out Front Line status.Complete → Out bytes
 put-body files target bytes has Out Front Line (t, may, out) =

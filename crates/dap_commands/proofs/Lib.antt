@@ -10,6 +10,8 @@ pub mod Obeying
 pub mod Pieces
 pub mod ReadBack
 pub mod RelayWords
+pub mod Saved
+pub mod SavedFiles
 pub mod Running
 pub mod Seeds
 pub mod Shortness

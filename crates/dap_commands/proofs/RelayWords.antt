@@ -32,13 +32,15 @@ relay-only h u p r q (inr (inr (inl (port, workers, requests, (port_word, worker
 relay-only h u p r q (inr (inr (inr (inl is)))) = cc is
 relay-only h u p r q (inr (inr (inr (inr (inl (v, kind, ces, (url, (word, is, is_kind, some, few), known))))))) = absurd (no-fetch (ap (λ words. get_or words 0 []) is))
 relay-only h u p r q (inr (inr (inr (inr (inr (inl (start, records, (start_word, size_word, is, a, b)))))))) = cc is
-relay-only h u p r q (inr (inr (inr (inr (inr (inr (host, upport, port, room, requests, (w1, w2, w3, w4, is, named, a, b, c, d)))))))) = record {
+relay-only h u p r q (inr (inr (inr (inr (inr (inr (inl (host, upport, port, room, requests, (w1, w2, w3, w4, is, named, a, b, c, d))))))))) = record {
   host = subst (λ word. IsTrue (is_host word)) (sym (ap (λ words. get_or words 1 []) is)) named;
   upport = (upport, subst (λ word. IsNumber 65535 word upport) (sym (ap (λ words. get_or words 2 []) is)) a);
   port = (port, subst (λ word. IsNumber 65535 word port) (sym (ap (λ words. get_or words 3 []) is)) b);
   room = (room, subst (λ word. IsNumber 1024 word room) (sym (ap (λ words. get_or words 4 []) is)) c);
   requests = (requests, subst (λ word. IsNumber 1000000000 word requests) (sym (ap (λ words. get_or words 5 []) is)) d);
 }
+relay-only h u p r q (inr (inr (inr (inr (inr (inr (inr (inl is)))))))) = cc is
+relay-only h u p r q (inr (inr (inr (inr (inr (inr (inr (inr (v, ce, (url, is, known)))))))))) = cc is
 
 -- words have one host, and one of each number
 pub record SameRelay (h h2 : List ℕ) (u u2 p p2 r r2 q q2 : ℕ) : Type 0 where

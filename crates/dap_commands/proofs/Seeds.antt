@@ -11,6 +11,9 @@ no-answer e = let first : 115 ≡ 97 = ap (λ xs. get_or xs 0 0) e in omega (ari
 no-fetch : codes "soak" ≡ codes "fetch" → ⊥
 no-fetch e = let first : 115 ≡ 102 = ap (λ xs. get_or xs 0 0) e in omega (arith, first)
 
+no-save : codes "soak" ≡ codes "save" → ⊥
+no-save e = let second : 111 ≡ 97 = ap (λ xs. get_or xs 1 0) e in omega (arith, second)
+
 -- three words that begin so are a command only with a seed and a number of records
 pub soak-only : (s r : List ℕ) → IsCommand (codes "soak" ∷ s ∷ r ∷ []) → ((n : ℕ) × IsSeed s n) × ((n : ℕ) × IsNumber 4096 r n)
 soak-only s r (inl (target, workers, inl (is, one))) = cc is
@@ -19,7 +22,9 @@ soak-only s r (inr (inl is)) = cc is
 soak-only s r (inr (inr (inl (port, workers, requests, (port_word, workers_word, requests_word, is, a, b, c))))) = cc is
 soak-only s r (inr (inr (inr (inl is)))) = cc is
 soak-only s r (inr (inr (inr (inr (inl (u, kind, ces, (url, (word, is, is_kind, some, few), known))))))) = absurd (no-fetch (ap (λ words. get_or words 0 []) is))
-soak-only s r (inr (inr (inr (inr (inr (inr (host, upport, port, room, requests, (w1, w2, w3, w4, is, named, a, b, c, d)))))))) = cc is
+soak-only s r (inr (inr (inr (inr (inr (inr (inl (host, upport, port, room, requests, (w1, w2, w3, w4, is, named, a, b, c, d))))))))) = cc is
+soak-only s r (inr (inr (inr (inr (inr (inr (inr (inl is)))))))) = cc is
+soak-only s r (inr (inr (inr (inr (inr (inr (inr (inr (u, ce, (url, is, known)))))))))) = absurd (no-save (ap (λ words. get_or words 0 []) is))
 soak-only s r (inr (inr (inr (inr (inr (inl (start, records, (start_word, size_word, is, a, b)))))))) = (
   (start, subst (λ word. IsSeed word start) (sym (ap (λ words. get_or words 1 []) is)) a),
   (records, subst (λ word. IsNumber 4096 word records) (sym (ap (λ words. get_or words 2 []) is)) b),

@@ -13,7 +13,7 @@ use Rattle.dap_client.specs.declared.outcome.Outcome.TheVariants as outcome
 use Rattle.dap_commands.specs.Lines.{bad_reply_line, line_of, server_error_line}
 use Rattle.dap_commands.specs.Show.{IsFor, IsWrongTaken, ShowSays, status_for}
 use Rattle.dap_commands.specs.declared.status.Status.{Status}
-use Rattle.dap_commands.specs.declared.status.Status.TheVariants.{Complete, Words, Refused, Damaged, BadReply, ServerError, ReadFault, WriteFault, LinkFault, Memory}
+use Rattle.dap_commands.specs.declared.status.Status.TheVariants.{Complete, Words, Unsaved, Refused, Damaged, BadReply, ServerError, ReadFault, WriteFault, LinkFault, Memory}
 
 pub complete_says : (left now : Option (List ℕ)) (Ended AtEnd : Type 0) (old new : Option (List ℕ)) (Line : List ℕ → Type 0) (n : ℕ) → Ended × AtEnd
     → Takes left now (λ body. (length body ≡ n) × ((d : Dataset) × (ts : List Tree) × IsVerdict dods_form body (good d ts) × Appends old new (shown d ts n))) → ShowSays left now Ended AtEnd old new Line Complete
@@ -61,6 +61,7 @@ another_show_line left now Ended AtEnd old new Line Other ReadFault l is says = 
 another_show_line left now Ended AtEnd old new Line Other WriteFault l is says = says
 another_show_line left now Ended AtEnd old new Line Other Memory l is says = says
 another_show_line left now Ended AtEnd old new Line Other Words l is says = says
+another_show_line left now Ended AtEnd old new Line Other Unsaved l is says = says
 another_show_line left now Ended AtEnd old new Line Other Refused l is says = says
 another_show_line left now Ended AtEnd old new Line Other Damaged l is says = says
 another_show_line left now Ended AtEnd old new Line Other LinkFault l is says = says
@@ -69,6 +70,7 @@ another_show_line left now Ended AtEnd old new Line Other LinkFault l is says = 
 pub told_status : (v : Verdict) (status : Status) (Read Write : Type 0) → (status ≡ ReadFault → Read) → (status ≡ WriteFault → Write) → ¬ Read → ¬ Write → status ≢ Memory → IsFor v status → status ≡ status_for v
 told_status v Complete Read Write read write still quiet had is = is
 told_status v Words Read Write read write still quiet had is = is
+told_status v Unsaved Read Write read write still quiet had is = is
 told_status v Refused Read Write read write still quiet had is = is
 told_status v Damaged Read Write read write still quiet had is = is
 told_status v BadReply Read Write read write still quiet had is = is

@@ -14,7 +14,7 @@ use Rattle.dap_server.specs.Connections.{FailedBy, RoseBy, failures, leaves_open
 use Rattle.dap_server.specs.declared.served.Served.{Served}
 use Rattle.dap_commands.specs.Serve.{IsCalm, IsVisit, IsWholeVisit, ServeSays, ServesFrom, Standing, Visit, ending_name, failures_in, lines_from, link_line, most_asked}
 use Rattle.dap_commands.specs.declared.status.Status.{Status}
-use Rattle.dap_commands.specs.declared.status.Status.TheVariants.{Complete, Words, Refused, Damaged, BadReply, ReadFault, WriteFault, LinkFault, Memory, ServerError}
+use Rattle.dap_commands.specs.declared.status.Status.TheVariants.{Complete, Words, Unsaved, Refused, Damaged, BadReply, ReadFault, WriteFault, LinkFault, Memory, ServerError}
 
 abbrev pub standing : {W : Type 0} → Option (List W) → ℕ → ℕ → Option (List ℕ) → Standing W
 standing back faults asked written = record { back = back; faults = faults; asked = asked; written = written }
@@ -39,6 +39,7 @@ module _ {W : Type 0} (told : Told) (state : W → LinkState) where
   says-more k requests came line lines a m b WriteFault puts (some, few, front) = (λ e. some (omega (arith, e)), omega (arith, few), front_more a m b line lines puts front)
   says-more k requests came line lines a m b LinkFault puts (few, out) = (omega (arith, few), Appends-trans a m b line lines puts out)
   says-more k requests came line lines a m b Words puts says = absurd says
+  says-more k requests came line lines a m b Unsaved puts says = absurd says
   says-more k requests came line lines a m b Refused puts says = absurd says
   says-more k requests came line lines a m b Damaged puts says = absurd says
   says-more k requests came line lines a m b BadReply puts says = absurd says

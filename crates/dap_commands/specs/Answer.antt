@@ -11,21 +11,21 @@ use Rattle.dap_http.specs.declared.kind.Kind.{Kind}
 use Rattle.dap_http.specs.declared.kind.Kind.TheVariants.{Dds, Das, Dods, Ver}
 use Rattle.dap_outside.specs.Files.{Told}
 use Rattle.dap_server.specs.Costs.{IsCost, IsCostAt, asks_shelf, most_first}
-use Rattle.dap_server.specs.Files.{Files, Form, MayHave, form_of, netcdf, saved, table}
+use Rattle.dap_server.specs.Files.{Files, Form, MayHave, form_of, joined, netcdf, saved, table}
 use Rattle.dap_server.specs.Prepared.{MayGive}
-use Rattle.dap_server.specs.Results.{Results, Text, error_object, put_of, text_of}
+use Rattle.dap_server.specs.Results.{ResultsAmong, Text, error_object, put_of, text_of}
 use Rattle.xdr_encode.specs.Streamed.{Stops}
 use Rattle.dap_commands.specs.Lines.{damaged_line, refused_line}
 use Rattle.dap_commands.specs.declared.status.Status.{Status}
-use Rattle.dap_commands.specs.declared.status.Status.TheVariants.{Complete, Words, Refused, Damaged, BadReply, ReadFault, WriteFault, LinkFault, Memory, ServerError}
+use Rattle.dap_commands.specs.declared.status.Status.TheVariants.{Complete, Words, Unsaved, Refused, Damaged, BadReply, ReadFault, WriteFault, LinkFault, Memory, ServerError}
 
 -- the files that the shelf may have give that result
 abbrev pub MayResult : Told → List ℕ → Result Text Cause → Type 0
-MayResult told target r = (files : Files) × MayHave told files × Results target files r
+MayResult told target r = (files : Files) × MayHave told files × ResultsAmong told target files r
 
 -- all files that it may have give it
 abbrev pub MustResult : Told → List ℕ → Result Text Cause → Type 0
-MustResult told target r = (files : Files) → MayHave told files → Results target files r
+MustResult told target r = (files : Files) → MayHave told files → ResultsAmong told target files r
 
 -- a cause in a file, or another one
 abbrev pub status_of : Cause → Status
@@ -62,21 +62,23 @@ status_for (Err cause) = status_of cause
 abbrev pub looks_up : List ℕ → Bool
 looks_up target = option_map_or asks_shelf (target_of target) false
 
--- the values of a netCDF file are read as they are put, all else before
+-- the values of netCDF files are read as they are put, all else before
 abbrev pub is_data : Kind → Bool
 is_data Dods = true
 is_data Dds = false
 is_data Das = false
 is_data Ver = false
 
-abbrev pub is_netcdf : Option Form → Bool
-is_netcdf (Some netcdf) = true
-is_netcdf (Some table) = false
-is_netcdf (Some saved) = false
-is_netcdf None = false
+-- of one, or of those that a list names
+abbrev pub has_netcdf : Option Form → Bool
+has_netcdf (Some netcdf) = true
+has_netcdf (Some table) = false
+has_netcdf (Some saved) = false
+has_netcdf (Some joined) = true
+has_netcdf None = false
 
 abbrev pub is_read_late : List ℕ → Bool
-is_read_late target = option_map_or (λ a. is_data a.kind && is_netcdf (form_of a.name)) (target_of target) false
+is_read_late target = option_map_or (λ a. is_data a.kind && has_netcdf (form_of a.name)) (target_of target) false
 
 -- what is put of an answer is known where the files are told; else where it was read before
 abbrev pub WhereKnown : Told → List ℕ → Result Text Cause → Type 0 → Type 0
@@ -97,6 +99,7 @@ AnswerSays told target Out Front Line ReadFault =
 AnswerSays told target Out Front Line WriteFault = (r : Result Text Cause) × MayResult told target r × WhereKnown told target r (Front (put_of r))
 AnswerSays told target Out Front Line Memory = Out []
 AnswerSays told target Out Front Line Words = ⊥
+AnswerSays told target Out Front Line Unsaved = ⊥
 AnswerSays told target Out Front Line BadReply = ⊥
 AnswerSays told target Out Front Line LinkFault = ⊥
 AnswerSays told target Out Front Line ServerError = ⊥
@@ -126,6 +129,7 @@ HasNoText Complete = ⊥
 HasNoText ReadFault = ⊥
 HasNoText WriteFault = ⊥
 HasNoText Words = ⊥
+HasNoText Unsaved = ⊥
 HasNoText BadReply = ⊥
 HasNoText LinkFault = ⊥
 HasNoText ServerError = ⊥

@@ -1,12 +1,19 @@
 -- What one end of the program writes the other calls good, over the bytes that were written.
-use Rattle.std.specs.Prelude.{◌≡◌, ℕ, ◌<◌, List, length, Some}
+use Rattle.std.specs.Prelude.{◌≡◌, ℕ, ◌<◌, List, [], length, Option, Some, Ok}
 use Rattle.std.specs.Io.KnownBytes.{Appends}
 use Rattle.dap_types.specs.Limits.{body_limit}
 use Rattle.dap_outside.specs.Links.{LinkState}
 use Rattle.dap_http.specs.Targets.{target_of}
 use Rattle.dap_http.specs.declared.kind.Kind.TheVariants.{Dods}
 use Rattle.dap_server.specs.Connections.{put_from}
-use Rattle.dap_server.specs.Files.{Files}
+use Rattle.dap_server.specs.Files.{Files, form_of, front, netcdf}
+use Rattle.dap_server.specs.Results.{Results, text_of}
+use Rattle.netcdf_source.specs.Header.{IsHeader}
+use Rattle.netcdf_source.specs.Mapping.{dataset_of}
+use Rattle.netcdf_source.specs.Values.{file_trees}
+use Rattle.netcdf_source.specs.declared.header.Contents.{Contents}
+use Rattle.netcdf_writer.specs.Saving.{Judges}
+use Rattle.netcdf_writer.specs.declared.stored.Stored.TheVariants.{Written}
 use Rattle.both_ends.specs.Ends.{HoldBytes, IsGoodResult, StandGood}
 use Rattle.dap_commands.specs.Serve.{IsVisit, Visit}
 use Rattle.dap_commands.specs.ServerHalf.{Answering, Says}
@@ -24,3 +31,23 @@ AnsweredIsGood = (target name query : List ℕ) (files : Files) (a : Answering) 
 abbrev pub VisitsAreGood : Type 0 → Type 0
 VisitsAreGood W = (files : Files) (state : W → LinkState) (v : Visit W) → HoldBytes files → IsVisit (Some files) state v
     → Appends (state v.came).written (state v.back).written (put_from 1 v.connection) × StandGood files (put_from 1 v.connection) v.connection.turns
+
+-- a target asks for all of a netCDF file of that name
+pub record AsksFile (target name file : List ℕ) (files : Files) : Type 0 where
+  pub is_target : target_of target ≡ Some (record { name = name; kind = Dods; query = [] })
+  pub form : form_of name ≡ Some netcdf
+  pub there : files name ≡ Some file
+
+-- a netCDF file has the dataset of another one, whose header says this, under whatever name, and its values
+pub record IsSameFile (c : Contents) (file saved : List ℕ) : Type 0 where
+  pub contents : Contents
+  pub header : IsHeader contents (front saved) (length saved)
+  pub dataset : (name : List ℕ) → dataset_of contents name ≡ dataset_of c name
+  pub trees : file_trees contents saved ≡ file_trees c file
+
+-- The data response that such a target is answered with, over files which hold bytes: where it is saved, the output gained a
+-- netCDF file of the same dataset and values.
+abbrev pub AnswerIsSaved : Type 0
+AnswerIsSaved = (target name file text : List ℕ) (files : Files) → AsksFile target name file files → HoldBytes files → Results target files (Ok (text_of Dods text))
+    → (before now : Option (List ℕ)) (bytes : ℕ) → Judges text before now (Written bytes)
+    → (c : Contents) × IsHeader c (front file) (length file) × ((saved : List ℕ) × Appends before now saved × (bytes ≡ length saved) × IsSameFile c file saved)

@@ -6,6 +6,7 @@ pub mod Headline
 pub mod Laws
 pub mod Lines
 pub mod Relay
+pub mod Save
 pub mod Serve
 pub mod ServerHalf
 pub mod Show

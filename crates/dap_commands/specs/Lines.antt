@@ -7,7 +7,7 @@ use Rattle.std.specs.Io.KnownBytes.{Appends}
 use Rattle.dap_outside.specs.Causes.{Rose}
 use Rattle.dap_outside.specs.Streams.{AppendsFront}
 use Rattle.dap_commands.specs.declared.status.Status.{Status}
-use Rattle.dap_commands.specs.declared.status.Status.TheVariants.{Complete, Words, Refused, Damaged, BadReply, ReadFault, WriteFault, LinkFault, Memory, ServerError}
+use Rattle.dap_commands.specs.declared.status.Status.TheVariants.{Complete, Words, Unsaved, Refused, Damaged, BadReply, ReadFault, WriteFault, LinkFault, Memory, ServerError}
 use Rattle.xdr_decode.specs.Bads.{bad_name}
 use Rattle.xdr_decode.specs.declared.bad.BadField.{BadField}
 
@@ -23,15 +23,17 @@ number_of ReadFault = 7
 number_of WriteFault = 8
 number_of LinkFault = 9
 number_of Memory = 10
+number_of Unsaved = 12
 
--- for standard error. Those of a refusal, of a damaged file, of a bad reply and of an Error object say what is wrong
+-- for standard error. Those of a refusal, of a damaged file, of a bad reply, of an Error object and of what cannot be saved say what is wrong
 abbrev pub line_of : Status → Option (List ℕ)
 line_of Complete = None
-line_of Words = Some (codes "usage: dap2 answer TARGET [WORKERS] | show | serve PORT WORKERS REQUESTS | fetch URL KIND CE [CE ..] | soak START SIZE | relay HOST UPPORT PORT ROOM REQUESTS | ver\n")
+line_of Words = Some (codes "usage: dap2 answer TARGET [WORKERS] | show | serve PORT WORKERS REQUESTS | fetch URL KIND CE [CE ..] | soak START SIZE | relay HOST UPPORT PORT ROOM REQUESTS | save [URL CE] | ver\n")
 line_of Refused = None
 line_of Damaged = None
 line_of BadReply = None
 line_of ServerError = None
+line_of Unsaved = None
 line_of ReadFault = Some (codes "dap2: read fault\n")
 line_of WriteFault = Some (codes "dap2: write fault\n")
 line_of LinkFault = Some (codes "dap2: link fault\n")

@@ -16,7 +16,7 @@ use Rattle.dap_gateway.specs.Turns as turns
 use Rattle.dap_gateway.specs.declared.relayed.Relayed.{Relayed}
 use Rattle.dap_gateway.specs.declared.relayed.Relayed.TheVariants as endings
 use Rattle.dap_commands.specs.declared.status.Status.{Status}
-use Rattle.dap_commands.specs.declared.status.Status.TheVariants.{Complete, Words, Refused, Damaged, BadReply, ReadFault, WriteFault, LinkFault, Memory, ServerError}
+use Rattle.dap_commands.specs.declared.status.Status.TheVariants.{Complete, Words, Unsaved, Refused, Damaged, BadReply, ReadFault, WriteFault, LinkFault, Memory, ServerError}
 
 -- ---- The line of a link.
 
@@ -192,6 +192,7 @@ RelaySays requests came lines Out Front WriteFault = (came ≢ 0) × (came < req
 RelaySays requests came lines Out Front LinkFault = (came < requests) × Out lines
 RelaySays requests came lines Out Front Memory = (came ≡ 0) × Out lines
 RelaySays requests came lines Out Front Words = ⊥
+RelaySays requests came lines Out Front Unsaved = ⊥
 RelaySays requests came lines Out Front Refused = ⊥
 RelaySays requests came lines Out Front Damaged = ⊥
 RelaySays requests came lines Out Front BadReply = ⊥

@@ -15,7 +15,7 @@ use Rattle.dap_server.specs.declared.served.Ending.{Ending}
 use Rattle.dap_server.specs.declared.served.Ending.TheVariants as endings
 use Rattle.dap_server.specs.declared.served.Served.{Served}
 use Rattle.dap_commands.specs.declared.status.Status.{Status}
-use Rattle.dap_commands.specs.declared.status.Status.TheVariants.{Complete, Words, Refused, Damaged, BadReply, ReadFault, WriteFault, LinkFault, Memory, ServerError}
+use Rattle.dap_commands.specs.declared.status.Status.TheVariants.{Complete, Words, Unsaved, Refused, Damaged, BadReply, ReadFault, WriteFault, LinkFault, Memory, ServerError}
 
 -- ---- The line of a link.
 
@@ -91,6 +91,7 @@ ServeSays requests came lines Out Front Complete = (came ≡ requests) × Out li
 ServeSays requests came lines Out Front WriteFault = (came ≢ 0) × (came < requests + 1) × Front lines
 ServeSays requests came lines Out Front LinkFault = (came < requests) × Out lines
 ServeSays requests came lines Out Front Words = ⊥
+ServeSays requests came lines Out Front Unsaved = ⊥
 ServeSays requests came lines Out Front Refused = ⊥
 ServeSays requests came lines Out Front Damaged = ⊥
 ServeSays requests came lines Out Front BadReply = ⊥
@@ -129,6 +130,7 @@ abbrev pub VerSays : (List ℕ → Type 0) → (List ℕ → Type 0) → Status 
 VerSays Out Front Complete = Out version
 VerSays Out Front WriteFault = Front version
 VerSays Out Front Words = ⊥
+VerSays Out Front Unsaved = ⊥
 VerSays Out Front Refused = ⊥
 VerSays Out Front Damaged = ⊥
 VerSays Out Front BadReply = ⊥

@@ -13,7 +13,7 @@ use Rattle.dap_client.specs.Shows.{BreaksOff, Gains, HasFewValues, StopsWithin, 
 use Rattle.dap_client.specs.Verdict.{Verdict, IsVerdict, bad, dods_form, good, good_das, good_dds, server_error}
 use Rattle.dap_commands.specs.Lines.{bad_reply_line, server_error_line}
 use Rattle.dap_commands.specs.declared.status.Status.{Status}
-use Rattle.dap_commands.specs.declared.status.Status.TheVariants.{Complete, Words, Refused, Damaged, BadReply, ServerError, ReadFault, WriteFault, LinkFault, Memory}
+use Rattle.dap_commands.specs.declared.status.Status.TheVariants.{Complete, Words, Unsaved, Refused, Damaged, BadReply, ServerError, ReadFault, WriteFault, LinkFault, Memory}
 
 -- the status for a verdict
 abbrev pub status_for : Verdict → Status
@@ -48,6 +48,7 @@ ShowSays left now Ended AtEnd old new Line ReadFault = Takes left now (λ taken.
 ShowSays left now Ended AtEnd old new Line WriteFault = Takes left now (λ taken. Gains old new (BreaksOff taken))
 ShowSays left now Ended AtEnd old new Line Memory = (new ≡ old) × Takes left now (HasFewValues most_piece)
 ShowSays left now Ended AtEnd old new Line Words = ⊥
+ShowSays left now Ended AtEnd old new Line Unsaved = ⊥
 ShowSays left now Ended AtEnd old new Line Refused = ⊥
 ShowSays left now Ended AtEnd old new Line Damaged = ⊥
 ShowSays left now Ended AtEnd old new Line LinkFault = ⊥

@@ -2,7 +2,7 @@
 use Rattle.std.specs.Prelude.{ℕ, List, []}
 use Rattle.soak.specs.Numbers.{lines_of, numbers}
 use Rattle.dap_commands.specs.declared.status.Status.{Status}
-use Rattle.dap_commands.specs.declared.status.Status.TheVariants.{Complete, Words, Refused, Damaged, BadReply, ReadFault, WriteFault, LinkFault, Memory, ServerError}
+use Rattle.dap_commands.specs.declared.status.Status.TheVariants.{Complete, Words, Unsaved, Refused, Damaged, BadReply, ReadFault, WriteFault, LinkFault, Memory, ServerError}
 
 -- the lines of the numbers of the file of a seed and of so many records are put, or where the output failed a
 -- front of them
@@ -11,6 +11,7 @@ SoakSays start records Out Front Complete = Out (lines_of (numbers start records
 SoakSays start records Out Front WriteFault = Front (lines_of (numbers start records))
 SoakSays start records Out Front Memory = Out []
 SoakSays start records Out Front Words = ⊥
+SoakSays start records Out Front Unsaved = ⊥
 SoakSays start records Out Front Refused = ⊥
 SoakSays start records Out Front Damaged = ⊥
 SoakSays start records Out Front BadReply = ⊥

@@ -6,7 +6,7 @@ use Rattle.dap_http.specs.declared.kind.Kind.{Kind}
 use Rattle.dap_http.specs.declared.kind.Kind.TheVariants as kinds
 use Rattle.viable.specs.Numerals.{is_numeral}
 use Rattle.dap_commands.specs.declared.command.Command.{Command}
-use Rattle.dap_commands.specs.declared.command.Command.TheVariants.{Answer, Show, Serve, Ver, Soak, Fetch, Relay, Other}
+use Rattle.dap_commands.specs.declared.command.Command.TheVariants.{Answer, Show, Serve, Ver, Soak, Fetch, Relay, Save, SaveUrl, Other}
 
 -- the word is a number from 1 to that one, in 1 to 20 digits
 abbrev pub IsNumber : ℕ → List ℕ → ℕ → Type 0
@@ -81,8 +81,24 @@ IsSoak words = (start : ℕ) × (records : ℕ) × AreSoak words start records
 abbrev pub IsRelay : List (List ℕ) → Type 0
 IsRelay words = (host : List ℕ) × (upport : ℕ) × (port : ℕ) × (room : ℕ) × (requests : ℕ) × AreRelay words host upport port room requests
 
+-- `save`
+abbrev pub IsSave : List (List ℕ) → Type 0
+IsSave words = words ≡ codes "save" ∷ []
+
+-- `save`, a word and a constraint
+abbrev pub HaveSaveForm : List (List ℕ) → List ℕ → List ℕ → Type 0
+HaveSaveForm words url ce = words ≡ codes "save" ∷ url ∷ ce ∷ []
+
+-- `save URL CE`
+abbrev pub AreSaveUrl : List (List ℕ) → UrlParts → List ℕ → Type 0
+AreSaveUrl words u ce = (url : List ℕ) × HaveSaveForm words url ce × (url_of url ≡ Some u)
+
+-- `save` of some URL
+abbrev pub IsSaveUrl : List (List ℕ) → Type 0
+IsSaveUrl words = (u : UrlParts) × (ce : List ℕ) × AreSaveUrl words u ce
+
 abbrev pub IsCommand : List (List ℕ) → Type 0
-IsCommand words = ((target : List ℕ) × (workers : ℕ) × AreAnswer words target workers) ⊎ (IsShow words ⊎ (IsServe words ⊎ (IsVer words ⊎ (IsFetch words ⊎ (IsSoak words ⊎ IsRelay words)))))
+IsCommand words = ((target : List ℕ) × (workers : ℕ) × AreAnswer words target workers) ⊎ (IsShow words ⊎ (IsServe words ⊎ (IsVer words ⊎ (IsFetch words ⊎ (IsSoak words ⊎ (IsRelay words ⊎ (IsSave words ⊎ IsSaveUrl words)))))))
 
 -- what the words ask for
 abbrev pub Reads : List (List ℕ) → Command → Type 0
@@ -93,4 +109,6 @@ Reads words Ver = IsVer words
 Reads words (Soak start records) = AreSoak words start records
 Reads words (Fetch url kind ces) = HaveFetchForm words url.now kind ces.now
 Reads words (Relay host upport port room requests) = AreRelay words host.now upport port room requests
+Reads words Save = IsSave words
+Reads words (SaveUrl url ce) = HaveSaveForm words url.now ce.now
 Reads words Other = ¬ (IsCommand words)

@@ -1,6 +1,6 @@
 //! The answer to a target.
 
-ghost use Rattle.std.specs.Prelude.{◌≡◌, ◌≢◌, ◌+◌, ◌<◌, ◌≤◌, ℕ, List, IsSome, Some, false, Result, Ok, Err};
+ghost use Rattle.std.specs.Prelude.{◌≡◌, ◌≢◌, ◌+◌, ◌<◌, ◌≤◌, ℕ, List, map, IsSome, Some, false, Result, Ok, Err};
 ghost use Rattle.std.specs.Io.KnownBytes.{Appends};
 ghost use Rattle.dap_errors.specs.declared.cause.Cause.{Cause};
 ghost use Rattle.dap_http.specs.Targets.{target_of};
@@ -9,6 +9,9 @@ ghost use Rattle.dap_outside.specs.Streams.{AppendsFront};
 ghost use Rattle.dap_server.specs.Prepared.{asked_of};
 ghost use Rattle.dap_server.specs.Results.{Text};
 ghost use Rattle.xdr_encode.specs.Bodies.{FitsFile, HasNoFile, MayAsk, cost_in, text_in};
+ghost use Rattle.join_source.specs.Bodies.{FitsFiles};
+ghost use Rattle.join_source.specs.Bodies as join;
+ghost use Rattle.join_source.specs.Pieces.{AreTold};
 ghost use Rattle.saved_source.specs.Bodies.{Sends};
 ghost use Rattle.xdr_encode.specs.Streamed.{Stops};
 ghost use Rattle.dap_commands.specs.Answer.{AnswerSays, HasNoText, MayAskFor, MayHaveAsked, MustResult, looks_up, most_before, status_for, status_of};
@@ -21,6 +24,8 @@ use dap_errors::{Cause, code, message, print_error};
 use dap_http::{Target, TargetRefusal};
 use dap_outside::{Shelf, Sink, put_all};
 use dap_server::{Prepared, prepare};
+use dap_types::List;
+use join_source::JoinBody;
 use saved_source::SavedBody;
 use slab_fill::NoGate;
 use std::alloc::Global;
@@ -67,6 +72,39 @@ fn put_body<R: Threads + Sync, S: Shelf, O: Sink>(
     ensures beside { O.beside_writing out.new ≡ O.beside_writing out.old }
 {
     match body.stream(rt, shelf, &mut file, out, workers, &NoGate) {
+        Streamed::Sent => Status::Complete,
+        Streamed::ShelfFault => Status::ReadFault,
+        Streamed::WriteFault => Status::WriteFault,
+    }
+}
+
+/// Puts the body of joined files, which are read as it goes.
+fn put_joined<R: Threads + Sync, S: Shelf, O: Sink>(
+    rt: &R,
+    shelf: &mut S,
+    mut files: List<S::File>,
+    mut body: JoinBody,
+    workers: u32,
+    out: &mut O,
+) -> Status
+    requires fits { FitsFiles body (map (S.size_of shelf.old) files) }
+    requires some { 1 ≤ workers }
+    requires many { workers ≤ 64 }
+    ensures put { (contents : List (List ℕ)) → AreTold (map (S.content shelf.old) files) contents →
+        BodyPut (join.text_in body contents) (Appends (O.written out.old) (O.written out.new)) (AppendsFront (O.written out.old) (O.written out.new)) result }
+    ensures is_put { IsPut result }
+    ensures stops { (contents : List (List ℕ)) → AreTold (map (S.content shelf.old) files) contents → result ≡ Status.WriteFault →
+        Stops (join.text_in body contents) (join.MayAsk body contents) (O.written out.old) (O.written out.new) (S.asked shelf.old) (S.asked shelf.new) }
+    ensures asked { S.asked shelf.new ≤ S.asked shelf.old + join.cost_in body }
+    ensures later { S.faults shelf.old ≤ S.faults shelf.new }
+    ensures files { S.files shelf.new ≡ S.files shelf.old }
+    ensures read_fault { result ≡ Status.ReadFault → Rose (S.faults shelf.old) (S.faults shelf.new) }
+    ensures shelf_kept { result ≢ Status.ReadFault → S.faults shelf.new ≡ S.faults shelf.old }
+    ensures write_fault { result ≡ Status.WriteFault → Rose (O.put_faults out.old) (O.put_faults out.new) }
+    ensures out_kept { result ≢ Status.WriteFault → O.put_faults out.new ≡ O.put_faults out.old }
+    ensures beside { O.beside_writing out.new ≡ O.beside_writing out.old }
+{
+    match body.stream(rt, shelf, files.items_mut(), out, workers, &NoGate) {
         Streamed::Sent => Status::Complete,
         Streamed::ShelfFault => Status::ReadFault,
         Streamed::WriteFault => Status::WriteFault,
@@ -159,6 +197,7 @@ fn answer_asked<R: Threads + Sync, S: Shelf, O: Sink, E: Sink>(
         Prepared::Text { text, .. } => put_text(out, text.bytes()),
         Prepared::Body { body, file } => put_body(rt, shelf, file, body, workers, out),
         Prepared::Saved { body } => put_saved(body, out),
+        Prepared::Joined { body, files } => put_joined(rt, shelf, files, body, workers, out),
         Prepared::Refuse(cause) => put_cause(alloc, &cause, out, err),
         Prepared::ShelfFault => Status::ReadFault,
         Prepared::Memory => Status::Memory,

@@ -43,6 +43,13 @@ pub enum Command<'a> {
         room: u32,
         requests: u32,
     },
+    /// `save`: the data response that comes in, as a netCDF classic file.
+    Save,
+    /// `save URL CE`, where the URL may be none: the same of what it gives for a constraint.
+    SaveUrl {
+        url: &'a str,
+        ce: &'a str,
+    },
     /// The words are no command.
     Other,
 }
@@ -54,6 +61,8 @@ fn command_of_one(name: &str) -> Command<'_>
         Command::Show
     } else if name == "ver" {
         Command::Ver
+    } else if name == "save" {
+        Command::Save
     } else {
         Command::Other
     }
@@ -84,7 +93,7 @@ fn soak_of<'a>(start: &str, size: &str) -> Command<'a>
     }
 }
 
-fn command_of_three<'a>(name: &str, first: &'a str, second: &str) -> Command<'a>
+fn command_of_three<'a>(name: &str, first: &'a str, second: &'a str) -> Command<'a>
     ensures { Reads (name.now ∷ first.now ∷ second.now ∷ []) result }
 {
     if name == "answer" {
@@ -94,6 +103,11 @@ fn command_of_three<'a>(name: &str, first: &'a str, second: &str) -> Command<'a>
         }
     } else if name == "soak" {
         soak_of(first, second)
+    } else if name == "save" {
+        Command::SaveUrl {
+            url: first,
+            ce: second,
+        }
     } else {
         Command::Other
     }

@@ -1,6 +1,6 @@
 //! What the program promises as a whole, each as the contract of a function that does nothing.
 ghost use Rattle.dap_commands.specs.Headline.{Headline};
-ghost use Rattle.dap_commands.specs.Laws.{AnsweredIsGood, VisitsAreGood};
+ghost use Rattle.dap_commands.specs.Laws.{AnswerIsSaved, AnsweredIsGood, VisitsAreGood};
 
 use dap_outside::{Dial, Door};
 
@@ -19,4 +19,10 @@ pub fn visits_are_good<D: Door>()
 /// client shows, from which bytes.
 pub fn headline<D: Door, C: Dial>()
     ensures law { Headline D.Wire C.Wire }
+{}
+
+/// What is served of all of a netCDF file is the dataset and the values of the file that `save` writes of it, where it
+/// is saved.
+pub fn answer_is_saved()
+    ensures law { AnswerIsSaved }
 {}

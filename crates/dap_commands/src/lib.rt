@@ -11,6 +11,7 @@ mod lines;
 mod numbers;
 mod relaying;
 mod runs;
+mod save;
 mod serving;
 mod show;
 mod soaking;
@@ -18,7 +19,7 @@ mod status;
 mod top;
 mod version;
 
-pub use laws::{answered_is_good, headline, visits_are_good};
+pub use laws::{answer_is_saved, answered_is_good, headline, visits_are_good};
 pub use relaying::relay;
 pub use runs::{run_answer, run_fetch, run_show};
 pub use serving::serve;

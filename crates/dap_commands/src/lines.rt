@@ -4,8 +4,10 @@ ghost use Rattle.std.specs.List.{flat_map};
 ghost use Rattle.dap_outside.specs.Causes.{HasCause};
 ghost use Rattle.dap_outside.specs.Streams.{AppendsFront};
 ghost use Rattle.dap_commands.specs.Lines.{IsSaid, bad_reply_line, cause_line, server_error_line};
+ghost use Rattle.dap_commands.specs.Save.{member_line, reason_line, unsaved_line, why_text};
 
 use dap_outside::{Failed, Sink, put_all};
+use netcdf_writer::Why;
 use xdr_decode::{BadField, put_shown_text};
 
 /// Puts the pieces, one after the other. Fails only where the count of faults rose, and then a front
@@ -67,4 +69,45 @@ pub fn say_server_error<E: Sink>(err: &mut E, code: &[u8], message: &[u8])
     ensures beside { E.beside_writing err.new ≡ E.beside_writing err.old }
 {
     let _ = put_server_error(err, code, message);
+}
+
+/// Says why a data response is not saved.
+pub fn say_unsaved<E: Sink>(err: &mut E, reason: &[u8])
+    ensures said { IsSaid (unsaved_line reason.now) (E.put_faults err.old) (E.put_faults err.new) (E.written err.old) (E.written err.new) }
+    ensures beside { E.beside_writing err.new ≡ E.beside_writing err.old }
+{
+    say_cause(err, b"dap2: cannot save: ", reason)
+}
+
+/// Why a member cannot be stored.
+fn why_text(why: Why) -> &'static str
+    ensures { result.now ≡ why_text why }
+{
+    match why {
+        Why::Kind => "kind",
+        Why::NoName => "no name",
+        Why::BadName => "bad name",
+        Why::BadGrid => "bad grid",
+        Why::Clash => "clash",
+        Why::Zero => "zero",
+    }
+}
+
+/// Says which member cannot be stored, of whose number these are the digits, and the reason.
+fn say_reason<E: Sink>(err: &mut E, member: &[u8], reason: &[u8])
+    ensures said { IsSaid (reason_line member.now reason.now) (E.put_faults err.old) (E.put_faults err.new) (E.written err.old) (E.written err.new) }
+    ensures beside { E.beside_writing err.new ≡ E.beside_writing err.old }
+{
+    say(
+        err,
+        &[b"dap2: cannot save: member ", member, b": ", reason, b"\n"],
+    )
+}
+
+/// Says which member cannot be stored, of whose number these are the digits, and why.
+pub fn say_member<E: Sink>(err: &mut E, member: &[u8], why: Why)
+    ensures said { IsSaid (member_line member.now why) (E.put_faults err.old) (E.put_faults err.new) (E.written err.old) (E.written err.new) }
+    ensures beside { E.beside_writing err.new ≡ E.beside_writing err.old }
+{
+    say_reason(err, member, why_text(why).as_bytes())
 }

@@ -27,6 +27,8 @@ pub enum Status {
     LinkFault,
     /// Memory was wanted.
     Memory,
+    /// The data response cannot be saved as a netCDF classic file.
+    Unsaved,
 }
 
 impl Status {
@@ -45,6 +47,7 @@ impl Status {
             Status::WriteFault => 8,
             Status::LinkFault => 9,
             Status::Memory => 10,
+            Status::Unsaved => 12,
         }
     }
 
@@ -56,7 +59,7 @@ impl Status {
     }
 
     /// The line for standard error. There is none where the command is complete, and for a refusal, a
-    /// damaged file, a bad reply and an Error object, whose lines say what is wrong.
+    /// damaged file, a bad reply, an Error object and what cannot be saved, whose lines say what is wrong.
     pub fn line(self) -> Option<&'static str>
         ensures { option_map (λ line. line.now) result ≡ line_of self }
     {
@@ -65,9 +68,10 @@ impl Status {
             | Status::Refused
             | Status::Damaged
             | Status::BadReply
-            | Status::ServerError => None,
+            | Status::ServerError
+            | Status::Unsaved => None,
             Status::Words => Some(
-                "usage: dap2 answer TARGET [WORKERS] | show | serve PORT WORKERS REQUESTS | fetch URL KIND CE [CE ..] | soak START SIZE | relay HOST UPPORT PORT ROOM REQUESTS | ver\n",
+                "usage: dap2 answer TARGET [WORKERS] | show | serve PORT WORKERS REQUESTS | fetch URL KIND CE [CE ..] | soak START SIZE | relay HOST UPPORT PORT ROOM REQUESTS | save [URL CE] | ver\n",
             ),
             Status::ReadFault => Some("dap2: read fault\n"),
             Status::WriteFault => Some("dap2: write fault\n"),

@@ -8,22 +8,26 @@ ghost use Rattle.dap_outside.specs.Streams.{AppendsFront};
 ghost use Rattle.dap_server.specs.Results.{Text};
 ghost use Rattle.dap_types.specs.Limits.{body_limit};
 ghost use Rattle.dap_http.specs.Urls.{UrlParts};
+ghost use Rattle.netcdf_writer.specs.Fetching.{SavesUrl};
+ghost use Rattle.netcdf_writer.specs.Saving.{Saves};
 ghost use Rattle.dap_http.specs.declared.kind.Kind.{Kind};
 ghost use Rattle.dap_commands.specs.Answer as answers;
 ghost use Rattle.dap_commands.specs.Answer.{AnswerSays, HasNoText, MayAskFor, MayHaveAsked, MustResult, looks_up, most_before};
 ghost use Rattle.dap_commands.specs.Fetch.{FetchSays};
 ghost use Rattle.dap_commands.specs.Lines.{IsSaid, line_of};
 ghost use Rattle.dap_commands.specs.Relay.{RelayedLink, Relays};
+ghost use Rattle.dap_commands.specs.Save.{SaveSays};
 ghost use Rattle.dap_commands.specs.Show.{IsFor, ShowSays, status_for};
 ghost use Rattle.dap_commands.specs.Soak.{SoakSays};
 ghost use Rattle.dap_commands.specs.Serve.{Serves, VerSays, Visit};
-ghost use Rattle.dap_commands.specs.Words.{AreAnswer, AreFetch, AreRelay, AreServe, AreSoak, IsCommand, IsFetch, IsRelay, IsServe, IsShow, IsSoak, IsVer};
+ghost use Rattle.dap_commands.specs.Words.{AreAnswer, AreFetch, AreRelay, AreSaveUrl, AreServe, AreSoak, IsCommand, IsFetch, IsRelay, IsSave, IsSaveUrl, IsServe, IsShow, IsSoak, IsVer};
 
 use crate::answer::answer;
 use crate::command::{Command, command_of};
 use crate::fetch::fetch;
 use crate::lines::say;
 use crate::relaying::relay;
+use crate::save::{save_fetched, save_input};
 use crate::serving::serve;
 use crate::show::show_input;
 use crate::soaking::soak_lines;
@@ -71,7 +75,7 @@ fn obey<R: Threads + Sync, S: Shelf, I: Source, O: Sink, E: Sink, D: Door, C: Di
         × (relays ≢ [] → D.listens_at door.new ≡ Some port) }
     ensures relay_memory { IsRelay words.now → result ≡ Status.Memory → (door.new ≡ door.old) × (dial.new ≡ dial.old) × (out.new ≡ out.old) }
     ensures relay_shelf { IsRelay words.now → shelf.new ≡ shelf.old }
-    ensures link_fault { ¬ (IsFetch words.now) → result ≡ Status.LinkFault → Rose (D.faults door.old) (D.faults door.new) }
+    ensures link_fault { ¬ (IsFetch words.now) → ¬ (IsSaveUrl words.now) → result ≡ Status.LinkFault → Rose (D.faults door.old) (D.faults door.new) }
     ensures ver { IsVer words.now → VerSays (Appends (O.written out.old) (O.written out.new)) (AppendsFront (O.written out.old) (O.written out.new)) result }
     ensures ver_shelf { IsVer words.now → shelf.new ≡ shelf.old }
     ensures soak { (start records : ℕ) → AreSoak words.now start records → SoakSays start records (Appends (O.written out.old) (O.written out.new)) (AppendsFront (O.written out.old) (O.written out.new)) result }
@@ -90,20 +94,31 @@ fn obey<R: Threads + Sync, S: Shelf, I: Source, O: Sink, E: Sink, D: Door, C: Di
         (λ line. IsSaid line (E.put_faults err.old) (E.put_faults err.new) (E.written err.old) (E.written err.new)) result }
     ensures fetch_link { IsFetch words.now → result ≡ Status.LinkFault → Rose (C.faults dial.old) (C.faults dial.new) }
     ensures fetch_shelf { IsFetch words.now → shelf.new ≡ shelf.old }
-    ensures dial { ¬ (IsFetch words.now) → ¬ (IsRelay words.now) → dial.new ≡ dial.old }
+    ensures save { IsSave words.now → SaveSays (Saves (I.left input.old) (I.left input.new) (IsTrue (I.ended input.new)) (O.written out.old) (O.written out.new))
+        (λ line. IsSaid line (E.put_faults err.old) (E.put_faults err.new) (E.written err.old) (E.written err.new)) result }
+    ensures save_read { IsSave words.now → result ≡ Status.ReadFault → Rose (I.take_faults input.old) (I.take_faults input.new) }
+    ensures save_shelf { IsSave words.now → shelf.new ≡ shelf.old }
+    ensures save_url { (u : UrlParts) (ce : List ℕ) → AreSaveUrl words.now u ce →
+        SaveSays (SavesUrl (λ l. record { whole = C.Wire.whole l; left = C.Wire.left l; ended = C.Wire.ended l; written = C.Wire.written l; take_faults = C.Wire.take_faults l; put_faults = C.Wire.put_faults l }) u ce
+        (record { back = C.back dial.old; faults = C.faults dial.old }) (record { back = C.back dial.new; faults = C.faults dial.new })
+        (record { written = O.written out.old; faults = O.put_faults out.old }) (record { written = O.written out.new; faults = O.put_faults out.new }))
+        (λ line. IsSaid line (E.put_faults err.old) (E.put_faults err.new) (E.written err.old) (E.written err.new)) result }
+    ensures save_link { IsSaveUrl words.now → result ≡ Status.LinkFault → Rose (C.faults dial.old) (C.faults dial.new) }
+    ensures save_url_shelf { IsSaveUrl words.now → shelf.new ≡ shelf.old }
+    ensures dial { ¬ (IsFetch words.now) → ¬ (IsRelay words.now) → ¬ (IsSaveUrl words.now) → dial.new ≡ dial.old }
     ensures words { (result ≡ Status.Words) ↔ (¬ (IsCommand words.now)) }
     ensures no_command { ¬ (IsCommand words.now) → (shelf.new ≡ shelf.old) × (out.new ≡ out.old) }
-    ensures write_fault { ¬ (IsFetch words.now) → result ≡ Status.WriteFault → Rose (O.put_faults out.old) (O.put_faults out.new) }
+    ensures write_fault { ¬ (IsFetch words.now) → ¬ (IsSaveUrl words.now) → result ≡ Status.WriteFault → Rose (O.put_faults out.old) (O.put_faults out.new) }
     ensures out_kept { result ≢ Status.WriteFault → O.put_faults out.new ≡ O.put_faults out.old }
     ensures input_kept { result ≢ Status.ReadFault → I.take_faults input.new ≡ I.take_faults input.old }
     ensures answer_kept { (target : List ℕ) (workers : ℕ) → AreAnswer words.now target workers → result ≢ Status.ReadFault → S.faults shelf.new ≡ S.faults shelf.old }
     ensures door_kept { result ≢ Status.LinkFault → D.faults door.new ≡ D.faults door.old }
     ensures dial_kept { ¬ (IsRelay words.now) → result ≢ Status.LinkFault → C.faults dial.new ≡ C.faults dial.old }
-    ensures input { ¬ (IsShow words.now) → input.new ≡ input.old }
+    ensures input { ¬ (IsShow words.now) → ¬ (IsSave words.now) → input.new ≡ input.old }
     ensures whole { I.whole input.new ≡ I.whole input.old }
     ensures beside_input { I.beside_reading input.new ≡ I.beside_reading input.old }
     ensures beside_out { O.beside_writing out.new ≡ O.beside_writing out.old }
-    ensures quiet { result ≢ Status.BadReply → result ≢ Status.ServerError → result ≢ Status.Refused → result ≢ Status.Damaged → err.new ≡ err.old }
+    ensures quiet { result ≢ Status.Unsaved → result ≢ Status.BadReply → result ≢ Status.ServerError → result ≢ Status.Refused → result ≢ Status.Damaged → err.new ≡ err.old }
     ensures beside_err { E.beside_writing err.new ≡ E.beside_writing err.old }
 {
     match command_of(words) {
@@ -134,6 +149,8 @@ fn obey<R: Threads + Sync, S: Shelf, I: Source, O: Sink, E: Sink, D: Door, C: Di
             door,
             dial,
         ),
+        Command::Save => save_input(alloc, input, out, err),
+        Command::SaveUrl { url, ce } => save_fetched(alloc, url, ce, out, err, dial),
         Command::Other => Status::Words,
     }
 }
@@ -146,8 +163,9 @@ fn obey<R: Threads + Sync, S: Shelf, I: Source, O: Sink, E: Sink, D: Door, C: Di
 /// replies on `out`; `soak START SIZE` generates a file of so many records, serves a part of it and reads the
 /// reply, both in memory, and puts the lines of what came; `relay HOST UPPORT PORT ROOM REQUESTS` answers so many
 /// links that come in at the door out of a cache or by what the server at the host and its port replies over a
-/// link of the dial, and puts a line for each; `ver` puts the version text. For each status but `Complete` a line
-/// goes to `err`.
+/// link of the dial, and puts a line for each; `save` reads a data response from `input`, and `save URL CE` asks for
+/// that of a URL over a link of the dial, and each puts it to `out` as a netCDF classic file; `ver` puts the version
+/// text. For each status but `Complete` a line goes to `err`.
 pub fn run<R: Threads + Sync, S: Shelf, I: Source, O: Sink, E: Sink, D: Door, C: Dial>(
     rt: &R,
     alloc: Global,
@@ -198,7 +216,7 @@ pub fn run<R: Threads + Sync, S: Shelf, I: Source, O: Sink, E: Sink, D: Door, C:
     ensures relay_memory { IsRelay words.now → result ≡ Status.Memory → (door.new ≡ door.old) × (dial.new ≡ dial.old) × (out.new ≡ out.old) }
     ensures relay_shelf { IsRelay words.now → shelf.new ≡ shelf.old }
 
-    ensures link_fault { ¬ (IsFetch words.now) → result ≡ Status.LinkFault → Rose (D.faults door.old) (D.faults door.new) }
+    ensures link_fault { ¬ (IsFetch words.now) → ¬ (IsSaveUrl words.now) → result ≡ Status.LinkFault → Rose (D.faults door.old) (D.faults door.new) }
     ensures ver { IsVer words.now → VerSays (Appends (O.written out.old) (O.written out.new)) (AppendsFront (O.written out.old) (O.written out.new)) result }
     ensures ver_shelf { IsVer words.now → shelf.new ≡ shelf.old }
     ensures soak { (start records : ℕ) → AreSoak words.now start records → SoakSays start records (Appends (O.written out.old) (O.written out.new)) (AppendsFront (O.written out.old) (O.written out.new)) result }
@@ -228,11 +246,25 @@ pub fn run<R: Threads + Sync, S: Shelf, I: Source, O: Sink, E: Sink, D: Door, C:
         (λ line. IsSaid line (E.put_faults err.old) (E.put_faults err.new) (E.written err.old) (E.written err.new)) result }
     ensures fetch_link { IsFetch words.now → result ≡ Status.LinkFault → Rose (C.faults dial.old) (C.faults dial.new) }
     ensures fetch_shelf { IsFetch words.now → shelf.new ≡ shelf.old }
-    ensures dial { ¬ (IsFetch words.now) → ¬ (IsRelay words.now) → dial.new ≡ dial.old }
+
+    // What each status of `save` says of the bytes that came in, or of the reply of the link that the dial gave and got back, of
+    // the output and of the line on `err`.
+    ensures save { IsSave words.now → SaveSays (Saves (I.left input.old) (I.left input.new) (IsTrue (I.ended input.new)) (O.written out.old) (O.written out.new))
+        (λ line. IsSaid line (E.put_faults err.old) (E.put_faults err.new) (E.written err.old) (E.written err.new)) result }
+    ensures save_read { IsSave words.now → result ≡ Status.ReadFault → Rose (I.take_faults input.old) (I.take_faults input.new) }
+    ensures save_shelf { IsSave words.now → shelf.new ≡ shelf.old }
+    ensures save_url { (u : UrlParts) (ce : List ℕ) → AreSaveUrl words.now u ce →
+        SaveSays (SavesUrl (λ l. record { whole = C.Wire.whole l; left = C.Wire.left l; ended = C.Wire.ended l; written = C.Wire.written l; take_faults = C.Wire.take_faults l; put_faults = C.Wire.put_faults l }) u ce
+        (record { back = C.back dial.old; faults = C.faults dial.old }) (record { back = C.back dial.new; faults = C.faults dial.new })
+        (record { written = O.written out.old; faults = O.put_faults out.old }) (record { written = O.written out.new; faults = O.put_faults out.new }))
+        (λ line. IsSaid line (E.put_faults err.old) (E.put_faults err.new) (E.written err.old) (E.written err.new)) result }
+    ensures save_link { IsSaveUrl words.now → result ≡ Status.LinkFault → Rose (C.faults dial.old) (C.faults dial.new) }
+    ensures save_url_shelf { IsSaveUrl words.now → shelf.new ≡ shelf.old }
+    ensures dial { ¬ (IsFetch words.now) → ¬ (IsRelay words.now) → ¬ (IsSaveUrl words.now) → dial.new ≡ dial.old }
 
     ensures words { (result ≡ Status.Words) ↔ (¬ (IsCommand words.now)) }
     ensures no_command { ¬ (IsCommand words.now) → (shelf.new ≡ shelf.old) × (out.new ≡ out.old) }
-    ensures write_fault { ¬ (IsFetch words.now) → result ≡ Status.WriteFault → Rose (O.put_faults out.old) (O.put_faults out.new) }
+    ensures write_fault { ¬ (IsFetch words.now) → ¬ (IsSaveUrl words.now) → result ≡ Status.WriteFault → Rose (O.put_faults out.old) (O.put_faults out.new) }
 
     // The count of an object rises for its own fault alone.
     ensures out_kept { result ≢ Status.WriteFault → O.put_faults out.new ≡ O.put_faults out.old }
@@ -241,7 +273,7 @@ pub fn run<R: Threads + Sync, S: Shelf, I: Source, O: Sink, E: Sink, D: Door, C:
     ensures door_kept { result ≢ Status.LinkFault → D.faults door.new ≡ D.faults door.old }
     ensures dial_kept { ¬ (IsRelay words.now) → result ≢ Status.LinkFault → C.faults dial.new ≡ C.faults dial.old }
 
-    ensures input { ¬ (IsShow words.now) → input.new ≡ input.old }
+    ensures input { ¬ (IsShow words.now) → ¬ (IsSave words.now) → input.new ≡ input.old }
     ensures whole { I.whole input.new ≡ I.whole input.old }
     ensures beside_input { I.beside_reading input.new ≡ I.beside_reading input.old }
     ensures beside_out { O.beside_writing out.new ≡ O.beside_writing out.old }

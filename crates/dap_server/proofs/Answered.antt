@@ -157,7 +157,7 @@ cause-answer told q cause w w2 f f1 s s1 result may none same asks (final, inr i
 pub refused-answer : (told : Told) (q : Request) (a : Asked) (cause : Cause) (w w2 : Option (List ℕ)) (f f1 s s1 : ℕ) (result : Answered) → is_other q.method ≡ false → target_of q.target ≡ Some a
     → MayGive told a (Err cause) → f1 ≡ f → s1 ≤ s + most_first told a.name → PutsCause q cause w w2 result → Answers told q (stand w f s) (stand w2 f1 s1) result
 refused-answer told q a cause w w2 f f1 s s1 result served target (files, has, answers) same few puts =
-    cause-answer told q cause w w2 f f1 s s1 result (gives told q a _ served target (files, has, answers)) (refused-calm files a cause answers) same
+    cause-answer told q cause w w2 f f1 s s1 result (gives told q a _ served target (files, has, answers)) (refused-calm told files a cause answers) same
     (λ k. cause-asks told (target_of q.target) a k s s1 target few) puts
 
 -- a failed read, or a want of memory in its place

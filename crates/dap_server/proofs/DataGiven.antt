@@ -1,6 +1,6 @@
 -- From the body of what was opened to what the files of a shelf answer.
-use Rattle.std.proofs.Common.{◌≡◌, ℕ, ◌≤◌, List, length, Option, Some, None, IsSome, IsTrue, Ok, sym, ap, ◌∙◌, inl, inr, subst}
-use Rattle.std.specs.Prelude.{⊤, is_some}
+use Rattle.std.proofs.Common.{◌≡◌, ℕ, ◌≤◌, List, length, Option, Some, IsSome, IsTrue, Ok, sym, ap, ◌∙◌, inl, inr, subst}
+use Rattle.std.specs.Prelude.{is_some}
 use Rattle.std.proofs.lemmas.Bool.{false≢true}
 use Rattle.dap_http.specs.declared.kind.Kind.TheVariants.{Dods}
 use Rattle.dap_outside.specs.Files.{IsBytes, Told}

@@ -12,7 +12,7 @@ use Rattle.dap_http.specs.declared.kind.Kind.TheVariants.{Dds, Das, Dods, Ver}
 use Rattle.dap_outside.specs.Files.{Told}
 use Rattle.dap_server.specs.Files.{Files}
 use Rattle.dap_server.specs.Prepared.{MayGive}
-use Rattle.dap_server.specs.Results.{Answers, Text, text_of}
+use Rattle.dap_server.specs.Results.{AnswersAmong, Text, text_of}
 use Rattle.dap_server.specs.Steps.{unless}
 
 abbrev kind_in : Result Text Cause → Kind
@@ -37,16 +37,16 @@ of-body : (o : Option ℕ) (d : Dataset) (ts : List Tree) (text : List ℕ) → 
 of-body None d ts text is = subst (λ t. 0 < length t) (sym (text-is text (Ok (text_of Dods (body d ts))) is)) (body-some d ts)
 of-body (Some leaf) d ts text is = cc is
 
-given : (kind : Kind) (files : Files) (name query text : List ℕ) → Answers kind files name query (Ok (text_of Dods text)) → 0 < length text
-given Ver files name query text is = cc (ap kind_in is)
-given Das files name query text (inl (s, opens, is)) = cc (ap kind_in is)
-given Das files name query text (inr (cause, opens, is)) = cc is
-given Dds files name query text (inl (s, opens, inl (left, leaves, is))) = absurd (no-dds _ text _ is)
-given Dds files name query text (inl (s, opens, inr (cause, leaves, is))) = cc is
-given Dds files name query text (inr (cause, opens, is)) = cc is
-given Dods files name query text (inl (s, opens, inl (left, leaves, is))) = of-body (too_large left.dataset) left.dataset left.trees text is
-given Dods files name query text (inl (s, opens, inr (cause, leaves, is))) = cc is
-given Dods files name query text (inr (cause, opens, is)) = cc is
+given : (told : Told) (kind : Kind) (files : Files) (name query text : List ℕ) → AnswersAmong told kind files name query (Ok (text_of Dods text)) → 0 < length text
+given told Ver files name query text is = cc (ap kind_in is)
+given told Das files name query text (inl (s, opens, is)) = cc (ap kind_in is)
+given told Das files name query text (inr (cause, opens, is)) = cc is
+given told Dds files name query text (inl (s, opens, inl (left, leaves, is))) = absurd (no-dds _ text _ is)
+given told Dds files name query text (inl (s, opens, inr (cause, leaves, is))) = cc is
+given told Dds files name query text (inr (cause, opens, is)) = cc is
+given told Dods files name query text (inl (s, opens, inl (left, leaves, is))) = of-body (too_large left.dataset) left.dataset left.trees text is
+given told Dods files name query text (inl (s, opens, inr (cause, leaves, is))) = cc is
+given told Dods files name query text (inr (cause, opens, is)) = cc is
 
 pub data-some : (told : Told) (a : Asked) (text : List ℕ) → MayGive told a (Ok (text_of Dods text)) → 0 < length text
-data-some told a text (files, has, answers) = given a.kind files a.name a.query text answers
+data-some told a text (files, has, answers) = given told a.kind files a.name a.query text answers

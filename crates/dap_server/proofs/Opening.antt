@@ -1,5 +1,5 @@
 -- From the body of a netCDF file, of a table or of a saved response to that of what was opened.
-use Rattle.std.proofs.Common.{◌≡◌, ℕ, ◌≤◌, ◌<◌, List, All, length, Some, Ok, Err, IsTrue, refl, sym, subst, arith}
+use Rattle.std.proofs.Common.{◌≡◌, ℕ, ◌≤◌, ◌<◌, List, All, length, Ok, Err, IsTrue, refl, sym, subst, arith}
 use Rattle.constraint_parse.specs.Values.{Spells}
 use Rattle.constraint_parse.specs.declared.constraint.Constraint.{Constraint}
 use Rattle.csv_source.specs.Table.{CsvTable}

@@ -23,8 +23,10 @@ use Rattle.dap_model.specs.Dds.{dds}
 use Rattle.dap_http.specs.Targets.{Asked}
 use Rattle.dap_http.specs.declared.kind.Kind.TheVariants.{Dds, Das, Dods, Ver}
 use Rattle.dap_server.specs.Connections.{has_failed}
-use Rattle.dap_server.specs.Files.{Files, Form, Stored, IsStored, netcdf, saved, table}
-use Rattle.dap_server.specs.Results.{AnswersAsked, Answers, DdsAnswers, DodsAnswers, File, Leaves, Left, Opens, Reads, Text, das_text, dds_text, dods_text, file_named, left_of, text_of}
+use Rattle.dap_server.specs.Files.{Files, Form, Stored, IsStored, joined, netcdf, saved, table}
+use Rattle.dap_server.specs.Joins.{AreJoined, IsJoined, IsMember, Lists, Member, Members}
+use Rattle.dap_outside.specs.Files.{Told}
+use Rattle.dap_server.specs.Results.{AnswersAmong, DdsAnswers, DodsAnswers, File, Leaves, Left, OpensAmong, Reads, Text, das_text, dds_text, dods_text, file_named, left_of, text_of}
 use Rattle.dap_server.specs.Steps.{Is, Then, found_or, unless}
 
 -- the cause is not that of a failed read
@@ -103,14 +105,31 @@ found-or-calm : {V : Type 0} (o : Option V) (c : Cause) → Err c ≡ found_or o
 found-or-calm {V} None c is = subst IsCalm (sym (err-inj V c NoFile is)) refl
 found-or-calm {V} (Some v) c is = cc is
 
-stored-calm : (form : Form) (name bytes : List ℕ) (c : Cause) → IsStored form name bytes (Err c) → IsCalm c
-stored-calm netcdf name bytes c (refusal, why, first, there, is) = subst IsCalm (sym is) refl
-stored-calm table name bytes c (refusal, why, first, there, is) = subst IsCalm (sym is) refl
-stored-calm saved name bytes c (refusal, why, first, there, is) = subst IsCalm (sym is) refl
+-- of a list
+member-calm : (told : Told) (line : ℕ) (name : List ℕ) (c : Cause) → IsMember told line name (Err c) → IsCalm c
+member-calm told line name c (inl (none, is)) = subst IsCalm (sym is) refl
+member-calm told line name c (inr (file, why, found, bad, is)) = subst IsCalm (sym is) refl
 
-opens-calm : (files : Files) (name : List ℕ) (c : Cause) → Opens files name (Err c) → IsCalm c
-opens-calm files name c is =
-    then-calm (Is (found_or (file_named files name) NoFile)) (λ (file : File). IsStored file.form name file.bytes) c (λ k e. found-or-calm (file_named files name) k e) (λ (file : File) e. stored-calm file.form name file.bytes c e) is
+members-calm : (told : Told) (line : ℕ) (names : List (List ℕ)) (c : Cause) → Members told line names (Err c) → IsCalm c
+members-calm told line [] c is = cc is
+members-calm told line (name ∷ names) c is =
+    then-calm (IsMember told line name) (λ (m : Member). Then (Members told (line + 1) names) (λ (ms : List Member). Is (Ok (m ∷ ms)))) c (member-calm told line name)
+    (λ m e. then-calm (Members told (line + 1) names) (λ (ms : List Member). Is (Ok (m ∷ ms))) c (members-calm told (line + 1) names) (λ ms n. cc n) e) is
+
+join-calm : (told : Told) (name bytes : List ℕ) (c : Cause) → IsJoined told name bytes (Err c) → IsCalm c
+join-calm told name bytes c is =
+    then-calm (Lists bytes) (λ (names : List (List ℕ)). Then (Members told 1 names) (AreJoined name)) c (λ k (refusal, why, l, there, e). subst IsCalm (sym e) refl)
+    (λ names e. then-calm (Members told 1 names) (AreJoined name) c (members-calm told 1 names) (λ ms (refusal, why, l, there, f). subst IsCalm (sym f) refl) e) is
+
+stored-calm : (told : Told) (form : Form) (name bytes : List ℕ) (c : Cause) → IsStored told form name bytes (Err c) → IsCalm c
+stored-calm told netcdf name bytes c (refusal, why, first, there, is) = subst IsCalm (sym is) refl
+stored-calm told table name bytes c (refusal, why, first, there, is) = subst IsCalm (sym is) refl
+stored-calm told saved name bytes c (refusal, why, first, there, is) = subst IsCalm (sym is) refl
+stored-calm told joined name bytes c is = join-calm told name bytes c is
+
+opens-calm : (told : Told) (files : Files) (name : List ℕ) (c : Cause) → OpensAmong told files name (Err c) → IsCalm c
+opens-calm told files name c is =
+    then-calm (Is (found_or (file_named files name) NoFile)) (λ (file : File). IsStored told file.form name file.bytes) c (λ k e. found-or-calm (file_named files name) k e) (λ (file : File) e. stored-calm told file.form name file.bytes c e) is
 
 reads-calm : (query : List ℕ) (c : Cause) → Reads query (Err c) → IsCalm c
 reads-calm query c (place, fault, is) = subst IsCalm (sym is) refl
@@ -131,13 +150,13 @@ leaf-calm None k is = cc is
 leaf-calm (Some leaf) k is = subst IsCalm (some-inj (TooLarge leaf) k is) refl
 
 -- what a target asks of files has no cause of a failed read
-pub refused-calm : (files : Files) (a : Asked) (c : Cause) → AnswersAsked files a (Err c) → IsCalm c
-refused-calm files a c is = go a.kind is where
-  go : (kind : Rattle.dap_http.specs.declared.kind.Kind.Kind) → Answers kind files a.name a.query (Err c) → IsCalm c
+pub refused-calm : (told : Told) (files : Files) (a : Asked) (c : Cause) → AnswersAmong told a.kind files a.name a.query (Err c) → IsCalm c
+refused-calm told files a c is = go a.kind is where
+  go : (kind : Rattle.dap_http.specs.declared.kind.Kind.Kind) → AnswersAmong told kind files a.name a.query (Err c) → IsCalm c
   go Ver e = cc e
-  go Das e = then-calm (Opens files a.name) (λ (s : Stored). Is (das_text s)) c (opens-calm files a.name) (λ s n. cc n) e
-  go Dds e = then-calm (Opens files a.name) (λ (s : Stored). DdsAnswers s a.query) c (opens-calm files a.name)
+  go Das e = then-calm (OpensAmong told files a.name) (λ (s : Stored). Is (das_text s)) c (opens-calm told files a.name) (λ s n. cc n) e
+  go Dds e = then-calm (OpensAmong told files a.name) (λ (s : Stored). DdsAnswers s a.query) c (opens-calm told files a.name)
       (λ s n. then-calm (Leaves s a.query) (λ (left : Left). Is (dds_text left.dataset)) c (leaves-calm s a.query) (λ (left : Left) m. large-calm (nat_lt 16777216 (length (dds left.dataset))) c (text_of Dds (dds left.dataset)) m) n) e
-  go Dods e = then-calm (Opens files a.name) (λ (s : Stored). DodsAnswers s a.query) c (opens-calm files a.name)
+  go Dods e = then-calm (OpensAmong told files a.name) (λ (s : Stored). DodsAnswers s a.query) c (opens-calm told files a.name)
       (λ s n. then-calm (Leaves s a.query) (λ (left : Left). Is (dods_text left)) c (leaves-calm s a.query)
       (λ (left : Left) m. unless-calm (option_map (λ leaf. TooLarge leaf) (too_large left.dataset)) (text_of Dods (body left.dataset left.trees)) c (leaf-calm (too_large left.dataset)) m) n) e

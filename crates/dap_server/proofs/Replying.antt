@@ -18,7 +18,7 @@ use Rattle.dap_server.specs.Costs.{IsCost, asks_shelf}
 use Rattle.dap_server.specs.Files.{Files, MayHave, form_of, is_read_first}
 use Rattle.dap_server.specs.Prepared.{IsOver, MayGive}
 use Rattle.dap_server.specs.Replies.{Request, error_head, head_of, is_head, is_last, reply_of, status_of}
-use Rattle.dap_server.specs.Results.{Results, Text, error_object, text_of}
+use Rattle.dap_server.specs.Results.{ResultsAmong, Text, error_object, text_of}
 use Rattle.dap_server.specs.Steps.{found_or}
 use Rattle.dap_server.specs.declared.turn.Answered.{Answered}
 use Rattle.dap_server.specs.declared.turn.Answered.TheVariants as answered
@@ -121,7 +121,7 @@ pub front-some : (q : Request) → 0 < length (data_front q)
 front-some q = head-some 200 (description_of Dods) None (is_chunked Dods q.minor) q.ends
 
 -- where its values are hidden
-values-hidden : (told : Told) (q : Request) (text put : List ℕ) (result : Answered) → is_head q ≡ false → 0 < length text → is_hidden told q (Ok (text_of Dods text)) ≡ true
+pub values-hidden : (told : Told) (q : Request) (text put : List ℕ) (result : Answered) → is_head q ≡ false → 0 < length text → is_hidden told q (Ok (text_of Dods text)) ≡ true
     → SaysWhole q.ends result → IsPutOf told q (Ok (text_of Dods text)) put result
 values-hidden told q text put (answered.Whole status last) get some hidden (s, l) = (s, l ∙ or-false q.ends, λ e. absurd (true≢false (sym hidden ∙ e)))
 values-hidden told q text put answered.Broken get some hidden says =
@@ -156,32 +156,32 @@ reply-known told q answer old new answered.WriteFault (part, is, appends) = (par
 
 pub gives : (told : Told) (q : Request) (a : Asked) (answer : Result Text Cause) → is_other q.method ≡ false → target_of q.target ≡ Some a → MayGive told a answer → MayAnswer told q answer
 gives told q a answer served is (files, may, answers) =
-    inl (files, may, where_false (is_other q.method) _ (Results q.target files answer) served (inl (a, sym (ap (λ o. found_or o BadTarget) is), answers)))
+    inl (files, may, where_false (is_other q.method) _ (ResultsAmong told q.target files answer) served (inl (a, sym (ap (λ o. found_or o BadTarget) is), answers)))
 
 some-files : (told : Told) → (files : Files) × MayHave told files
 some-files None = ((λ name. None), tt)
 some-files (Some files) = (files, refl)
 
 pub bad-method : (told : Told) (q : Request) → is_other q.method ≡ true → MayAnswer told q (Err BadMethod)
-bad-method told q is = let (files, may) = some-files told in inl (files, may, where_true (is_other q.method) _ (Results q.target files (Err BadMethod)) is refl)
+bad-method told q is = let (files, may) = some-files told in inl (files, may, where_true (is_other q.method) _ (ResultsAmong told q.target files (Err BadMethod)) is refl)
 
 pub bad-target : (told : Told) (q : Request) → is_other q.method ≡ false → target_of q.target ≡ None → MayAnswer told q (Err BadTarget)
 bad-target told q served is =
     let (files, may) = some-files told in
-    inl (files, may, where_false (is_other q.method) _ (Results q.target files (Err BadTarget)) served (inr (BadTarget, sym (ap (λ o. found_or o BadTarget) is), refl)))
+    inl (files, may, where_false (is_other q.method) _ (ResultsAmong told q.target files (Err BadTarget)) served (inr (BadTarget, sym (ap (λ o. found_or o BadTarget) is), refl)))
 
 pub failed : (told : Told) (q : Request) (a : Asked) → is_other q.method ≡ false → target_of q.target ≡ Some a → IsTrue (asks_shelf a) → MayAnswer told q (Err ReadFailed)
 failed told q a served is asks = inr (inl (refl, served, subst LooksForFile (sym is) asks))
 
 -- ---- one request
 
-failed-values : (q : Request) (text : List ℕ) (result : Answered) (f f1 : ℕ) → is_head q ≡ false → ShelfRose result f f1
+pub failed-values : (q : Request) (text : List ℕ) (result : Answered) (f f1 : ℕ) → is_head q ≡ false → ShelfRose result f f1
     → FailedBy (has_failed (Ok (text_of Dods text)) + broken result) (is_open q (Ok (text_of Dods text)) result) f f1
 failed-values q text (answered.Whole status last) f f1 get same = calm (0 + 0) false f f1 (omega arith) same
 failed-values q text answered.Broken f f1 get rose = failed-once (0 + 1) false f f1 (omega arith) rose
 failed-values q text answered.WriteFault f f1 get later = (omega (arith, later), λ _ sent. absurd (true≢false (sym (values-out q text get) ∙ sent)))
 
-known-values : (told : Told) (q : Request) (a : Asked) (front text : List ℕ) (s z : Stand) (result : Answered)
+pub known-values : (told : Told) (q : Request) (a : Asked) (front text : List ℕ) (s z : Stand) (result : Answered)
     → is_head q ≡ false → front ≡ data_front q → is_other q.method ≡ false → target_of q.target ≡ Some a
     → PutsValues front (framed (is_chunked Dods q.minor) text) q.ends s.written z.written result → SaysWhole q.ends result → MayGive told a (Ok (text_of Dods text))
     → ShelfRose result s.faults z.faults → ((cost : ℕ) × IsCost told a cost × (z.asked ≤ s.asked + cost)) → AnswersWith (Costs told a) told q s z result
@@ -197,7 +197,7 @@ cases-bool : (b : Bool) → (b ≡ true) ⊎ (b ≡ false)
 cases-bool true = inl refl
 cases-bool false = inr refl
 
-late : (q : Request) (a : Asked) (text : List ℕ) → is_head q ≡ false → target_of q.target ≡ Some a → is_read_first (form_of a.name) ≡ false → is_hidden None q (Ok (text_of Dods text)) ≡ true
+pub late : (q : Request) (a : Asked) (text : List ℕ) → is_head q ≡ false → target_of q.target ≡ Some a → is_read_first (form_of a.name) ≡ false → is_hidden None q (Ok (text_of Dods text)) ≡ true
 late q a text get target other =
     ap (λ b. b && is_read_late q.target) (values-out q text get)
     ∙ ap (λ o. option_map_or (λ (a : Asked). not (is_read_first (form_of a.name))) o false) target ∙ ap not other

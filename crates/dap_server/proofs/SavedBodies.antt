@@ -1,9 +1,7 @@
 -- From the body of a saved response to what a stored file is answered with.
-use Rattle.std.proofs.Common.{◌≡◌, ℕ, ◌<◌, List, length, Some, None, Ok, Err, refl, sym, ap, subst}
-use Rattle.dap_types.specs.Limits.{most_text}
+use Rattle.std.proofs.Common.{◌≡◌, ℕ, List, None, Ok, Err, refl, sym, subst}
 use Rattle.dap_types.specs.Model.{Dataset, Tree}
 use Rattle.dap_model.specs.Body.{too_large}
-use Rattle.dap_model.specs.Dds.{dds}
 use Rattle.dap_model.specs.Filter.{Marks, constrained}
 use Rattle.constraint_parse.specs.Values.{Spells}
 use Rattle.constraint_parse.specs.declared.constraint.Constraint.{Constraint}

@@ -29,4 +29,4 @@ any_version = inl (_, refl, refl)
 
 pub forms : Forms
 unfolding segment
-forms = (refl, refl, refl, refl, refl)
+forms = (refl, refl, refl, refl, refl, refl)

@@ -13,7 +13,7 @@ use Rattle.dap_outside.specs.Causes.{Rose}
 use Rattle.dap_outside.specs.Files.{Told}
 use Rattle.dap_server.specs.Connections.{AreTurns, Behind, Connection, IsClosed, IsServed, MayAnswer, RoseBy, RoseFor, Stops, ends_after, failed_turns, failures, is_last_turn, last_status, nothing, part_of_refusal, part_of_reply, put_from, refusal, status_behind}
 use Rattle.dap_server.specs.Files.{Files}
-use Rattle.dap_server.specs.Replies.{AreAnswered, IsAnswered, Request, Turn, replies, request, status_of, wants}
+use Rattle.dap_server.specs.Replies.{AreAnswered, IsAnswered, IsAnsweredAmong, Request, Turn, replies, request, status_of, wants}
 use Rattle.dap_server.specs.Results.{Text}
 use Rattle.dap_server.specs.Whole.{AnswersAll, EndsBehind}
 use Rattle.dap_server.specs.declared.served.Ending.{Ending}
@@ -86,7 +86,7 @@ no-wants answer unlike = elim (cases-bool (wants answer)) [
 ]
 
 answered-so : (files : Files) (q : Request) (answer : Result Text Cause) → MayAnswer (Some files) q answer → Rattle.dap_server.specs.Connections.has_failed answer ≡ 0 → wants answer ≡ false → IsAnswered files q answer
-answered-so files q answer (inl (other, is, answers)) none calm = subst (λ f. IsAnswered f q answer) is answers
+answered-so files q answer (inl (other, is, answers)) none calm = subst (λ f. IsAnsweredAmong (Some files) f q answer) is answers
 answered-so files q answer (inr (inl (is, served, asks))) none calm = cc (none, ap Rattle.dap_server.specs.Connections.has_failed is)
 answered-so files q answer (inr (inr is)) none calm = cc (calm, ap wants is)
 

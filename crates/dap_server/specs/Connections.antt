@@ -1,6 +1,6 @@
 -- What a connection has answered of the bytes that were taken from it, and how it ended (RFC 9112, section
 -- 9; the causes of each end are this project's).
-use Rattle.std.specs.Prelude.{◌≡◌, ℕ, ◌+◌, ◌-◌, ◌^◌, ◌≤◌, ⊤, ◌⊎◌, Bool, true, false, ◌&&◌, ◌||◌, not, List, [], ◌∷◌, ◌++◌, length, min, IsTrue, MatchBool, Option, Some, None, Result, Ok, Err}
+use Rattle.std.specs.Prelude.{◌≡◌, ℕ, ◌+◌, ◌-◌, ◌^◌, ◌≤◌, ⊤, ◌⊎◌, Bool, false, ◌&&◌, ◌||◌, not, List, [], ◌∷◌, ◌++◌, length, min, IsTrue, MatchBool, Option, Some, None, Result, Ok, Err}
 use Rattle.std.specs.Option.{option_map_or}
 use Rattle.dap_outside.specs.Causes.{Rose}
 use Rattle.dap_outside.specs.Files.{Told}
@@ -12,7 +12,7 @@ use Rattle.dap_http.specs.Requests.{FirstRequest, HasNoRequest, IsBadRequest, Is
 use Rattle.dap_http.specs.Targets.{Asked, target_of}
 use Rattle.dap_server.specs.Costs.{IsCost, asks_shelf, most_first}
 use Rattle.dap_server.specs.Files.{Files, MayHave, form_of, is_read_first}
-use Rattle.dap_server.specs.Replies.{IsAnswered, Request, Turn, head_of, is_data, is_head, is_last, last_reply, replies, reply_of, request, status_of, wants}
+use Rattle.dap_server.specs.Replies.{IsAnsweredAmong, Request, Turn, head_of, is_data, is_head, is_last, last_reply, replies, reply_of, request, status_of, wants}
 use Rattle.dap_server.specs.Results.{Text}
 use Rattle.dap_server.specs.declared.served.Ending.{Ending}
 use Rattle.dap_server.specs.declared.served.Ending.TheVariants.{Closed, Gone, ReadFault, WriteFault, Broken}
@@ -29,7 +29,7 @@ LooksForFile (Some a) = IsTrue (asks_shelf a)
 -- by the cause of a failed read, and any by that of a want of memory.
 abbrev pub MayAnswer : Told → Request → Result Text Cause → Type 0
 MayAnswer told q answer =
-    ((files : Files) × MayHave told files × IsAnswered files q answer)
+    ((files : Files) × MayHave told files × IsAnsweredAmong told files q answer)
     ⊎ (((answer ≡ Err ReadFailed) × (is_other q.method ≡ false) × LooksForFile (target_of q.target))
     ⊎ (answer ≡ Err OutOfMemory))
 

@@ -1,7 +1,7 @@
 -- What answering a target may ask of a shelf (this project's).
-use Rattle.std.specs.Prelude.{◌≡◌, ℕ, Bool, true, false, ◌&&◌, List, ◌++◌, length, min, codes, is_some, Option, Some, None}
+use Rattle.std.specs.Prelude.{◌≡◌, ℕ, ◌+◌, ◌*◌, Bool, true, false, ◌&&◌, List, [], ◌∷◌, ◌++◌, length, min, nat_lt, if◌then◌else◌, codes, is_some, Option, Some, None, Result, Ok, Err}
 use Rattle.std.specs.Option.{option_map_or}
-use Rattle.dap_types.specs.Limits.{most_header, most_table}
+use Rattle.dap_types.specs.Limits.{most_header, most_piece, most_table}
 use Rattle.dap_outside.specs.Files.{Told}
 use Rattle.dap_model.specs.Dds.{dds}
 use Rattle.dap_model.specs.Filter.{Marks, constrained}
@@ -17,7 +17,13 @@ use Rattle.saved_source.specs.Responses.{most_saved}
 use Rattle.dap_http.specs.Targets.{Asked}
 use Rattle.dap_http.specs.declared.kind.Kind.{Kind}
 use Rattle.dap_http.specs.declared.kind.Kind.TheVariants.{Dds, Das, Dods, Ver}
-use Rattle.dap_server.specs.Files.{Files, Form, MayHave, form_of, front, netcdf, saved, table}
+use Rattle.join_source.specs.Asked.{JoinedAsk}
+use Rattle.join_source.specs.Costs.{joined_cost}
+use Rattle.join_source.specs.Lists.{list_of, most_lines}
+use Rattle.join_source.specs.Members.{CanJoin, joined_dataset}
+use Rattle.join_source.specs.declared.refusal.ListRefusal.{ListRefusal}
+use Rattle.dap_server.specs.Files.{Files, Form, MayHave, form_of, front, joined, netcdf, saved, table}
+use Rattle.dap_server.specs.Joins.{Member, Members, bytes_in, contents_in}
 
 -- the version is no file's
 abbrev pub is_of_file : Kind → Bool
@@ -30,17 +36,40 @@ is_of_file Dods = true
 abbrev pub asks_shelf : Asked → Bool
 asks_shelf a = is_of_file a.kind && is_some (form_of a.name)
 
--- the most that is read of a file before its answer: the front of a netCDF file, or another file whole
+-- the most that is read before an answer: the front of a netCDF file, another file whole, or a list and the
+-- front of each file that it names
 abbrev pub most_of_form : Option Form → ℕ
 most_of_form (Some netcdf) = most_header
 most_of_form (Some table) = most_table
 most_of_form (Some saved) = most_saved
+most_of_form (Some joined) = most_piece + most_lines * most_header
 most_of_form None = 0
+
+-- of the files of some names in turn, up to the first name that no file has
+abbrev pub most_of_names : Files → List (List ℕ) → ℕ
+most_of_names files [] = 0
+most_of_names files (name ∷ names) = option_map_or (λ file. min (length file) most_header + most_of_names files names) (files name) 0
+
+abbrev pub most_of_lines : Files → Result (List (List ℕ)) ListRefusal → ℕ
+most_of_lines files (Ok names) = most_of_names files names
+most_of_lines files (Err refusal) = 0
+
+-- of a list, which is not read where it is too long, and of the files that it names
+abbrev pub most_of_list : Files → List ℕ → ℕ
+most_of_list files bytes = (if nat_lt most_piece (length bytes) then 0 else length bytes) + most_of_lines files (list_of bytes)
+
+-- of a file of that form
+abbrev pub most_of_file : Files → Option Form → List ℕ → ℕ
+most_of_file files (Some netcdf) bytes = min (length bytes) (most_of_form (Some netcdf))
+most_of_file files (Some table) bytes = min (length bytes) (most_of_form (Some table))
+most_of_file files (Some saved) bytes = min (length bytes) (most_of_form (Some saved))
+most_of_file files (Some joined) bytes = most_of_list files bytes
+most_of_file files None bytes = 0
 
 -- of the file of a name: each byte once, where the files are told
 abbrev pub most_first : Told → List ℕ → ℕ
 most_first None name = most_of_form (form_of name)
-most_first (Some files) name = option_map_or (λ bytes. min (length bytes) (most_of_form (form_of name))) (files name) 0
+most_first (Some files) name = option_map_or (most_of_file files (form_of name)) (files name) 0
 
 -- What the shelf has of a name and a query: some bytes, that are a file with this header, and a constraint.
 pub record IsAsked (told : Told) (name query : List ℕ) (bytes : List ℕ) (c : Contents) (constraint : Constraint) : Type 0 where
@@ -50,17 +79,35 @@ pub record IsAsked (told : Told) (name query : List ℕ) (bytes : List ℕ) (c :
   pub is_header : IsHeader c (front bytes) (length bytes)
   pub spells : Spells query constraint
 
+-- The same of a list of files: it joins these, and there is a constraint.
+pub record IsListAsked (told : Told) (name query : List ℕ) (ms : List Member) (constraint : Constraint) : Type 0 where
+  pub files : Files
+  pub may_have : MayHave told files
+  pub bytes : List ℕ
+  pub there : files name ≡ Some bytes
+  pub names : List (List ℕ)
+  pub lists : list_of bytes ≡ Ok names
+  pub members : Members told 1 names (Ok ms)
+  pub can_join : CanJoin (contents_in ms)
+  pub spells : Spells query constraint
+
 -- what a constraint marks of the dataset of a netCDF file
 abbrev pub marks_of : Contents → List ℕ → Constraint → Marks
 marks_of c name constraint = marks (dataset_of c name) constraint
 
--- the values that a data response has of a netCDF file cost what its marks span. Nothing is asked for
+-- of that of files that are joined
+abbrev pub join_marks : List Contents → List ℕ → Constraint → Marks
+join_marks cs name constraint = marks (joined_dataset cs name) constraint
+
+-- the values that a data response has of netCDF files cost what its marks span. Nothing is asked for
 -- those of a file that was read whole
 abbrev pub IsFormCost : Option Form → Told → List ℕ → List ℕ → ℕ → Type 0
 IsFormCost (Some netcdf) told name query cost =
     (bytes : List ℕ) × (c : Contents) × (constraint : Constraint) × IsAsked told name query bytes c constraint × (cost ≡ marks_cost c (marks_of c name constraint))
 IsFormCost (Some table) told name query cost = cost ≡ 0
 IsFormCost (Some saved) told name query cost = cost ≡ 0
+IsFormCost (Some joined) told name query cost =
+    (ms : List Member) × (constraint : Constraint) × IsListAsked told name query ms constraint × (cost ≡ joined_cost (contents_in ms) (join_marks (contents_in ms) name constraint))
 IsFormCost None told name query cost = cost ≡ 0
 
 abbrev pub IsCost : Told → Asked → ℕ → Type 0
@@ -70,6 +117,9 @@ IsCost told a cost = IsFormCost (form_of a.name) told a.name a.query cost
 abbrev pub head_len : Contents → List ℕ → Constraint → ℕ
 head_len c name constraint = length (dds (constrained (marks_of c name constraint) (dataset_of c name)) ++ codes "Data:\n")
 
+abbrev pub join_head_len : List Contents → List ℕ → Constraint → ℕ
+join_head_len cs name constraint = length (dds (constrained (join_marks cs name constraint) (joined_dataset cs name)) ++ codes "Data:\n")
+
 -- so many bytes may have been asked for the values where so many bytes of the body were put
 abbrev pub IsFormCostAt : Option Form → Told → List ℕ → List ℕ → ℕ → ℕ → Type 0
 IsFormCostAt (Some netcdf) told name query put cost =
@@ -77,6 +127,9 @@ IsFormCostAt (Some netcdf) told name query put cost =
     × MarksAsk c (marks_of c name constraint) bytes (head_len c name constraint) put cost
 IsFormCostAt (Some table) told name query put cost = cost ≡ 0
 IsFormCostAt (Some saved) told name query put cost = cost ≡ 0
+IsFormCostAt (Some joined) told name query put cost =
+    (ms : List Member) × (constraint : Constraint) × IsListAsked told name query ms constraint
+    × JoinedAsk (contents_in ms) (join_marks (contents_in ms) name constraint) (bytes_in ms) (join_head_len (contents_in ms) name constraint) put cost
 IsFormCostAt None told name query put cost = cost ≡ 0
 
 abbrev pub IsCostAt : Told → Asked → ℕ → ℕ → Type 0

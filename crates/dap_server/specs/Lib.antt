@@ -1,4 +1,6 @@
 pub mod Steps
+pub mod Headers
+pub mod Joins
 pub mod Files
 pub mod Results
 pub mod Costs

@@ -1,7 +1,7 @@
 -- The reply to a request (RFC 9112, sections 2 to 7; DAP 2.0, HTTP headers of responses; the lines and the
 -- statuses are this project's): a head, and behind it the text, in chunks where it is data, or the Error
 -- object of the cause. To HEAD it is the head alone.
-use Rattle.std.specs.Prelude.{◌≡◌, ℕ, ◌+◌, ⊤, Bool, true, false, ◌||◌, List, [], ◌∷◌, ◌++◌, map, if◌then◌else◌, codes, MatchBool, Option, Result, Ok, Err}
+use Rattle.std.specs.Prelude.{◌≡◌, ℕ, ◌+◌, ⊤, Bool, true, false, ◌||◌, List, [], ◌∷◌, ◌++◌, map, if◌then◌else◌, codes, MatchBool, Option, Some, Result, Ok, Err}
 use Rattle.std.specs.Str.{bytes_eq}
 use Rattle.httparse.specs.Grammar.{RequestHead}
 use Rattle.dap_errors.specs.Causes.{http_status}
@@ -12,8 +12,9 @@ use Rattle.dap_http.specs.Requests.{Requests, ends_connection, is_other}
 pub use Rattle.dap_http.specs.Sent.{error_head, is_data}
 use Rattle.dap_http.specs.Sent as sent
 use Rattle.dap_http.specs.Texts.{description_of, head_text, is_chunked}
+use Rattle.dap_outside.specs.Files.{Told}
 use Rattle.dap_server.specs.Files.{Files}
-use Rattle.dap_server.specs.Results.{Results, Text, error_object}
+use Rattle.dap_server.specs.Results.{ResultsAmong, Text, error_object}
 
 -- what a request says, and whether it ends its connection
 pub record Request : Type 0 where
@@ -30,8 +31,11 @@ abbrev pub is_head : Request → Bool
 is_head q = bytes_eq q.method (codes "HEAD")
 
 -- what it is answered: a text, or the first cause, of which a method that is not served comes before all
+abbrev pub IsAnsweredAmong : Told → Files → Request → Result Text Cause → Type 0
+IsAnsweredAmong told files q answer = MatchBool (is_other q.method) (answer ≡ Err BadMethod) (ResultsAmong told q.target files answer)
+
 abbrev pub IsAnswered : Files → Request → Result Text Cause → Type 0
-IsAnswered files q answer = MatchBool (is_other q.method) (answer ≡ Err BadMethod) (Results q.target files answer)
+IsAnswered files q answer = IsAnsweredAmong (Some files) files q answer
 
 -- data has no stated length
 abbrev pub stated_length : Text → Option ℕ

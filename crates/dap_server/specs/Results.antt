@@ -2,9 +2,10 @@
 -- taken in order: the target, the file, its contents, the syntax of the constraint, its items and
 -- clauses, the size of what it leaves (DAP 2.0, URL suffixes and constraint expressions; the causes and
 -- their order are this project's).
-use Rattle.std.specs.Prelude.{◌≡◌, ℕ, List, length, nat_lt, if◌then◌else◌, Option, option_map, Result, Ok, Err}
+use Rattle.std.specs.Prelude.{◌≡◌, ℕ, List, length, nat_lt, if◌then◌else◌, Option, Some, option_map, Result, Ok, Err}
 use Rattle.std.specs.Option.{option_and_then}
 use Rattle.viable.specs.Prefix.{is_byte, IsFault}
+use Rattle.dap_outside.specs.Files.{Told}
 use Rattle.dap_types.specs.Limits.{most_text}
 use Rattle.dap_types.specs.Model.{Dataset, Tree}
 use Rattle.dap_model.specs.Body.{body, too_large}
@@ -39,9 +40,13 @@ pub record File : Type 0 where
 abbrev pub file_named : Files → List ℕ → Option File
 file_named files name = option_and_then (λ form. option_map (λ bytes. record { form = form; bytes = bytes }) (files name)) (form_of name)
 
--- the file of a name, and what it has
+-- the file of a name, and what it has. A list is one of files that may be found by the names in it
+abbrev pub OpensAmong : Told → Files → List ℕ → Result Stored Cause → Type 0
+OpensAmong told files name = Then (Is (found_or (file_named files name) NoFile)) (λ file. IsStored told file.form name file.bytes)
+
+-- so over files that are told, all of them
 abbrev pub Opens : Files → List ℕ → Result Stored Cause → Type 0
-Opens files name = Then (Is (found_or (file_named files name) NoFile)) (λ file. IsStored file.form name file.bytes)
+Opens files name = OpensAmong (Some files) files name
 
 -- the constraint that a query spells, or the place where it goes wrong
 abbrev pub Reads : List ℕ → Result Constraint Cause → Type 0
@@ -88,19 +93,25 @@ DdsAnswers s query = Then (Leaves s query) (λ left. Is (dds_text left.dataset))
 abbrev pub DodsAnswers : Stored → List ℕ → Result Text Cause → Type 0
 DodsAnswers s query = Then (Leaves s query) (λ left. Is (dods_text left))
 
--- what some files are answered with. For the version no file is looked up
+-- what some files are answered with, among those that may be found. For the version no file is looked up
+abbrev pub AnswersAmong : Told → Kind → Files → List ℕ → List ℕ → Result Text Cause → Type 0
+AnswersAmong told Ver files name query = Is (Ok (text_of Ver version))
+AnswersAmong told Das files name query = Then (OpensAmong told files name) (λ s. Is (das_text s))
+AnswersAmong told Dds files name query = Then (OpensAmong told files name) (λ s. DdsAnswers s query)
+AnswersAmong told Dods files name query = Then (OpensAmong told files name) (λ s. DodsAnswers s query)
+
 abbrev pub Answers : Kind → Files → List ℕ → List ℕ → Result Text Cause → Type 0
-Answers Ver files name query = Is (Ok (text_of Ver version))
-Answers Das files name query = Then (Opens files name) (λ s. Is (das_text s))
-Answers Dds files name query = Then (Opens files name) (λ s. DdsAnswers s query)
-Answers Dods files name query = Then (Opens files name) (λ s. DodsAnswers s query)
+Answers kind files name query = AnswersAmong (Some files) kind files name query
 
 abbrev pub AnswersAsked : Files → Asked → Result Text Cause → Type 0
 AnswersAsked files a = Answers a.kind files a.name a.query
 
 -- the text or the first cause of a target
+abbrev pub ResultsAmong : Told → List ℕ → Files → Result Text Cause → Type 0
+ResultsAmong told target files = Then (Is (asked target)) (λ a. AnswersAmong told a.kind files a.name a.query)
+
 abbrev pub Results : List ℕ → Files → Result Text Cause → Type 0
-Results target files = Then (Is (asked target)) (AnswersAsked files)
+Results target files = ResultsAmong (Some files) target files
 
 -- what is put of an answer: its text, or the Error object for its cause
 abbrev pub put_of : Result Text Cause → List ℕ

@@ -2,7 +2,7 @@
 use Rattle.std.specs.Prelude.{◌≡◌, codes, Some, None, Ok, Err}
 use Rattle.dap_errors.specs.declared.cause.Cause.TheVariants.{BadTarget, NoFile}
 use Rattle.dap_http.specs.declared.kind.Kind.TheVariants.{Dds, Dods, Ver}
-use Rattle.dap_server.specs.Files.{Files, form_of, netcdf, saved, table}
+use Rattle.dap_server.specs.Files.{Files, form_of, joined, netcdf, saved, table}
 use Rattle.dap_server.specs.Results.{Results, asked, text_of}
 
 abbrev pub nothing : Files
@@ -27,4 +27,4 @@ Escaped = asked (codes "http://x/e.nc.dods?s%5B0%5D") ≡ Ok (record { name = co
 
 -- how a file is read
 abbrev pub Forms : Type 0
-Forms = (form_of (codes "a/v.nc") ≡ Some netcdf) × (form_of (codes "buoys.csv") ≡ Some table) × (form_of (codes "x.nc.dods") ≡ Some saved) × (form_of (codes "a/.nc") ≡ None) × (form_of (codes "a.html") ≡ None)
+Forms = (form_of (codes "a/v.nc") ≡ Some netcdf) × (form_of (codes "buoys.csv") ≡ Some table) × (form_of (codes "x.nc.dods") ≡ Some saved) × (form_of (codes "a/x.join") ≡ Some joined) × (form_of (codes "a/.nc") ≡ None) × (form_of (codes "a.html") ≡ None)

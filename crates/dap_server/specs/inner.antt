@@ -3,3 +3,5 @@ pub mod Marking
 pub mod Preparing
 pub mod Serving
 pub mod Roomed
+pub mod Members
+pub mod Joining

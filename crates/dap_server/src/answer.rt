@@ -11,6 +11,7 @@ ghost use Rattle.dap_server.specs.Replies.{is_head, wants_memory};
 ghost use Rattle.dap_server.specs.Results.{text_of};
 ghost use Rattle.dap_server.specs.inner.Serving.{Answers, AnswersWith, Costs, PutsCause, PutsReply, SinkRose, data_front, request_in};
 
+use crate::joined_answer::answer_joined;
 use crate::prepared::Prepared;
 use crate::preparing::prepare;
 use crate::put::put_reply;
@@ -229,6 +230,21 @@ fn answer_target<R: Threads + Sync, S: Shelf, O: Sink>(
             rt, alloc, shelf, &mut file, &mut body, out, head, ends, target, workers,
         ),
         Prepared::Saved { mut body } => put_saved(alloc, &mut body, out, head, ends),
+        Prepared::Joined {
+            mut body,
+            mut files,
+        } => answer_joined(
+            rt,
+            alloc,
+            shelf,
+            files.items_mut(),
+            &mut body,
+            out,
+            head,
+            ends,
+            target,
+            workers,
+        ),
         Prepared::Refuse(cause) => put_cause(alloc, out, head, ends, &cause),
         Prepared::ShelfFault => put_cause(alloc, out, head, ends, &Cause::ReadFailed),
         Prepared::Memory => put_memory(out, head, ends),

@@ -43,7 +43,7 @@ use std::thread::Threads;
 use xdr_encode::{Body, BodyRefusal};
 
 /// The stop for which there is no body.
-fn body_stop(refusal: BodyRefusal) -> Stop
+pub fn body_stop(refusal: BodyRefusal) -> Stop
     ensures { result ≡ body_stop refusal }
 {
     match refusal {

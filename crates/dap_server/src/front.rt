@@ -66,6 +66,8 @@ fn read_on<S: Shelf>(
     ensures later { S.faults shelf.old ≤ S.faults shelf.new }
     ensures stays { StaysBut result (S.faults shelf.old) (S.faults shelf.new) }
     ensures files { S.files shelf.new ≡ S.files shelf.old }
+    ensures contents { S.content shelf.new ≡ S.content shelf.old }
+    ensures all_sizes { S.size_of shelf.new ≡ S.size_of shelf.old }
     ensures content { S.content shelf.new file.new ≡ S.content shelf.old file.old }
     ensures sizes { S.size_of shelf.new file.new ≡ S.size_of shelf.old file.old }
     ensures asked { S.asked shelf.new + length held.old.items ≤ S.asked shelf.old + len }
@@ -109,6 +111,8 @@ fn read_header_on<S: Shelf>(
     ensures later { S.faults shelf.old ≤ S.faults shelf.new }
     ensures stays { StaysBut result (S.faults shelf.old) (S.faults shelf.new) }
     ensures files { S.files shelf.new ≡ S.files shelf.old }
+    ensures contents { S.content shelf.new ≡ S.content shelf.old }
+    ensures all_sizes { S.size_of shelf.new ≡ S.size_of shelf.old }
     ensures content { S.content shelf.new file.new ≡ S.content shelf.old file.old }
     ensures sizes { S.size_of shelf.new file.new ≡ S.size_of shelf.old file.old }
     ensures asked { S.asked shelf.new + length held.old.items ≤ S.asked shelf.old + len }
@@ -130,6 +134,8 @@ pub fn open_netcdf<S: Shelf>(
     ensures later { S.faults shelf.old ≤ S.faults shelf.new }
     ensures stays { StaysBut result (S.faults shelf.old) (S.faults shelf.new) }
     ensures files { S.files shelf.new ≡ S.files shelf.old }
+    ensures contents { S.content shelf.new ≡ S.content shelf.old }
+    ensures all_sizes { S.size_of shelf.new ≡ S.size_of shelf.old }
     ensures content { S.content shelf.new file.new ≡ S.content shelf.old file.old }
     ensures sizes { S.size_of shelf.new file.new ≡ S.size_of shelf.old file.old }
     ensures told { HasSize (S.content shelf.old file.old) (S.size_of shelf.old file.old) }

@@ -1,11 +1,11 @@
 //! What a name and a query are answered with, kind by kind.
 
-ghost use Rattle.std.specs.Prelude.{◌≡◌, ◌+◌, ◌≤◌, ℕ, List, IfOk, IfErr, IsSome, IsTrue, Ok, Err, None, Some, is_some};
+ghost use Rattle.std.specs.Prelude.{◌≡◌, ◌≢◌, ◌+◌, ◌≤◌, ℕ, List, IfOk, IfErr, IsSome, IsTrue, Ok, Err, None, Some, is_some};
 ghost use Rattle.dap_http.specs.Texts.{version};
 ghost use Rattle.dap_outside.specs.Causes.{Rose};
 ghost use Rattle.xdr_encode.specs.Bodies.{FitsFile, HasNoFile, MayAsk, cost_in, text_in};
 ghost use Rattle.dap_server.specs.Costs.{IsFormCost, IsFormCostAt, most_first};
-ghost use Rattle.dap_server.specs.Files.{form_of, is_read_first, saved};
+ghost use Rattle.dap_server.specs.Files.{form_of, is_read_first, joined, saved};
 ghost use Rattle.dap_server.specs.Prepared.{IsOver};
 ghost use Rattle.dap_server.specs.Results.{text_of};
 ghost use Rattle.dap_server.specs.inner.Opening.{StaysBut, WhereFault, WhereRefused};
@@ -32,8 +32,9 @@ pub fn version_answer(alloc: Global) -> Result<Bytes, Stop>
     Ok(Bytes::new(alloc, version_text())?)
 }
 
-/// The DAS of the file of a name.
+/// The DAS of the file of a name, which is no list of files.
 pub fn das_answer<S: Shelf>(alloc: Global, shelf: &mut S, name: &str) -> Result<Bytes, Stop>
+    requires no_list { form_of name.now ≢ Some joined }
     ensures text { IfOk result (λ text. (query : List ℕ) → MayGiveAs (S.files shelf.old) Kind.Das name.now query (Ok (text_of Kind.Das text))) }
     ensures refused { IfErr result (WhereRefused (λ why. (query : List ℕ) → MayGiveAs (S.files shelf.old) Kind.Das name.now query (Err why))) }
     ensures why { IfErr result (WhereFault (IsTrue (is_some (form_of name.now)) × Rose (S.faults shelf.old) (S.faults shelf.new))) }
@@ -47,13 +48,14 @@ pub fn das_answer<S: Shelf>(alloc: Global, shelf: &mut S, name: &str) -> Result<
     Ok(das_of(alloc, &opened)?)
 }
 
-/// The DDS of what a query leaves of the file of a name.
+/// The DDS of what a query leaves of the file of a name, which is no list of files.
 pub fn dds_answer<S: Shelf>(
     alloc: Global,
     shelf: &mut S,
     name: &str,
     query: &[u8],
 ) -> Result<Bytes, Stop>
+    requires no_list { form_of name.now ≢ Some joined }
     ensures text { IfOk result (λ text. MayGiveAs (S.files shelf.old) Kind.Dds name.now query.now (Ok (text_of Kind.Dds text))) }
     ensures refused { IfErr result (WhereRefused (λ why. MayGiveAs (S.files shelf.old) Kind.Dds name.now query.now (Err why))) }
     ensures why { IfErr result (WhereFault (IsTrue (is_some (form_of name.now)) × Rose (S.faults shelf.old) (S.faults shelf.new))) }
@@ -67,7 +69,7 @@ pub fn dds_answer<S: Shelf>(
     dds_of(alloc, &opened, name, query)
 }
 
-/// The body for what a query leaves of the file of a name, and that file.
+/// The body for what a query leaves of the file of a name, which is no list of files, and that file.
 pub fn dods_answer<R: Threads + Sync, S: Shelf>(
     rt: &R,
     alloc: Global,
@@ -78,6 +80,7 @@ pub fn dods_answer<R: Threads + Sync, S: Shelf>(
 ) -> Result<(DataBody, S::File), Stop>
     requires some { 1 ≤ workers }
     requires many { workers ≤ 64 }
+    requires no_list { form_of name.now ≢ Some joined }
     ensures body { IfOk result (λ p. WhereOfFile p.0 (λ b. (bytes : List ℕ) → IsOver name.now (S.content shelf.new p.1) bytes →
         MayGiveAs (S.files shelf.old) Kind.Dods name.now query.now (Ok (text_of Kind.Dods (text_in b bytes))))) }
     ensures sends { IfOk result (λ p. WhereOfSaved p.0 (λ b. (text : List ℕ) × Sends b text × MayGiveAs (S.files shelf.old) Kind.Dods name.now query.now (Ok (text_of Kind.Dods text)))) }

@@ -1,18 +1,25 @@
 //! The server. The target of a request comes in, and a shelf of files: the text of the answer goes out,
-//! or the body of a data response that reads its file as it is streamed, or the first cause for which
+//! or the body of a data response that reads its files as it is streamed, or the first cause for which
 //! there is none. `specs/Results` says what a target asks of files, `specs/Files` what a file has.
 #![tactic(auto)]
 
 mod answer;
 mod bodies;
+mod by_form;
 mod connection;
 mod data_body;
 mod framed;
 mod front;
+mod joined_answer;
+mod joined_kinds;
+mod joined_texts;
+mod joined_values;
 mod kinds;
 pub mod laws;
 mod marked;
+mod members;
 mod open;
+mod open_joined;
 mod open_saved;
 mod prepared;
 mod preparing;

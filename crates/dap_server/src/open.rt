@@ -1,13 +1,13 @@
 //! Opening the stored file of a name.
 
-ghost use Rattle.std.specs.Prelude.{◌≡◌, ◌+◌, ◌<◌, ◌≤◌, ℕ, List, length, min, IfOk, IfErr, IsTrue, Ok, Err, Some, None, is_some, option_map};
+ghost use Rattle.std.specs.Prelude.{◌≡◌, ◌≢◌, ◌+◌, ◌<◌, ◌≤◌, ℕ, List, length, min, IfOk, IfErr, IsTrue, Ok, Err, Some, None, is_some, option_map};
 ghost use Rattle.csv_source.specs.Causes.{table_of};
 ghost use Rattle.dap_outside.specs.Causes.{Rose};
 ghost use Rattle.dap_types.specs.Model.{Tree};
 ghost use Rattle.dap_outside.specs.Files.{Finds, HasSize, Reads};
 ghost use Rattle.dap_server.specs.Costs.{most_first, most_of_form};
-ghost use Rattle.dap_server.specs.Files.{Files, IsStored, IsTableCause, MayHave, form_of, has_end, table, table_cause};
-ghost use Rattle.dap_server.specs.Results.{Opens};
+ghost use Rattle.dap_server.specs.Files.{IsStored, IsTableCause, form_of, has_end, joined, table, table_cause};
+ghost use Rattle.dap_server.specs.inner.Joining.{MayOpen};
 ghost use Rattle.dap_server.specs.inner.Opening.{IsMissing, IsRead, Lies, OpenedAs, StaysBut, WhereFault, WhereRefused, form_view, stop_of};
 
 use crate::front::open_netcdf;
@@ -38,6 +38,7 @@ pub enum FileForm {
     Netcdf,
     Table,
     Saved,
+    Joined,
 }
 
 /// The first bytes of a file.
@@ -128,7 +129,7 @@ fn has_end(end: &[u8], name: &str) -> bool
     end.len() < segment.len() && segment.ends_with(end)
 }
 
-fn form_of(name: &str) -> Option<FileForm>
+pub fn form_of(name: &str) -> Option<FileForm>
     ensures { option_map form_view result ≡ form_of name.now }
 {
     if has_end(b".nc", name) {
@@ -140,11 +141,14 @@ fn form_of(name: &str) -> Option<FileForm>
     if has_end(b".dods", name) {
         return Some(FileForm::Saved);
     }
+    if has_end(b".join", name) {
+        return Some(FileForm::Joined);
+    }
     None
 }
 
 /// The file of a name.
-fn find<S: Shelf>(shelf: &mut S, name: &str) -> Result<S::File, Stop>
+pub fn find<S: Shelf>(shelf: &mut S, name: &str) -> Result<S::File, Stop>
     ensures found { IfOk result (λ file. Finds (S.files shelf.old) (S.name_of shelf.new) (S.content shelf.new) name.now (Some file)) }
     ensures refused { IfErr result (WhereRefused (λ cause. (cause ≡ Cause.NoFile) × IsMissing (S.files shelf.old) name.now)) }
     ensures why { IfErr result (WhereFault (Rose (S.faults shelf.old) (S.faults shelf.new))) }
@@ -169,8 +173,9 @@ fn open_file<S: Shelf>(
     name: &str,
 ) -> Result<Opened, Stop>
     requires form { form_of name.now ≡ Some (form_view form) }
+    requires no_list { form_of name.now ≢ Some joined }
     ensures opened { IfOk result (λ o. (bytes : List ℕ) × IsRead (S.content shelf.old file.old) bytes × (S.size_of shelf.old file.old ≡ length bytes) × ((ts : List Tree) × OpenedAs o name.now bytes ts)) }
-    ensures refused { IfErr result (WhereRefused (λ cause. (bytes : List ℕ) × IsRead (S.content shelf.old file.old) bytes × IsStored (form_view form) name.now bytes (Err cause))) }
+    ensures refused { IfErr result (WhereRefused (λ cause. (bytes : List ℕ) × IsRead (S.content shelf.old file.old) bytes × IsStored (S.files shelf.old) (form_view form) name.now bytes (Err cause))) }
     ensures why { IfErr result (WhereFault (Rose (S.faults shelf.old) (S.faults shelf.new))) }
     ensures later { S.faults shelf.old ≤ S.faults shelf.new }
     ensures stays { StaysBut result (S.faults shelf.old) (S.faults shelf.new) }
@@ -193,6 +198,7 @@ fn open_file<S: Shelf>(
             let response = open_saved(alloc, shelf, file, name)?;
             Ok(Opened::Saved(response))
         }
+        FileForm::Joined => unreachable!(),
     }
 }
 
@@ -204,8 +210,9 @@ fn open_as<S: Shelf>(
     name: &str,
 ) -> Result<(Opened, S::File), Stop>
     requires form { form_of name.now ≡ Some (form_view form) }
+    requires no_list { form_of name.now ≢ Some joined }
     ensures opened { IfOk result (λ p. (bytes : List ℕ) × Lies (S.files shelf.old) (S.content shelf.new p.1) (S.size_of shelf.new p.1) name.now bytes × ((ts : List Tree) × OpenedAs p.0 name.now bytes ts)) }
-    ensures refused { IfErr result (WhereRefused (λ cause. (files : Files) × MayHave (S.files shelf.old) files × Opens files name.now (Err cause))) }
+    ensures refused { IfErr result (WhereRefused (λ cause. MayOpen (S.files shelf.old) name.now (Err cause))) }
     ensures why { IfErr result (WhereFault (Rose (S.faults shelf.old) (S.faults shelf.new))) }
     ensures later { S.faults shelf.old ≤ S.faults shelf.new }
     ensures stays { StaysBut result (S.faults shelf.old) (S.faults shelf.new) }
@@ -217,14 +224,15 @@ fn open_as<S: Shelf>(
     Ok((opened, file))
 }
 
-/// The file of a name, opened.
+/// The file of a name, which is no list of files, opened.
 pub fn open_named<S: Shelf>(
     alloc: Global,
     shelf: &mut S,
     name: &str,
 ) -> Result<(Opened, S::File), Stop>
+    requires no_list { form_of name.now ≢ Some joined }
     ensures opened { IfOk result (λ p. (bytes : List ℕ) × Lies (S.files shelf.old) (S.content shelf.new p.1) (S.size_of shelf.new p.1) name.now bytes × ((ts : List Tree) × OpenedAs p.0 name.now bytes ts)) }
-    ensures refused { IfErr result (WhereRefused (λ cause. (files : Files) × MayHave (S.files shelf.old) files × Opens files name.now (Err cause))) }
+    ensures refused { IfErr result (WhereRefused (λ cause. MayOpen (S.files shelf.old) name.now (Err cause))) }
     ensures why { IfErr result (WhereFault (IsTrue (is_some (form_of name.now)) × Rose (S.faults shelf.old) (S.faults shelf.new))) }
     ensures later { S.faults shelf.old ≤ S.faults shelf.new }
     ensures stays { StaysBut result (S.faults shelf.old) (S.faults shelf.new) }

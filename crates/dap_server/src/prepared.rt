@@ -1,6 +1,7 @@
 use dap_errors::Cause;
 use dap_http::Kind;
-use dap_types::Bytes;
+use dap_types::{Bytes, List};
+use join_source::JoinBody;
 use saved_source::SavedBody;
 use xdr_encode::Body;
 
@@ -13,6 +14,8 @@ pub enum Prepared<F> {
     Body { body: Body, file: F },
     /// A data response for what is left of a saved one. It has its values.
     Saved { body: SavedBody },
+    /// A data response for what is left of joined files, and these files, which it reads as it is streamed.
+    Joined { body: JoinBody, files: List<F> },
     /// The first cause for which there is none.
     Refuse(Cause),
     /// The shelf failed.

@@ -1,24 +1,27 @@
 //! The answer to a target.
 
-ghost use Rattle.std.specs.Prelude.{◌≡◌, ◌≢◌, ◌+◌, ◌<◌, ◌≤◌, ℕ, List, Option, Some, IsSome, IsTrue, Result, Ok, Err, false, is_some};
+ghost use Rattle.std.specs.Prelude.{◌≡◌, ◌≢◌, ◌+◌, ◌<◌, ◌≤◌, ℕ, List, Option, Some, None, IsSome, IsTrue, Result, Ok, Err, false, is_some};
 ghost use Rattle.dap_errors.specs.declared.cause.Cause.{Cause};
 ghost use Rattle.dap_outside.specs.Causes.{Rose};
 ghost use Rattle.dap_outside.specs.Files.{IsBytes};
 ghost use Rattle.xdr_encode.specs.Bodies.{FitsFile, HasNoFile, MayAsk, cost_in, text_in};
 ghost use Rattle.dap_server.specs.Costs.{IsCost, IsCostAt, asks_shelf, most_first};
 ghost use Rattle.dap_server.specs.Files.{form_of, is_read_first, saved};
-ghost use Rattle.dap_server.specs.Prepared.{IsFor, IsOver, MayGive, MustGive, WhereBody, WhereNoShelfFault, WhereRefuse, WhereSaved, WhereShelfFault, WhereText, asked_of};
+ghost use Rattle.dap_server.specs.Prepared.{IsFor, IsJoinedFor, IsOver, MayGive, MustGive, WhereBody, WhereJoined, WhereNoShelfFault, WhereRefuse, WhereSaved, WhereShelfFault, WhereText, asked_of};
 ghost use Rattle.saved_source.specs.Bodies.{Sends};
 ghost use Rattle.dap_server.specs.Results.{Text, text_of};
-ghost use Rattle.dap_server.specs.inner.Preparing.{IsMade, body_prepared, data_prepared, stopped, text_prepared};
+ghost use Rattle.dap_server.specs.inner.Preparing.{IsMade, asked_as, body_prepared, data_prepared, join_prepared, stopped, text_prepared};
 
+use crate::by_form::{das_by_form, dds_by_form, is_list};
 use crate::data_body::DataBody;
-use crate::kinds::{das_answer, dds_answer, dods_answer, version_answer};
+use crate::joined_kinds::joined_dods;
+use crate::kinds::{dods_answer, version_answer};
 use crate::prepared::Prepared;
 use crate::stop::Stop;
 use dap_http::{Kind, Target};
 use dap_outside::Shelf;
-use dap_types::Bytes;
+use dap_types::{Bytes, List};
+use join_source::JoinBody;
 use std::alloc::Global;
 use std::thread::Threads;
 
@@ -62,6 +65,40 @@ fn body_prepared<F: Drop>(body: Result<(DataBody, F), Stop>) -> Prepared<F>
     }
 }
 
+/// The answer that is data of joined files.
+fn join_prepared<F: Drop>(body: Result<(JoinBody, List<F>), Stop>) -> Prepared<F>
+    ensures { result ≡ join_prepared body }
+{
+    match body {
+        Ok((body, files)) => Prepared::Joined { body, files },
+        Err(stop) => stopped(stop),
+    }
+}
+
+/// The answer that is data, by the form of the file of a name.
+fn data_answer<R: Threads + Sync, S: Shelf>(
+    rt: &R,
+    alloc: Global,
+    shelf: &mut S,
+    name: &str,
+    query: &[u8],
+    workers: u32,
+) -> Prepared<S::File>
+    requires some { 1 ≤ workers }
+    requires many { workers ≤ 64 }
+    ensures made { IsMade (S.files shelf.old) (S.content shelf.new) (S.size_of shelf.new) (asked_as Kind.Dods name.now query.now) (Rose (S.faults shelf.old) (S.faults shelf.new)) result }
+    ensures later { S.faults shelf.old ≤ S.faults shelf.new }
+    ensures kept { WhereNoShelfFault result (S.faults shelf.new ≡ S.faults shelf.old) }
+    ensures files { S.files shelf.new ≡ S.files shelf.old }
+    ensures asked { S.asked shelf.new ≤ S.asked shelf.old + most_first (S.files shelf.old) name.now }
+    ensures untouched { form_of name.now ≡ None → shelf.new ≡ shelf.old }
+{
+    if is_list(name) {
+        return join_prepared(joined_dods(alloc, shelf, name, query));
+    }
+    body_prepared(dods_answer(rt, alloc, shelf, name, query, workers))
+}
+
 /// Bytes are bytes, which is all that this says. It looks at none of them.
 fn are_bytes(bytes: &[u8])
     ensures { IsBytes bytes.now }
@@ -88,16 +125,17 @@ fn answer_of<R: Threads + Sync, S: Shelf>(
     let query = target.query.bytes();
     match target.kind {
         Kind::Ver => text_prepared(Kind::Ver, version_answer(alloc)),
-        Kind::Das => text_prepared(Kind::Das, das_answer(alloc, shelf, name)),
-        Kind::Dds => text_prepared(Kind::Dds, dds_answer(alloc, shelf, name, query)),
-        Kind::Dods => body_prepared(dods_answer(rt, alloc, shelf, name, query, workers)),
+        Kind::Das => text_prepared(Kind::Das, das_by_form(alloc, shelf, name)),
+        Kind::Dds => text_prepared(Kind::Dds, dds_by_form(alloc, shelf, name, query)),
+        Kind::Dods => data_answer(rt, alloc, shelf, name, query, workers),
     }
 }
 
 /// What a target asks of the files of a shelf: a text, or a data response that reads its file as it is
 /// streamed, or the first cause for which there is none (`Results`). It takes all memory of the answer.
-/// Of a netCDF file it reads the first 1,048,576 bytes at most, a table whole. The rows of a table are
-/// judged by so many workers, 1 to 64.
+/// Of a netCDF file it reads the first 1,048,576 bytes at most, another file whole, and of a list, which has 65,536
+/// bytes at most, the files that it names in turn, each as a netCDF file. The rows of a table are judged by so many
+/// workers, 1 to 64.
 ///
 /// `ShelfFault` comes only where the shelf's count of faults rose, and only for a target that looks for a
 /// file.
@@ -129,6 +167,9 @@ pub fn prepare<R: Threads + Sync, S: Shelf>(
     // The body of a saved response sends the data response. It has all its values.
     ensures sends { WhereSaved result (λ body. (text : List ℕ) × Sends body text × MayGive (S.files shelf.old) (asked_of target.now) (Ok (text_of Kind.Dods text))) }
     ensures of_saved { WhereSaved result (λ body. (target.now.kind ≡ Kind.Dods) × (form_of target.now.name ≡ Some saved)) }
+
+    // The body of joined files reads these, and is the data response over their bytes.
+    ensures joined { WhereJoined result (IsJoinedFor (S.files shelf.old) (S.content shelf.new) (S.size_of shelf.new) (asked_of target.now)) }
 
     ensures refused { WhereRefuse result (λ cause. MayGive (S.files shelf.old) (asked_of target.now) (Err cause)) }
     ensures shelf_fault { WhereShelfFault result (IsTrue (asks_shelf (asked_of target.now)) × Rose (S.faults shelf.old) (S.faults shelf.new)) }

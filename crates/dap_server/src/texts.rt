@@ -54,7 +54,7 @@ pub fn das_of(alloc: Global, opened: &Opened) -> Result<Bytes, Memory>
 }
 
 /// The DDS of what marks leave of a dataset. One that is too long is refused before it is printed.
-fn dds_left(alloc: Global, dataset: &Dataset, marks: &Marks) -> Result<Bytes, Stop>
+pub fn dds_left(alloc: Global, dataset: &Dataset, marks: &Marks) -> Result<Bytes, Stop>
     requires { IsWellFormed (dataset_view dataset.now) }
     ensures text { IfOk result (λ text. text ≡ dds (constrained (marks_in marks.now) (dataset_view dataset.now))) }
     ensures short { IfOk result (λ text. length text ≤ 16777216) }

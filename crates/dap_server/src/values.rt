@@ -15,7 +15,7 @@ use std::thread::Threads;
 use xdr_encode::{Body, Streamed};
 
 /// What became of a reply whose values went out so.
-fn answered_by(streamed: Streamed, ends: bool) -> Answered
+pub fn answered_by(streamed: Streamed, ends: bool) -> Answered
     ensures { result ≡ answered_by ends streamed }
 {
     match streamed {

@@ -77,11 +77,11 @@ module _ (c : Contents) (file : List ℕ) where
       go false is true f = subst (λ ns. FitsArray (base_of w.external_type) ns (tree_of c file w)) (dims_sizes c (element_dimensions c w)) f.1.0
       go false is false f = subst (λ ns. FitsArray (base_of w.external_type) ns (tree_of c file w)) (dims_sizes c (element_dimensions c w)) f
 
-header-sound : (c : Contents) (file : List ℕ) → HasHeader c file → IsSound c
+pub header-sound : (c : Contents) (file : List ℕ) → HasHeader c file → IsSound c
 header-sound c file (bytes, (tree, rest, stands, says, past)) =
     subst IsSound says (stands_sound tree (take 1048576 file) rest (omega (arith, length-take 1048576 file)) stands)
 
-has-sizes : (c : Contents) (k : ℕ) (v : Variable) → IsSound c → slice_get c.variables k ≡ Some v → HasSizes c v
+pub has-sizes : (c : Contents) (k : ℕ) (v : Variable) → IsSound c → slice_get c.variables k ≡ Some v → HasSizes c v
 unfolding element_dimensions has_texts
 has-sizes c k v sound at =
     let positive = turn_positive c [] c.variables k v sound.variables at in

@@ -26,3 +26,4 @@ pub mod Alone
 pub mod Alike
 pub mod Named
 pub mod FitsTogether
+pub mod Halves

@@ -14,3 +14,4 @@ pub mod Alone
 pub mod Asked
 pub mod Wanted
 pub mod Served
+pub mod Halves

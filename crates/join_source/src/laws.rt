@@ -2,6 +2,7 @@
 
 ghost use Rattle.join_source.specs.Alone.{OneIsItself};
 ghost use Rattle.join_source.specs.Cutting.{JoinedCuts};
+ghost use Rattle.join_source.specs.Halves.{HalvesAreTheWhole};
 ghost use Rattle.join_source.specs.Members.{LeavesAreAlike, NumbersAreKept};
 ghost use Rattle.join_source.specs.Sent.{LeavesAreSent};
 ghost use Rattle.join_source.specs.Served.{JoinedFits, JoinedHasWords};
@@ -41,4 +42,9 @@ pub fn joined_fits()
 /// The names in the dataset of joined files are words.
 pub fn joined_has_words()
     ensures law { JoinedHasWords }
+{}
+
+/// A file that was cut in two along its records is given back where both are joined.
+pub fn halves_are_the_whole()
+    ensures law { HalvesAreTheWhole }
 {}

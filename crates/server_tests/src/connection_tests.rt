@@ -17,6 +17,33 @@ const V: &[u32] = &[
     1, 0, 0, 4, 0x30, 0x60, 0, 1, 2, 3, 4, 5, 6, 7, 8, 9, 10, 11,
 ];
 
+/// One record variable, with three records and with none.
+const R: &[u32] = &[
+    0x43444601, 3, 0x0a, 1, 1, 0x74000000, 0, 0, 0, 0x0b, 1, 1, 0x73000000, 1, 0, 0, 0, 3, 4, 0x50,
+];
+
+const E: &[u32] = &[
+    0x43444601, 0, 0x0a, 1, 1, 0x74000000, 0, 0, 0, 0x0b, 1, 1, 0x73000000, 1, 0, 0, 0, 3, 4, 0x50,
+];
+
+/// Each second record of three files.
+const JOINED_BODY: &[u8] =
+    b"Dataset {\n    Int16 s[t = 3];\n} j.join;\nData:\n\0\0\0\x03\0\0\0\x03\0\0\0\x02\0\0\0\x04\0\0\0\x06";
+
+const JOINED_DAS: &[u8] =
+    b"HTTP/1.1 200 OK\r\nXDODS-Server: dap2/1.0\r\nXDAP: 2.0\r\nContent-Description: dods_das\r\nContent-Type: text/plain\r\nContent-Length: 51\r\n\r\nAttributes {\n    s {\n    }\n    NC_GLOBAL {\n    }\n}\n";
+
+/// Of a list whose second line names no file, of one whose second file has another shape, and of one of a file
+/// without records.
+const NO_MEMBER: &[u8] =
+    b"HTTP/1.1 500 Internal Server Error\r\nXDODS-Server: dap2/1.0\r\nXDAP: 2.0\r\nContent-Description: dods_error\r\nContent-Type: text/plain\r\nContent-Length: 77\r\n\r\nError {\n    code = 19;\n    message = \"damaged file: no member in line 2\";\n};\n";
+
+const OTHER_SHAPE: &[u8] =
+    b"HTTP/1.1 500 Internal Server Error\r\nXDODS-Server: dap2/1.0\r\nXDAP: 2.0\r\nContent-Description: dods_error\r\nContent-Type: text/plain\r\nContent-Length: 74\r\n\r\nError {\n    code = 19;\n    message = \"damaged file: member 2 differs\";\n};\n";
+
+const NO_RECORD: &[u8] =
+    b"HTTP/1.1 500 Internal Server Error\r\nXDODS-Server: dap2/1.0\r\nXDAP: 2.0\r\nContent-Description: dods_error\r\nContent-Type: text/plain\r\nContent-Length: 77\r\n\r\nError {\n    code = 19;\n    message = \"damaged file: no record dimension\";\n};\n";
+
 const DATA_HEAD: &[u8] =
     b"HTTP/1.1 200 OK\r\nXDODS-Server: dap2/1.0\r\nXDAP: 2.0\r\nContent-Description: dods_data\r\nContent-Type: application/octet-stream\r\nTransfer-Encoding: chunked\r\n\r\n";
 
@@ -91,6 +118,8 @@ const TWO: &[u8] =
 const GET_SAVED: &[u8] =
     b"GET /saved.dods.dods?buoys.depth&buoys.depth%3C0 HTTP/1.1\r\nHost: x\r\n\r\n";
 
+const GET_JOINED: &[u8] = b"GET /j.join.dods?s%5B1:2:5%5D HTTP/1.1\r\nHost: x\r\n\r\n";
+
 const GET_VERSION: &[u8] = b"GET /any.ver HTTP/1.1\r\n\r\n";
 
 /// What a connection wrote, and how it was served.
@@ -143,6 +172,13 @@ fn files(alloc: Global) -> Result<List<MemFile>, Memory> {
     files.push(file(alloc, "saved.dods", &[], BUOYS_BODY)?)?;
     let short = BUOYS_BODY.len().min(137);
     files.push(file(alloc, "short.dods", &[], &BUOYS_BODY[..short])?)?;
+    files.push(file(alloc, "r.nc", R, b"\0\x01\0\x02\0\x03")?)?;
+    files.push(file(alloc, "e.nc", E, b"")?)?;
+    files.push(file(alloc, "r2.nc", R, b"\0\x04\0\x05\0\x06")?)?;
+    files.push(file(alloc, "j.join", &[], b"r.nc\ne.nc\nr2.nc\n")?)?;
+    files.push(file(alloc, "none.join", &[], b"r.nc\nnone.nc\n")?)?;
+    files.push(file(alloc, "other.join", &[], b"r.nc\nv.nc\n")?)?;
+    files.push(file(alloc, "fixed.join", &[], b"v.nc\n")?)?;
     Ok(files)
 }
 
@@ -257,6 +293,41 @@ const ROWS: &[Row] = &[
     (
         b"GET /saved.dods.dods?nope HTTP/1.1\r\n\r\nGET /short.dods.dods HTTP/1.1\r\n\r\n",
         &[REFUSED, SAVED_CUT],
+        2,
+        500,
+        Ending::Gone,
+    ),
+    (
+        GET_JOINED,
+        &[DATA_HEAD, b"42\r\n", JOINED_BODY, LAST_CHUNK],
+        1,
+        200,
+        Ending::Gone,
+    ),
+    (
+        b"GET /j.join.dods?s%5B1:2:5%5D HTTP/1.0\r\n\r\n",
+        &[DATA_HEAD_CLOSE, JOINED_BODY],
+        1,
+        200,
+        Ending::Closed,
+    ),
+    (
+        b"HEAD /j.join.dods HTTP/1.1\r\n\r\n",
+        &[DATA_HEAD],
+        1,
+        200,
+        Ending::Gone,
+    ),
+    (
+        b"GET /none.join.dods HTTP/1.1\r\n\r\nGET /j.join.das HTTP/1.1\r\n\r\n",
+        &[NO_MEMBER, JOINED_DAS],
+        2,
+        200,
+        Ending::Gone,
+    ),
+    (
+        b"GET /other.join.dds HTTP/1.1\r\n\r\nGET /fixed.join.dods HTTP/1.1\r\n\r\n",
+        &[OTHER_SHAPE, NO_RECORD],
         2,
         500,
         Ending::Gone,
@@ -480,6 +551,34 @@ fn a_failed_read_behind_the_head_breaks_off(rt: HostRuntime) -> Result<(), Fail>
     Ok(())
 }
 
+/// Of three files the headers are read by calls 3 to 8, behind the list, and the records by the ninth and tenth.
+#[test]
+fn each_call_of_the_shelf_for_a_list_may_fail(rt: HostRuntime) -> Result<(), Fail> {
+    let alloc = rt.alloc();
+    let whole = joined(alloc, &[DATA_HEAD, b"42\r\n", JOINED_BODY, LAST_CHUNK])?;
+    for call in 1..12u64 {
+        let fails: [u64; 1] = [call];
+        let faults = Faults {
+            shelf: &fails,
+            ..SURE
+        };
+        let found = served_over(&rt, GET_JOINED, faults)?;
+        let written = found.written.bytes();
+        if call <= 8 {
+            assert_eq!(rt; written, READ_FAILED);
+            assert_eq!(rt; found.served, as_served(1, 500, Ending::Gone));
+        } else if call <= 10 {
+            assert!(rt; written.starts_with(DATA_HEAD));
+            assert!(rt; written.len() < whole.len());
+            assert_eq!(rt; found.served, as_served(0, 0, Ending::Broken));
+        } else {
+            assert_eq!(rt; written, whole.as_slice());
+            assert_eq!(rt; found.served, as_served(1, 200, Ending::Gone));
+        }
+    }
+    Ok(())
+}
+
 /// Each take of a run without a fault fails in turn: the first request is answered where it came before.
 fn expect_answered<R: Threads + Abort + AllocGlobal + Sync>(
     rt: &R,
@@ -566,9 +665,11 @@ fn each_put_may_fail(rt: HostRuntime) -> Result<(), Fail> {
     let alloc = rt.alloc();
     let data = joined(alloc, &[DATA_HEAD, b"8a\r\n", BUOYS_BODY, LAST_CHUNK])?;
     let saved = joined(alloc, &[DATA_HEAD, b"5b\r\n", SAVED_PART, LAST_CHUNK])?;
+    let of_list = joined(alloc, &[DATA_HEAD, b"42\r\n", JOINED_BODY, LAST_CHUNK])?;
     for piece in [13, 100_000] {
         expect_fronts(&rt, GET_BUOYS, (&data, b""), piece)?;
         expect_fronts(&rt, GET_SAVED, (&saved, b""), piece)?;
+        expect_fronts(&rt, GET_JOINED, (&of_list, b""), piece)?;
         expect_fronts(&rt, TWO, (BAD_TARGET, DDS_HEAD), piece)?;
     }
     Ok(())

@@ -13,7 +13,7 @@ use Rattle.dap_http.specs.declared.kind.Kind.TheVariants.{Dods}
 use Rattle.dap_server.specs.Connections.{AreTurns, Behind, Connection, IsClosed, IsPut, IsServed, MayAnswer, Stops, behind_text, ends_after, is_last_turn, nothing, part_of_refusal, part_of_reply, last_status, put_from, refusal, status_behind, whole_behind}
 use Rattle.dap_server.specs.Files.{Files}
 use Rattle.dap_server.specs.Replies.{Request, Turn, replies, reply_of, request as request_of, status_of, wants}
-use Rattle.dap_server.specs.Results.{AnswersAsked, Results, Text, text_of}
+use Rattle.dap_server.specs.Results.{AnswersAsked, Results, ResultsAmong, Text, text_of}
 use Rattle.dap_server.specs.Steps.{found_or}
 use Rattle.dap_server.proofs.Connecting.{told-put}
 use Rattle.dap_server.proofs.OneAnswer.{one_result}
@@ -89,7 +89,7 @@ asked_for records = request_of 1 (head records)
 text-is : (start records : ℕ) (files : Files) (text : Text) → 1 ≤ records → records ≤ 4096 → files file_name ≡ Some (soak_bytes start records)
     → MayAnswer (Some files) (asked_for records) (Ok text) → text ≡ text_of Dods (soak_body start records)
 text-is start records files text some few is (inl (others, same, answered)) =
-    let given : Results (target records) files (Ok text) = subst (λ (fs : Files). Results (target records) fs (Ok text)) same answered in
+    let given : Results (target records) files (Ok text) = subst (λ (fs : Files). ResultsAmong (Some files) (target records) fs (Ok text)) same answered in
     ok_is text (text_of Dods (soak_body start records)) (one-result start records files (Ok text) some few is given)
   where
     ok_is : (v w : Text) → Path (Result Text Cause) (Ok v) (Ok w) → v ≡ w

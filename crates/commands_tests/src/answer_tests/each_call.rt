@@ -4,7 +4,7 @@ use super::samples::{alone, bytes_of, coads, file, files};
 use super::texts::{
     COADS_TARGET, EACH_SECOND, Row, SAVED_DEPTHS, UNSIGNED, WHOLE_GRID, WHOLE_TABLE, coads_body,
 };
-use super::{Faults, SURE, answered};
+use super::{Faults, SURE, answered, joins};
 use crate::counted::Counted;
 use crate::running::run_words;
 use dap_commands::Status;
@@ -106,6 +106,11 @@ fn each_call_for_a_table_may_fail(rt: HostRuntime) -> Result<(), Fail> {
 #[test]
 fn each_call_for_a_saved_response_may_fail(rt: HostRuntime) -> Result<(), Fail> {
     expect_faults(&rt, SAVED_DEPTHS)
+}
+
+#[test]
+fn each_call_for_a_list_may_fail(rt: HostRuntime) -> Result<(), Fail> {
+    expect_faults(&rt, joins::EACH_SECOND)
 }
 
 #[test]

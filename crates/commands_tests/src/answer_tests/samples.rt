@@ -1,21 +1,13 @@
-//! The small files of the worked examples, and a grid as the usual tools make it.
+//! Some small files, and a grid as the usual tools make it.
 
 use dap_outside::MemFile;
 use dap_types::{Bytes, List, Memory, Name};
 use std::alloc::Global;
 
 /// `v` over `y` (3) and `x` (4), element n of which is n.
-pub const V: &[u32] = &[
+const V: &[u32] = &[
     0x43444601, 0, 0x0a, 2, 1, 0x79000000, 3, 1, 0x78000000, 4, 0, 0, 0x0b, 1, 1, 0x76000000, 2, 0,
     1, 0, 0, 4, 0x30, 0x60, 0, 1, 2, 3, 4, 5, 6, 7, 8, 9, 10, 11,
-];
-
-/// The same, where `v` has the attributes `units` (`m` and a zero byte), `range` (-1 and 2) and `fill`.
-const A: &[u32] = &[
-    0x43444601, 0, 0x0a, 2, 1, 0x79000000, 3, 1, 0x78000000, 4, 0, 0, 0x0b, 1, 1, 0x76000000, 2, 0,
-    1, 0x0c, 3, 5, 0x756e6974, 0x73000000, 2, 2, 0x6d000000, 5, 0x72616e67, 0x65000000, 3, 2,
-    0xffff0002, 4, 0x66696c6c, 5, 1, 0x3f800000, 4, 0x30, 0xa4, 0, 1, 2, 3, 4, 5, 6, 7, 8, 9, 10,
-    11,
 ];
 
 /// The Grid `g` over `lat` and `lon`.
@@ -25,8 +17,8 @@ const G: &[u32] = &[
     0x0c, 0xbc, 10, 20, 1, 2, 3, 0xffff7fff, 0x00030004, 0x00050006,
 ];
 
-/// One record variable, without its records and with so many.
-const R: &[u32] = &[
+/// One record variable, without its records and with three.
+pub const R: &[u32] = &[
     0x43444601, 3, 0x0a, 1, 1, 0x74000000, 0, 0, 0, 0x0b, 1, 1, 0x73000000, 1, 0, 0, 0, 3, 4, 0x50,
 ];
 
@@ -34,32 +26,11 @@ const E: &[u32] = &[
     0x43444601, 0, 0x0a, 1, 1, 0x74000000, 0, 0, 0, 0x0b, 1, 1, 0x73000000, 1, 0, 0, 0, 3, 4, 0x50,
 ];
 
-const B: &[u32] = &[
-    0x43444601, 0, 0x0a, 1, 1, 0x6e000000, 5, 0, 0, 0x0b, 1, 1, 0x62000000, 1, 0, 0, 0, 1, 8, 0x50,
-    0x0102ff00,
-];
-
-const Z: &[u32] = &[
-    0x43444601, 2, 0x0a, 1, 1, 0x74000000, 0, 0, 0, 0x0b, 2, 1, 0x61000000, 1, 0, 0, 0, 3, 4, 0x74,
-    1, 0x62000000, 1, 0, 0, 0, 3, 4, 0x78, 0x00010000, 0x000a0000, 0x00020000, 0x000b0000,
-];
-
-const C: &[u32] = &[
-    0x43444601, 0, 0x0a, 2, 1, 0x6b000000, 2, 1, 0x77000000, 4, 0, 0, 0x0b, 1, 1, 0x63000000, 2, 0,
-    1, 0, 0, 2, 8, 0x60, 0x61620000, 0x7778797a,
-];
-
 /// Version 5: `u` of unsigned shorts, and `q` of 64-bit integers, which is not offered.
 const U: &[u32] = &[
     0x43444605, 0, 0, 0x0a, 0, 1, 0, 1, 0x6e000000, 0, 3, 0, 0, 0, 0x0b, 0, 2, 0, 1, 0x75000000, 0,
     1, 0, 0, 0, 0, 0, 8, 0, 8, 0, 0xbc, 0, 1, 0x71000000, 0, 1, 0, 0, 0, 0, 0, 0x0a, 0, 0x18, 0,
     0xc4, 0xffff0001, 0x80000000, 0, 1, 0, 2, 0, 3,
-];
-
-/// The same, cut after its 184 first bytes.
-const CUT: &[u32] = &[
-    0x43444605, 0, 0, 0x0a, 0, 1, 0, 1, 0x6e000000, 0, 3, 0, 0, 0, 0x0b, 0, 2, 0, 1, 0x75000000, 0,
-    1, 0, 0, 0, 0, 0, 8, 0, 8, 0, 0xbc, 0, 1, 0x71000000, 0, 1, 0, 0, 0, 0, 0, 0x0a, 0, 0x18, 0,
 ];
 
 /// Coordinate variables `TIME`, `COADSY` and `COADSX` of doubles, and `SST` of floats over them, each with
@@ -100,41 +71,17 @@ pub fn alone(alloc: Global, file: MemFile) -> Result<List<MemFile>, Memory> {
 const SAVED: &[u8] =
     b"Dataset {\n    Sequence {\n        String station;\n        Int32 depth;\n    } buoys;\n} buoys.csv;\nData:\n\x5a\0\0\0\0\0\0\x02A1\0\0\0\0\0\x05\x5a\0\0\0\0\0\0\x03B22\0\xff\xff\xff\xf9\xa5\0\0\0";
 
-/// That for a part of the Grid of `g.nc`.
-const PART: &[u8] =
-    b"Dataset {\n    Structure {\n        Int16 g[lat = 1][lon = 2];\n        Int32 lon[lon = 2];\n    } g;\n} g.nc;\nData:\n\0\0\0\x02\0\0\0\x02\0\0\x7f\xff\0\0\0\x03\0\0\0\x02\0\0\0\x02\0\0\0\x02\0\0\0\x03";
-
 /// Files by their names: some words, and bytes behind them.
 const NAMED: &[(&str, &[u32], &[u8])] = &[
     ("buoys.csv", &[], b"station,depth:Int32\nA1,5\nB22,-7\n"),
-    ("head.csv", &[], b"station,depth:Int32\n"),
-    ("k.csv", &[], b"n:UInt16,u:Url\n 7 ,x\n"),
-    ("bad.csv", &[], b"n:Byte\n256\n"),
-    ("ragged.csv", &[], b"a,b\n1\n"),
-    ("twice.csv", &[], b"a,a\n"),
-    ("empty.csv", &[], b""),
-    ("empty.nc", &[], b""),
-    ("w.nc", &[], b"\x43\x44\x46\x03"),
     ("v.nc", V, b""),
-    ("a.nc", A, b""),
     ("g.nc", G, b""),
-    ("sea/r.nc", R, b"\0\x01\0\x02\0\x03"),
+    ("r.nc", R, b"\0\x01\0\x02\0\x03"),
     ("e.nc", E, b""),
-    ("b.nc", B, b"\x07"),
-    ("z.nc", Z, b""),
-    ("c.nc", C, b""),
+    ("r2.nc", R, b"\0\x04\0\x05\0\x06"),
+    ("j.join", &[], b"r.nc\ne.nc\nr2.nc\n"),
     ("u.nc", U, b""),
-    ("cut.nc", CUT, b"\0\0\0"),
-    ("lists.nc", &[0x43444601, 0, 0x0a, 0xffffffff], b""),
     ("saved.dods", &[], SAVED),
-    ("sea/part.dods", &[], PART),
-    ("error.dods", &[], b"\nError {\n    code = 1;\n"),
-    (
-        "again.dods",
-        &[],
-        b"Dataset { Int32 a.b; Int32 a%2eb; } f;\nData:\n\0\0\0\x01\0\0\0\x02",
-    ),
-    ("bad.dods", &[], b"Dataset {\n    Byte a;\n} f;\nData:\n"),
 ];
 
 pub fn files(alloc: Global) -> Result<List<MemFile>, Memory> {

@@ -6,12 +6,13 @@ use Rattle.dap_server.specs.Results.{error_object}
 use Rattle.dap_commands.specs.Answer.{status_of}
 use Rattle.dap_commands.specs.Lines.{cause_line}
 use Rattle.dap_commands.specs.declared.status.Status.{Status}
-use Rattle.dap_commands.specs.declared.status.Status.TheVariants.{Complete, Words, Refused, Damaged, BadReply, ReadFault, WriteFault, LinkFault, Memory, ServerError}
+use Rattle.dap_commands.specs.declared.status.Status.TheVariants.{Complete, Words, Unsaved, Refused, Damaged, BadReply, ReadFault, WriteFault, LinkFault, Memory, ServerError}
 
 abbrev pub TextPut : List ℕ → (List ℕ → Type 0) → (List ℕ → Type 0) → Status → Type 0
 TextPut text Out Front Complete = Out text
 TextPut text Out Front WriteFault = Front text
 TextPut text Out Front Words = ⊥
+TextPut text Out Front Unsaved = ⊥
 TextPut text Out Front Refused = ⊥
 TextPut text Out Front Damaged = ⊥
 TextPut text Out Front BadReply = ⊥
@@ -25,6 +26,7 @@ BodyPut text Out Front Complete = Out text
 BodyPut text Out Front ReadFault = Front text
 BodyPut text Out Front WriteFault = Front text
 BodyPut text Out Front Words = ⊥
+BodyPut text Out Front Unsaved = ⊥
 BodyPut text Out Front Refused = ⊥
 BodyPut text Out Front Damaged = ⊥
 BodyPut text Out Front BadReply = ⊥
@@ -51,6 +53,7 @@ RefusalPut cause Out Front Line WriteFault = Front (error_object cause)
 RefusalPut cause Out Front Line Memory = Out []
 RefusalPut cause Out Front Line Complete = ⊥
 RefusalPut cause Out Front Line Words = ⊥
+RefusalPut cause Out Front Line Unsaved = ⊥
 RefusalPut cause Out Front Line BadReply = ⊥
 RefusalPut cause Out Front Line ReadFault = ⊥
 RefusalPut cause Out Front Line ServerError = ⊥

@@ -20,7 +20,7 @@ use Rattle.saved_source.specs.declared.refusal.SavedBodyRefusal.{SavedBodyRefusa
 use Rattle.saved_source.specs.declared.refusal.SavedBodyRefusal.TheVariants as saved_bodies
 use Rattle.xdr_encode.specs.declared.refusal.BodyRefusal.{BodyRefusal}
 use Rattle.xdr_encode.specs.declared.refusal.BodyRefusal.TheVariants as bodies
-use Rattle.dap_server.specs.Files.{Files, Form, MayHave, Stored, form_of, front, netcdf, saved, table}
+use Rattle.dap_server.specs.Files.{Files, Form, MayHave, Stored, form_of, front, joined, netcdf, saved, table}
 use Rattle.dap_server.specs.declared.open.FileForm.{FileForm}
 use Rattle.dap_server.specs.declared.open.FileForm.TheVariants as forms
 use Rattle.dap_server.specs.declared.open.Opened.{Opened}
@@ -61,6 +61,7 @@ abbrev pub form_view : FileForm → Form
 form_view forms.Netcdf = netcdf
 form_view forms.Table = table
 form_view forms.Saved = saved
+form_view forms.Joined = joined
 
 -- it was opened as the file of this name and these bytes, which has these values
 abbrev pub OpenedAs : Opened → List ℕ → List ℕ → List Tree → Type 0

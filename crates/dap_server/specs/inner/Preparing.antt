@@ -7,8 +7,8 @@ use Rattle.dap_http.specs.declared.kind.Kind.TheVariants.{Dods}
 use Rattle.dap_outside.specs.Files.{Told}
 use Rattle.dap_server.specs.Costs.{IsCost, IsCostAt, asks_shelf}
 use Rattle.dap_server.specs.Files.{Files, MayHave, form_of, is_read_first, saved}
-use Rattle.dap_server.specs.Prepared.{IsOver, MayGive, WhereBody, WhereRefuse, WhereSaved, WhereShelfFault, WhereText}
-use Rattle.dap_server.specs.Results.{Answers, Text, text_of}
+use Rattle.dap_server.specs.Prepared.{IsJoinedFor, IsOver, MayGive, WhereBody, WhereJoined, WhereRefuse, WhereSaved, WhereShelfFault, WhereText}
+use Rattle.dap_server.specs.Results.{AnswersAmong, Text, text_of}
 use Rattle.dap_server.specs.declared.data_body.DataBody.{DataBody}
 use Rattle.dap_server.specs.declared.data_body.DataBody.TheVariants as bodies
 use Rattle.dap_server.specs.declared.prepared.Prepared.{Prepared}
@@ -17,12 +17,17 @@ use Rattle.dap_server.specs.declared.stop.Stop.{Stop}
 use Rattle.dap_server.specs.declared.stop.Stop.TheVariants.{Refused, ShelfFault, Memory}
 use Rattle.xdr_encode.specs.Bodies.{FitsFile, HasNoFile, MayAsk, cost_in, text_in}
 use Rattle.xdr_encode.specs.declared.body.Body.{Body}
+use Rattle.join_source.specs.declared.body.JoinBody.{JoinBody}
 use Rattle.saved_source.specs.Bodies.{Sends}
 use Rattle.saved_source.specs.declared.body.SavedBody.{SavedBody}
 
 -- the files that the shelf may have answer a name and a query of this kind so
 abbrev pub MayGiveAs : Told → Kind → List ℕ → List ℕ → Result Text Cause → Type 0
-MayGiveAs told kind name query answer = (files : Files) × MayHave told files × Answers kind files name query answer
+MayGiveAs told kind name query answer = (files : Files) × MayHave told files × AnswersAmong told kind files name query answer
+
+-- what is asked by a kind, a name and a query
+abbrev pub asked_as : Kind → List ℕ → List ℕ → Asked
+asked_as kind name query = record { name = name; kind = kind; query = query }
 
 abbrev pub stopped : {F : Type 0} → Stop → Prepared F
 stopped (Refused cause) = prepared.Refuse cause
@@ -40,6 +45,10 @@ data_prepared (bodies.Saved b) file = prepared.Saved b
 abbrev pub body_prepared : {F : Type 0} → Result (DataBody × F) Stop → Prepared F
 body_prepared (Ok (d, file)) = data_prepared d file
 body_prepared (Err stop) = stopped stop
+
+abbrev pub join_prepared : {F : Type 0} → Result (JoinBody × List F) Stop → Prepared F
+join_prepared (Ok (b, files)) = prepared.Joined b files
+join_prepared (Err stop) = stopped stop
 
 -- by the body
 abbrev pub WhereOfFile : DataBody → (Body → Type 0) → Type 0
@@ -64,5 +73,6 @@ pub record IsMade {F : Type 0} (told : Told) (content : F → Option (List ℕ))
   pub cost_at : WhereBody p (λ b file. (bytes : List ℕ) (put cost : ℕ) → content file ≡ Some bytes → MayAsk b bytes put cost → IsCostAt told a put cost)
   pub sends : WhereSaved p (λ b. (text : List ℕ) × Sends b text × MayGive told a (Ok (text_of Dods text)))
   pub of_saved : WhereSaved p (λ b. (a.kind ≡ Dods) × (form_of a.name ≡ Some saved))
+  pub joined : WhereJoined p (IsJoinedFor told content size_of a)
   pub refused : WhereRefuse p (λ cause. MayGive told a (Err cause))
   pub shelf_fault : WhereShelfFault p (IsTrue (asks_shelf a) × Fault)

@@ -6,6 +6,9 @@ use Rattle.dap_server.specs.Prepared.{asked_of}
 use Rattle.dap_server.specs.Results.{text_of}
 use Rattle.dap_http.specs.declared.kind.Kind.TheVariants.{Dods}
 use Rattle.xdr_encode.specs.Bodies.{MayAsk, cost_in, text_in}
+use Rattle.std.specs.Prelude.{map}
+use Rattle.join_source.specs.Bodies as join
+use Rattle.join_source.specs.Pieces.{AreTold}
 use Rattle.dap_commands.proofs.Answering as answering
 use Rattle.dap_commands.specs.Answer.{status_for}
 use Rattle.dap_commands.specs.Lines.{IsSaid}
@@ -50,6 +53,31 @@ pub returns-in-Body-clause-asked_then : goal.returns-in-Body-clause-asked_then
 returns-in-Body-clause-asked_then g c = λ some is.
     answering.asked_then _ c.args.target.now (asked_of c.args.asked.now) (g.S.Shelf.content c.prepare.new.shelf c.in-Body.file) (text_in c.in-Body.body) (MayAsk c.in-Body.body) _ _ _ _ _ c.requires.is_asked some
     c.in-Body.ensures.tells c.in-Body.ensures.body c.in-Body.ensures.cost_at (λ bytes holds. c.put_body.ensures.stops bytes holds is) c.in-Body.ensures.asked
+
+pub put_joined-requires-clause-fits : goal.put_joined-requires-clause-fits
+put_joined-requires-clause-fits g c lifetimes outlive = c.in-Joined.ensures.joined.fits
+
+pub returns-in-Joined-clause-says : goal.returns-in-Joined-clause-says
+returns-in-Joined-clause-says g c =
+    answering.joined_says (g.S.Shelf.files c.args.shelf.now) c.args.target.now (Appends (g.O.Sink.written c.args.out.now) (g.O.Sink.written c.put_joined.new.out)) (AppendsFront (g.O.Sink.written c.args.out.now) (g.O.Sink.written c.put_joined.new.out)) (λ line. IsSaid line (g.E.Sink.put_faults c.args.err.now) (g.E.Sink.put_faults c.args.err.now) (g.E.Sink.written c.args.err.now) (g.E.Sink.written c.args.err.now)) (asked_of c.args.asked.now) (AreTold (map (g.S.Shelf.content c.prepare.new.shelf) c.in-Joined.files)) (join.text_in c.in-Joined.body) c.put_joined.result c.requires.is_asked
+    c.in-Joined.ensures.joined.of_list c.in-Joined.ensures.joined.body c.in-Joined.ensures.joined.accepted c.in-Joined.ensures.joined.tells c.put_joined.ensures.put c.put_joined.ensures.is_put
+
+pub returns-in-Joined-clause-only : goal.returns-in-Joined-clause-only
+returns-in-Joined-clause-only g c = λ r must still quiet had.
+    answering.body_only (Rose (g.S.Shelf.faults c.args.shelf.now) (g.S.Shelf.faults c.put_joined.new.shelf)) (Rose (g.O.Sink.put_faults c.args.out.now) (g.O.Sink.put_faults c.put_joined.new.out)) c.put_joined.result c.put_joined.ensures.is_put
+    (λ is. answering.rose_later (g.S.Shelf.faults c.args.shelf.now) (g.S.Shelf.faults c.prepare.new.shelf) (g.S.Shelf.faults c.put_joined.new.shelf) c.in-Joined.ensures.later (c.put_joined.ensures.read_fault is))
+    c.put_joined.ensures.write_fault still quiet
+    ∙ sym (ap status_for (c.in-Joined.ensures.only r (answering.must_give _ c.args.target.now (asked_of c.args.asked.now) r c.requires.is_asked must)).1)
+
+pub returns-in-Joined-clause-asked : goal.returns-in-Joined-clause-asked
+returns-in-Joined-clause-asked g c =
+    answering.asks_all _ c.args.target.now (asked_of c.args.asked.now) _ _ _ c.in-Joined.ensures.joined.cost.0 (join.cost_in c.in-Joined.body) c.requires.is_asked c.in-Joined.ensures.asked c.put_joined.ensures.asked
+    c.in-Joined.ensures.joined.cost.2 c.in-Joined.ensures.joined.accepted c.in-Joined.ensures.joined.cost.1
+
+pub returns-in-Joined-clause-asked_then : goal.returns-in-Joined-clause-asked_then
+returns-in-Joined-clause-asked_then g c = λ some is.
+    answering.joined_asked_then _ c.args.target.now (asked_of c.args.asked.now) (AreTold (map (g.S.Shelf.content c.prepare.new.shelf) c.in-Joined.files)) (join.text_in c.in-Joined.body) (join.MayAsk c.in-Joined.body) _ _ _ _ _ c.requires.is_asked some
+    c.in-Joined.ensures.joined.tells c.in-Joined.ensures.joined.body c.in-Joined.ensures.joined.cost_at (λ contents holds. c.put_joined.ensures.stops contents holds is) c.in-Joined.ensures.asked
 
 pub returns-in-Saved-clause-says : goal.returns-in-Saved-clause-says
 returns-in-Saved-clause-says g c =

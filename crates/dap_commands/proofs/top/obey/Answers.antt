@@ -3,9 +3,10 @@ use Rattle.std.specs.Io.KnownBytes.{Appends}
 use Rattle.dap_outside.specs.Streams.{AppendsFront}
 use Rattle.dap_commands.proofs.Answering.{same_target}
 use Rattle.dap_commands.proofs.Commanding.{same-serve}
-use Rattle.dap_commands.proofs.Fetching.{for-words, form-kind, form-of, no-answer, no-command, no-command-url, no-relay, no-serve, no-show, no-soak, no-url, no-ver, soak-no-answer}
+use Rattle.dap_commands.proofs.Fetching.{for-words, form-kind, form-of, no-answer, no-command, no-command-url, no-relay, no-save, no-save-url, no-serve, no-show, no-soak, no-url, no-ver, soak-no-answer}
 use Rattle.dap_commands.proofs.Obeying.{answer-no-words, serve-for, serve-no-words}
 use Rattle.dap_commands.proofs.RelayWords.{relay-as, relay-for, relay-host, relays-no-words}
+use Rattle.dap_commands.proofs.Saved.{input-no-fetch, input-no-save, no-save-command, no-save-known, save-for, save-no-answer, save-no-fetch, save-no-soak, save-only, show-no-save}
 use Rattle.dap_commands.proofs.Seeds.{soak-for}
 use Rattle.dap_commands.specs.Answer.{AnswerSays, MustResult, most_before}
 use Rattle.dap_commands.specs.Lines.{IsSaid}
@@ -97,13 +98,13 @@ pub returns-in-Fetch-clause-fetch : goal.returns-in-Fetch-clause-fetch
 returns-in-Fetch-clause-fetch g c = λ u kind ces are. for-words _ _ _ _ _ _ _ u _ _ _ _ _ _ c.in-Fetch.ensures c.fetch.ensures.says are
 
 pub returns-in-Fetch-clause-dial : goal.returns-in-Fetch-clause-dial
-returns-in-Fetch-clause-dial g c = λ no_fetch no_relay. (c.fetch.ensures.untouched (no-url _ _ _ _ c.in-Fetch.ensures no_fetch)).0
+returns-in-Fetch-clause-dial g c = λ no_fetch no_relay no_save. (c.fetch.ensures.untouched (no-url _ _ _ _ c.in-Fetch.ensures no_fetch)).0
 
 pub returns-in-Fetch-clause-link_fault : goal.returns-in-Fetch-clause-link_fault
-returns-in-Fetch-clause-link_fault g c = λ no_fetch is. let clash : Words ≡ LinkFault = sym (c.fetch.ensures.words.1 (no-url _ _ _ _ c.in-Fetch.ensures no_fetch)) ∙ is in cc clash
+returns-in-Fetch-clause-link_fault g c = λ no_fetch no_save is. let clash : Words ≡ LinkFault = sym (c.fetch.ensures.words.1 (no-url _ _ _ _ c.in-Fetch.ensures no_fetch)) ∙ is in cc clash
 
 pub returns-in-Fetch-clause-write_fault : goal.returns-in-Fetch-clause-write_fault
-returns-in-Fetch-clause-write_fault g c = λ no_fetch is. let clash : Words ≡ WriteFault = sym (c.fetch.ensures.words.1 (no-url _ _ _ _ c.in-Fetch.ensures no_fetch)) ∙ is in cc clash
+returns-in-Fetch-clause-write_fault g c = λ no_fetch no_save is. let clash : Words ≡ WriteFault = sym (c.fetch.ensures.words.1 (no-url _ _ _ _ c.in-Fetch.ensures no_fetch)) ∙ is in cc clash
 
 pub returns-in-Fetch-clause-words : goal.returns-in-Fetch-clause-words
 returns-in-Fetch-clause-words g c = (
@@ -221,7 +222,7 @@ pub returns-in-Relay-clause-door : goal.returns-in-Relay-clause-door
 returns-in-Relay-clause-door g c = λ no_serve no_relay. absurd (no_relay (_, _, _, _, _, c.in-Relay.ensures))
 
 pub returns-in-Relay-clause-dial : goal.returns-in-Relay-clause-dial
-returns-in-Relay-clause-dial g c = λ no_fetch no_relay. absurd (no_relay (_, _, _, _, _, c.in-Relay.ensures))
+returns-in-Relay-clause-dial g c = λ no_fetch no_relay no_save. absurd (no_relay (_, _, _, _, _, c.in-Relay.ensures))
 
 pub returns-in-Relay-clause-dial_kept : goal.returns-in-Relay-clause-dial_kept
 returns-in-Relay-clause-dial_kept g c = λ no_relay. absurd (no_relay (_, _, _, _, _, c.in-Relay.ensures))
@@ -229,11 +230,11 @@ returns-in-Relay-clause-dial_kept g c = λ no_relay. absurd (no_relay (_, _, _, 
 pub returns-in-Relay-clause-words : goal.returns-in-Relay-clause-words
 returns-in-Relay-clause-words g c = (
   λ is command. relays-no-words _ _ _ _ _ _ c.relay.ensures.relayed.1 is,
-  λ no_one. absurd (no_one (inr (inr (inr (inr (inr (inr (_, _, _, _, _, c.in-Relay.ensures)))))))),
+  λ no_one. absurd (no_one (inr (inr (inr (inr (inr (inr (inl (_, _, _, _, _, c.in-Relay.ensures))))))))),
 )
 
 pub returns-in-Relay-clause-no_command : goal.returns-in-Relay-clause-no_command
-returns-in-Relay-clause-no_command g c = λ no_one. absurd (no_one (inr (inr (inr (inr (inr (inr (_, _, _, _, _, c.in-Relay.ensures))))))))
+returns-in-Relay-clause-no_command g c = λ no_one. absurd (no_one (inr (inr (inr (inr (inr (inr (inl (_, _, _, _, _, c.in-Relay.ensures)))))))))
 
 pub returns-in-Relay-clause-fetch : goal.returns-in-Relay-clause-fetch
 returns-in-Relay-clause-fetch g c = λ u kind ces are. let (url, form) = form-of _ u kind ces are in absurd (no-relay _ _ _ _ _ _ url kind ces c.in-Relay.ensures form)
@@ -248,4 +249,118 @@ pub returns-in-Fetch-clause-relay_memory : goal.returns-in-Fetch-clause-relay_me
 returns-in-Fetch-clause-relay_memory g c = λ is. let (host, upport, port, room, requests, are) = is in absurd (no-relay _ host upport port room requests _ _ _ are c.in-Fetch.ensures)
 
 pub returns-in-Other-clause-relay : goal.returns-in-Other-clause-relay
-returns-in-Other-clause-relay g c = λ host upport port room requests are. absurd (c.in-Other.ensures (inr (inr (inr (inr (inr (inr (host, upport, port, room, requests, are))))))))
+returns-in-Other-clause-relay g c = λ host upport port room requests are. absurd (c.in-Other.ensures (inr (inr (inr (inr (inr (inr (inl (host, upport, port, room, requests, are)))))))))
+
+pub returns-in-Fetch-clause-save : goal.returns-in-Fetch-clause-save
+returns-in-Fetch-clause-save g c = λ are. absurd (no-save _ _ _ _ are c.in-Fetch.ensures)
+
+pub returns-in-Fetch-clause-save_read : goal.returns-in-Fetch-clause-save_read
+returns-in-Fetch-clause-save_read g c = λ are. absurd (no-save _ _ _ _ are c.in-Fetch.ensures)
+
+pub returns-in-Fetch-clause-save_url : goal.returns-in-Fetch-clause-save_url
+returns-in-Fetch-clause-save_url g c = λ u ce are. let (url, form, is) = are in absurd (no-save-url _ url ce _ _ _ form c.in-Fetch.ensures)
+
+pub returns-in-Fetch-clause-save_link : goal.returns-in-Fetch-clause-save_link
+returns-in-Fetch-clause-save_link g c = λ is. let (u, ce, are) = is in let (url, form, known) = are in absurd (no-save-url _ url ce _ _ _ form c.in-Fetch.ensures)
+
+pub returns-in-Answer-clause-save_url : goal.returns-in-Answer-clause-save_url
+returns-in-Answer-clause-save_url g c = λ u ce are. let (url, form, is) = are in absurd (save-no-answer _ _ _ url ce c.in-Answer.ensures.0 form)
+
+pub returns-in-Answer-clause-save_link : goal.returns-in-Answer-clause-save_link
+returns-in-Answer-clause-save_link g c = λ is. let (u, ce, are) = is in let (url, form, known) = are in absurd (save-no-answer _ _ _ url ce c.in-Answer.ensures.0 form)
+
+pub returns-in-Answer-clause-save_url_shelf : goal.returns-in-Answer-clause-save_url_shelf
+returns-in-Answer-clause-save_url_shelf g c = λ is. let (u, ce, are) = is in let (url, form, known) = are in absurd (save-no-answer _ _ _ url ce c.in-Answer.ensures.0 form)
+
+pub returns-in-Soak-clause-save_url : goal.returns-in-Soak-clause-save_url
+returns-in-Soak-clause-save_url g c = λ u ce are. let (url, form, is) = are in absurd (save-no-soak _ _ _ url ce c.in-Soak.ensures form)
+
+pub returns-in-Soak-clause-save_link : goal.returns-in-Soak-clause-save_link
+returns-in-Soak-clause-save_link g c = λ is. let (u, ce, are) = is in let (url, form, known) = are in absurd (save-no-soak _ _ _ url ce c.in-Soak.ensures form)
+
+pub returns-in-Other-clause-save : goal.returns-in-Other-clause-save
+returns-in-Other-clause-save g c = λ are. absurd (c.in-Other.ensures (inr (inr (inr (inr (inr (inr (inr (inl are)))))))))
+
+pub returns-in-Other-clause-save_url : goal.returns-in-Other-clause-save_url
+returns-in-Other-clause-save_url g c = λ u ce are. absurd (c.in-Other.ensures (inr (inr (inr (inr (inr (inr (inr (inr (u, ce, are))))))))))
+
+pub returns-in-Other-clause-save_link : goal.returns-in-Other-clause-save_link
+returns-in-Other-clause-save_link g c = λ is. absurd (c.in-Other.ensures (inr (inr (inr (inr (inr (inr (inr (inr is)))))))))
+
+pub returns-in-Save-clause-save : goal.returns-in-Save-clause-save
+returns-in-Save-clause-save g c = λ are. c.save_input.ensures.says
+
+pub returns-in-Save-clause-fetch : goal.returns-in-Save-clause-fetch
+returns-in-Save-clause-fetch g c = λ u kind ces are. let (url, form) = form-of _ u kind ces are in absurd (no-save _ url kind ces c.in-Save.ensures form)
+
+pub returns-in-Save-clause-fetch_link : goal.returns-in-Save-clause-fetch_link
+returns-in-Save-clause-fetch_link g c = λ is. absurd (input-no-fetch _ c.in-Save.ensures is)
+
+pub returns-in-Save-clause-save_url : goal.returns-in-Save-clause-save_url
+returns-in-Save-clause-save_url g c = λ u ce are. absurd (input-no-save _ c.in-Save.ensures (u, ce, are))
+
+pub returns-in-Save-clause-save_link : goal.returns-in-Save-clause-save_link
+returns-in-Save-clause-save_link g c = λ is. absurd (input-no-save _ c.in-Save.ensures is)
+
+pub returns-in-Save-clause-input : goal.returns-in-Save-clause-input
+returns-in-Save-clause-input g c = λ no_show no_save. absurd (no_save c.in-Save.ensures)
+
+pub returns-in-Save-clause-link_fault : goal.returns-in-Save-clause-link_fault
+returns-in-Save-clause-link_fault g c = λ no_fetch no_save is. absurd (c.save_input.ensures.no_link is)
+
+pub returns-in-Save-clause-words : goal.returns-in-Save-clause-words
+returns-in-Save-clause-words g c = (λ is command. c.save_input.ensures.words is, λ no_one. absurd (no_one (inr (inr (inr (inr (inr (inr (inr (inl c.in-Save.ensures))))))))))
+
+pub returns-in-Save-clause-no_command : goal.returns-in-Save-clause-no_command
+returns-in-Save-clause-no_command g c = λ no_one. absurd (no_one (inr (inr (inr (inr (inr (inr (inr (inl c.in-Save.ensures)))))))))
+
+pub returns-in-SaveUrl-clause-answer : goal.returns-in-SaveUrl-clause-answer
+returns-in-SaveUrl-clause-answer g c = λ target workers are. absurd (save-no-answer _ target workers _ _ are c.in-SaveUrl.ensures)
+
+pub returns-in-SaveUrl-clause-answered : goal.returns-in-SaveUrl-clause-answered
+returns-in-SaveUrl-clause-answered g c = λ target workers are. absurd (save-no-answer _ target workers _ _ are c.in-SaveUrl.ensures)
+
+pub returns-in-SaveUrl-clause-answer_asks : goal.returns-in-SaveUrl-clause-answer_asks
+returns-in-SaveUrl-clause-answer_asks g c = λ target workers are. absurd (save-no-answer _ target workers _ _ are c.in-SaveUrl.ensures)
+
+pub returns-in-SaveUrl-clause-answer_asks_first : goal.returns-in-SaveUrl-clause-answer_asks_first
+returns-in-SaveUrl-clause-answer_asks_first g c = λ target workers are. absurd (save-no-answer _ target workers _ _ are c.in-SaveUrl.ensures)
+
+pub returns-in-SaveUrl-clause-answer_asked : goal.returns-in-SaveUrl-clause-answer_asked
+returns-in-SaveUrl-clause-answer_asked g c = λ target workers are. absurd (save-no-answer _ target workers _ _ are c.in-SaveUrl.ensures)
+
+pub returns-in-SaveUrl-clause-answer_untouched : goal.returns-in-SaveUrl-clause-answer_untouched
+returns-in-SaveUrl-clause-answer_untouched g c = λ target workers are. absurd (save-no-answer _ target workers _ _ are c.in-SaveUrl.ensures)
+
+pub returns-in-SaveUrl-clause-answer_read_fault : goal.returns-in-SaveUrl-clause-answer_read_fault
+returns-in-SaveUrl-clause-answer_read_fault g c = λ target workers are. absurd (save-no-answer _ target workers _ _ are c.in-SaveUrl.ensures)
+
+pub returns-in-SaveUrl-clause-soak : goal.returns-in-SaveUrl-clause-soak
+returns-in-SaveUrl-clause-soak g c = λ start records are. absurd (save-no-soak _ start records _ _ are c.in-SaveUrl.ensures)
+
+pub returns-in-SaveUrl-clause-fetch : goal.returns-in-SaveUrl-clause-fetch
+returns-in-SaveUrl-clause-fetch g c = λ u kind ces are. absurd (save-no-fetch _ _ _ c.in-SaveUrl.ensures (u, kind, ces, are))
+
+pub returns-in-SaveUrl-clause-fetch_link : goal.returns-in-SaveUrl-clause-fetch_link
+returns-in-SaveUrl-clause-fetch_link g c = λ is. absurd (save-no-fetch _ _ _ c.in-SaveUrl.ensures is)
+
+pub returns-in-SaveUrl-clause-save_url : goal.returns-in-SaveUrl-clause-save_url
+returns-in-SaveUrl-clause-save_url g c = λ u ce are. save-for _ _ _ _ u ce _ _ _ _ _ _ c.in-SaveUrl.ensures c.save_fetched.ensures.says are
+
+pub returns-in-SaveUrl-clause-dial : goal.returns-in-SaveUrl-clause-dial
+returns-in-SaveUrl-clause-dial g c = λ no_fetch no_relay no_save. (c.save_fetched.ensures.untouched (no-save-known _ _ _ c.in-SaveUrl.ensures no_save)).0
+
+pub returns-in-SaveUrl-clause-link_fault : goal.returns-in-SaveUrl-clause-link_fault
+returns-in-SaveUrl-clause-link_fault g c = λ no_fetch no_save is. let clash : Words ≡ LinkFault = sym (c.save_fetched.ensures.words.1 (no-save-known _ _ _ c.in-SaveUrl.ensures no_save)) ∙ is in cc clash
+
+pub returns-in-SaveUrl-clause-write_fault : goal.returns-in-SaveUrl-clause-write_fault
+returns-in-SaveUrl-clause-write_fault g c = λ no_fetch no_save is. let clash : Words ≡ WriteFault = sym (c.save_fetched.ensures.words.1 (no-save-known _ _ _ c.in-SaveUrl.ensures no_save)) ∙ is in cc clash
+
+pub returns-in-SaveUrl-clause-words : goal.returns-in-SaveUrl-clause-words
+returns-in-SaveUrl-clause-words g c = (
+  λ is command. save-only _ _ _ c.in-SaveUrl.ensures (c.save_fetched.ensures.words.0 is) command,
+  λ no_one. c.save_fetched.ensures.words.1 (no-save-command _ _ _ c.in-SaveUrl.ensures no_one),
+)
+
+pub returns-in-SaveUrl-clause-no_command : goal.returns-in-SaveUrl-clause-no_command
+returns-in-SaveUrl-clause-no_command g c = λ no_one. (refl, (c.save_fetched.ensures.untouched (no-save-command _ _ _ c.in-SaveUrl.ensures no_one)).1)

@@ -5,6 +5,7 @@ use Rattle.dap_server.specs.Results.{text_of}
 use Rattle.dap_http.specs.declared.kind.Kind.TheVariants.{Dods}
 use Rattle.xdr_encode.specs.Bodies.{text_in}
 use Rattle.dap_server.proofs.Answered.{failed-answer, refused-answer, saved-answer, text-answer, wanted-answer, with-first}
+use Rattle.dap_server.proofs.JoinsMade.{join_moved}
 use Rattle.dap_server.proofs.answer.answer_target.Goals as goal
 
 pub returns-in-Text-clause-answers : goal.returns-in-Text-clause-answers
@@ -21,6 +22,15 @@ pub returns-in-Body-clause-answers : goal.returns-in-Body-clause-answers
 returns-in-Body-clause-answers g c =
     with-first (g.S.Shelf.files c.args.shelf.now) _ (request_in c.args.head.now c.args.ends) (asked_of c.args.target.now) _ _ _ _ _ _ c.answer_data.result c.requires.target
     c.in-Body.ensures.kept c.in-Body.ensures.asked c.in-Body.ensures.files c.answer_data.ensures.answers
+
+pub answer_joined-requires-clause-joined : goal.answer_joined-requires-clause-joined
+answer_joined-requires-clause-joined g c lifetimes outlive =
+    join_moved (g.S.Shelf.files c.args.shelf.now) _ _ _ (asked_of c.args.target.now) c.in-Joined.body c.in-Joined.files c.items_mut.result.now c.in-Joined.ensures.files c.items_mut.ensures.value c.in-Joined.ensures.joined
+
+pub returns-in-Joined-clause-answers : goal.returns-in-Joined-clause-answers
+returns-in-Joined-clause-answers g c =
+    with-first (g.S.Shelf.files c.args.shelf.now) _ (request_in c.args.head.now c.args.ends) (asked_of c.args.target.now) _ _ _ _ _ _ c.answer_joined.result c.requires.target
+    c.in-Joined.ensures.kept c.in-Joined.ensures.asked c.in-Joined.ensures.files c.answer_joined.ensures.answers
 
 pub returns-in-Saved-clause-answers : goal.returns-in-Saved-clause-answers
 returns-in-Saved-clause-answers g c =

@@ -13,6 +13,8 @@ invariant-fronts g l =
       asked : shelf.asked l.shelf ≤ shelf.asked l.fn.shelf + length l.held.items;
       stays : shelf.faults l.shelf ≡ shelf.faults l.fn.shelf;
       files : shelf.files l.shelf ≡ shelf.files l.fn.shelf;
+      contents : shelf.content l.shelf ≡ shelf.content l.fn.shelf;
+      all_sizes : shelf.size_of l.shelf ≡ shelf.size_of l.fn.shelf;
       content : shelf.content l.shelf l.file ≡ shelf.content l.fn.shelf l.fn.file;
       sizes : shelf.size_of l.shelf l.file ≡ shelf.size_of l.fn.shelf l.fn.file;
     }

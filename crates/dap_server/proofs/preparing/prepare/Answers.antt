@@ -1,12 +1,14 @@
 use Rattle.std.proofs.Common.{subst}
 use Rattle.dap_outside.specs.Files.{IsBytes}
+use Rattle.dap_server.proofs.JoinsMade.{join_accepted}
 use Rattle.dap_server.proofs.Making as making
 use Rattle.dap_server.proofs.OneAnswer.{all_bytes}
 use Rattle.dap_server.proofs.preparing.prepare.Goals as goal
 
 pub returns-clause-only : goal.returns-clause-only
 returns-clause-only g c =
-    making.only _ _ c.answer_of.result (all_bytes _ (subst IsBytes c.bytes.ensures c.are_bytes.ensures)) c.answer_of.ensures.made.text c.answer_of.ensures.made.accepted c.answer_of.ensures.made.sends c.answer_of.ensures.made.refused
+    making.only _ _ c.answer_of.result (all_bytes _ (subst IsBytes c.bytes.ensures c.are_bytes.ensures)) c.answer_of.ensures.made.text c.answer_of.ensures.made.accepted c.answer_of.ensures.made.sends
+    (join_accepted _ _ _ _ c.answer_of.result c.answer_of.ensures.made.joined) c.answer_of.ensures.made.refused
 
 pub returns-clause-text : goal.returns-clause-text
 returns-clause-text g c = c.answer_of.ensures.made.text
@@ -40,6 +42,9 @@ returns-clause-sends g c = c.answer_of.ensures.made.sends
 
 pub returns-clause-of_saved : goal.returns-clause-of_saved
 returns-clause-of_saved g c = c.answer_of.ensures.made.of_saved
+
+pub returns-clause-joined : goal.returns-clause-joined
+returns-clause-joined g c = c.answer_of.ensures.made.joined
 
 pub returns-clause-refused : goal.returns-clause-refused
 returns-clause-refused g c = c.answer_of.ensures.made.refused

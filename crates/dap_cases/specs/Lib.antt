@@ -1,0 +1,7 @@
+pub mod Cases
+pub mod Files
+pub mod Prefixed
+pub mod Reports
+pub mod Runs
+pub mod Verdicts
+pub mod inner

@@ -1,0 +1,17 @@
+use Rattle.std.proofs.Common.{sym, ◌∙◌}
+use Rattle.dap_server.proofs.JoinsMade.{with_form}
+use Rattle.dap_server.proofs.ListForms.{list_form, no_list_form, not_formless}
+use Rattle.dap_server.specs.Files.{form_of}
+use Rattle.dap_server.proofs.by_form.dds_by_form.Goals as goal
+
+pub joined_dds-requires : goal.joined_dds-requires
+joined_dds-requires g c = record { form = list_form (form_of c.args.name.now) (sym c.is_list.ensures ∙ c.if-is_list.true) }
+
+pub dds_answer-requires : goal.dds_answer-requires
+dds_answer-requires g c = record { no_list = no_list_form (form_of c.args.name.now) (sym c.is_list.ensures ∙ c.if-is_list.false) }
+
+pub returns-then-is_list-clause-why : goal.returns-then-is_list-clause-why
+returns-then-is_list-clause-why g c = with_form (form_of c.args.name.now) _ c.joined_dds.result (list_form (form_of c.args.name.now) (sym c.is_list.ensures ∙ c.if-is_list.true)) c.joined_dds.ensures.why
+
+pub returns-then-is_list-clause-untouched : goal.returns-then-is_list-clause-untouched
+returns-then-is_list-clause-untouched g c = λ none. not_formless (form_of c.args.name.now) (list_form (form_of c.args.name.now) (sym c.is_list.ensures ∙ c.if-is_list.true)) none

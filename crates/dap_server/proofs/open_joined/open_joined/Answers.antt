@@ -1,0 +1,93 @@
+use Rattle.std.proofs.Common.{◌∙◌, ◌≤◌, ap, Err, arith, length, rules, subst, sym}
+use Rattle.dap_server.proofs.ListNames.{AreNames}
+use Rattle.dap_server.proofs.OpeningLists as opening
+use Rattle.dap_server.specs.Joins.{Members}
+use Rattle.dap_server.specs.inner.Joining.{MayOpen}
+use Rattle.dap_server.specs.inner.Members.{most_in_lines}
+use Rattle.dap_server.specs.inner.Opening.{WhereRefused}
+use Rattle.dap_server.proofs.open_joined.open_joined.Goals as goal
+
+pub open_members-requires-clause-names : goal.open_members-requires-clause-names
+open_members-requires-clause-names g c = subst AreNames (sym c.items.ensures) (opening.list_names _ c.in_ok-names.names c.in_ok-names.ensures.names).are_names
+
+pub open_members-requires-clause-few : goal.open_members-requires-clause-few
+open_members-requires-clause-few g c = subst (λ ns. length ns ≤ 64) (sym c.items.ensures) (opening.list_names _ c.in_ok-names.names c.in_ok-names.ensures.names).few
+
+pub joined_of-requires-clause-some : goal.joined_of-requires-clause-some
+joined_of-requires-clause-some g c =
+    (opening.some_headers _ _ _ c.in_ok-names.names c.in_ok-members.members.headers c.in_ok-members.members.files (opening.list_names _ c.in_ok-names.names c.in_ok-names.ensures.names)
+    (subst (λ ns. opening.Lines (g.S.Shelf.files c.open_list.new.shelf) (g.S.Shelf.content c.open_members.new.shelf) (g.S.Shelf.size_of c.open_members.new.shelf) ns c.in_ok-members.members.headers c.in_ok-members.members.files) c.items.ensures c.in_ok-members.ensures.members)).0
+
+pub joined_of-requires-clause-many : goal.joined_of-requires-clause-many
+joined_of-requires-clause-many g c =
+    (opening.some_headers _ _ _ c.in_ok-names.names c.in_ok-members.members.headers c.in_ok-members.members.files (opening.list_names _ c.in_ok-names.names c.in_ok-names.ensures.names)
+    (subst (λ ns. opening.Lines (g.S.Shelf.files c.open_list.new.shelf) (g.S.Shelf.content c.open_members.new.shelf) (g.S.Shelf.size_of c.open_members.new.shelf) ns c.in_ok-members.members.headers c.in_ok-members.members.files) c.items.ensures c.in_ok-members.ensures.members)).1
+
+pub returns-in_err-list-clause-refused : goal.returns-in_err-list-clause-refused
+returns-in_err-list-clause-refused g c =
+    let stop : WhereRefused (λ cause. MayOpen (g.S.Shelf.files c.args.shelf.now) c.args.name.now (Err cause)) c.in_err-list.field-0.0 =
+    opening.missing_list _ c.args.name.now c.in_err-list.field-0.0 c.requires.form c.in_err-list.ensures.refused in
+    search (rules, stop)
+
+pub returns-in_err-names-clause-refused : goal.returns-in_err-names-clause-refused
+returns-in_err-names-clause-refused g c =
+    let stop : WhereRefused (λ cause. MayOpen (g.S.Shelf.files c.args.shelf.now) c.args.name.now (Err cause)) c.in_err-names.field-0.0 =
+    opening.not_listed (g.S.Shelf.files c.args.shelf.now) (g.S.Shelf.name_of c.find.new.shelf) (g.S.Shelf.content c.find.new.shelf) c.args.name.now c.in_ok-list.list c.in_err-names.field-0.0 c.requires.form c.in_ok-list.ensures.found
+    c.in_err-names.ensures.refused in
+    search (rules, stop)
+
+pub returns-in_err-members-clause-refused : goal.returns-in_err-members-clause-refused
+returns-in_err-members-clause-refused g c =
+    let stop : WhereRefused (λ cause. MayOpen (g.S.Shelf.files c.args.shelf.now) c.args.name.now (Err cause)) c.in_err-members.field-0.0 =
+    opening.bad_line (g.S.Shelf.files c.args.shelf.now) (g.S.Shelf.files c.open_list.new.shelf) (g.S.Shelf.name_of c.find.new.shelf) (g.S.Shelf.content c.find.new.shelf) c.args.name.now c.in_ok-list.list c.in_ok-names.names c.in_err-members.field-0.0
+    c.requires.form c.in_ok-list.ensures.found c.in_ok-names.ensures.names (c.in_ok-names.ensures.files ∙ c.in_ok-list.ensures.files)
+    (subst (λ ns. WhereRefused (λ cause. Members (g.S.Shelf.files c.open_list.new.shelf) 1 ns (Err cause)) c.in_err-members.field-0.0) c.items.ensures c.in_err-members.ensures.refused) in
+    search (rules, stop)
+
+pub returns-in_err-joined-clause-refused : goal.returns-in_err-joined-clause-refused
+returns-in_err-joined-clause-refused g c =
+    let stop : WhereRefused (λ cause. MayOpen (g.S.Shelf.files c.args.shelf.now) c.args.name.now (Err cause)) c.in_err-joined.field-0.0 =
+    opening.not_joined (g.S.Shelf.files c.args.shelf.now) (g.S.Shelf.files c.open_list.new.shelf) (g.S.Shelf.name_of c.find.new.shelf) (g.S.Shelf.content c.find.new.shelf) (g.S.Shelf.content c.open_members.new.shelf)
+    (g.S.Shelf.size_of c.open_members.new.shelf) c.args.name.now c.in_ok-list.list c.in_ok-names.names c.in_ok-members.members.headers c.in_ok-members.members.files c.in_err-joined.field-0.0
+    c.requires.form c.in_ok-list.ensures.found c.in_ok-names.ensures.names (c.in_ok-names.ensures.files ∙ c.in_ok-list.ensures.files)
+    (subst (λ ns. opening.Lines (g.S.Shelf.files c.open_list.new.shelf) (g.S.Shelf.content c.open_members.new.shelf) (g.S.Shelf.size_of c.open_members.new.shelf) ns c.in_ok-members.members.headers c.in_ok-members.members.files) c.items.ensures c.in_ok-members.ensures.members)
+    c.in_err-joined.ensures.refused in
+    search (rules, stop)
+
+pub returns-clause-opened : goal.returns-clause-opened
+returns-clause-opened g c =
+    opening.opened (g.S.Shelf.files c.args.shelf.now) (g.S.Shelf.files c.open_list.new.shelf) (g.S.Shelf.name_of c.find.new.shelf) (g.S.Shelf.content c.find.new.shelf) (g.S.Shelf.content c.open_members.new.shelf)
+    (g.S.Shelf.size_of c.open_members.new.shelf) c.args.name.now c.in_ok-list.list c.in_ok-names.names c.in_ok-members.members.headers c.in_ok-members.members.files c.in_ok-joined.joined
+    c.in_ok-list.ensures.found c.in_ok-names.ensures.names (c.in_ok-names.ensures.files ∙ c.in_ok-list.ensures.files)
+    (subst (λ ns. opening.Lines (g.S.Shelf.files c.open_list.new.shelf) (g.S.Shelf.content c.open_members.new.shelf) (g.S.Shelf.size_of c.open_members.new.shelf) ns c.in_ok-members.members.headers c.in_ok-members.members.files) c.items.ensures c.in_ok-members.ensures.members)
+    c.in_ok-joined.ensures.headers c.in_ok-joined.ensures.name c.in_ok-joined.ensures.can_join
+
+pub returns-in_err-names-clause-asked : goal.returns-in_err-names-clause-asked
+returns-in_err-names-clause-asked g c =
+    let first = opening.list_first (g.S.Shelf.files c.args.shelf.now) (g.S.Shelf.name_of c.find.new.shelf) (g.S.Shelf.content c.find.new.shelf) c.args.name.now c.in_ok-list.list (g.S.Shelf.size_of c.find.new.shelf c.in_ok-list.list)
+    c.requires.form c.in_ok-list.ensures.found c.in_err-names.ensures.told in
+    omega (arith, first, c.in_err-names.ensures.asked, c.in_ok-list.ensures.asked)
+
+pub returns-in_err-members-clause-asked : goal.returns-in_err-members-clause-asked
+returns-in_err-members-clause-asked g c =
+    let first = opening.lines_first (g.S.Shelf.files c.args.shelf.now) (g.S.Shelf.files c.open_list.new.shelf) (g.S.Shelf.name_of c.find.new.shelf) (g.S.Shelf.content c.find.new.shelf) c.args.name.now c.in_ok-list.list
+    (g.S.Shelf.size_of c.find.new.shelf c.in_ok-list.list) c.in_ok-names.names c.requires.form c.in_ok-list.ensures.found c.in_ok-names.ensures.told c.in_ok-names.ensures.names (c.in_ok-names.ensures.files ∙ c.in_ok-list.ensures.files) in
+    let lines = ap (most_in_lines (g.S.Shelf.files c.open_list.new.shelf)) c.items.ensures in
+    omega (arith, first, lines, c.in_err-members.ensures.asked, c.in_ok-names.ensures.asked, c.in_ok-list.ensures.asked)
+
+pub returns-in_err-joined-clause-asked : goal.returns-in_err-joined-clause-asked
+returns-in_err-joined-clause-asked g c =
+    let first = opening.lines_first (g.S.Shelf.files c.args.shelf.now) (g.S.Shelf.files c.open_list.new.shelf) (g.S.Shelf.name_of c.find.new.shelf) (g.S.Shelf.content c.find.new.shelf) c.args.name.now c.in_ok-list.list
+    (g.S.Shelf.size_of c.find.new.shelf c.in_ok-list.list) c.in_ok-names.names c.requires.form c.in_ok-list.ensures.found c.in_ok-names.ensures.told c.in_ok-names.ensures.names (c.in_ok-names.ensures.files ∙ c.in_ok-list.ensures.files) in
+    let lines = ap (most_in_lines (g.S.Shelf.files c.open_list.new.shelf)) c.items.ensures in
+    omega (arith, first, lines, c.in_ok-members.ensures.asked, c.in_ok-names.ensures.asked, c.in_ok-list.ensures.asked)
+
+pub returns-clause-asked : goal.returns-clause-asked
+returns-clause-asked g c =
+    let first = opening.lines_first (g.S.Shelf.files c.args.shelf.now) (g.S.Shelf.files c.open_list.new.shelf) (g.S.Shelf.name_of c.find.new.shelf) (g.S.Shelf.content c.find.new.shelf) c.args.name.now c.in_ok-list.list
+    (g.S.Shelf.size_of c.find.new.shelf c.in_ok-list.list) c.in_ok-names.names c.requires.form c.in_ok-list.ensures.found c.in_ok-names.ensures.told c.in_ok-names.ensures.names (c.in_ok-names.ensures.files ∙ c.in_ok-list.ensures.files) in
+    let lines = ap (most_in_lines (g.S.Shelf.files c.open_list.new.shelf)) c.items.ensures in
+    omega (arith, first, lines, c.in_ok-members.ensures.asked, c.in_ok-names.ensures.asked, c.in_ok-list.ensures.asked)
+
+pub returns-in_err-list-clause-asked : goal.returns-in_err-list-clause-asked
+returns-in_err-list-clause-asked g c = omega (arith, c.in_err-list.ensures.asked)

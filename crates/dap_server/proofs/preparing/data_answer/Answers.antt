@@ -1,0 +1,32 @@
+use Rattle.std.proofs.Common.{sym, ◌∙◌}
+use Rattle.dap_server.proofs.JoinsMade.{join_made, join_stays, with_form}
+use Rattle.dap_server.proofs.ListForms.{list_form, no_list_form, not_formless}
+use Rattle.dap_server.proofs.Making as making
+use Rattle.dap_server.specs.Files.{form_of}
+use Rattle.dap_server.proofs.preparing.data_answer.Goals as goal
+
+pub joined_dods-requires : goal.joined_dods-requires
+joined_dods-requires g c = record { form = list_form (form_of c.args.name.now) (sym c.is_list.ensures ∙ c.if-is_list.true) }
+
+pub dods_answer-requires-clause-no_list : goal.dods_answer-requires-clause-no_list
+dods_answer-requires-clause-no_list g c lifetimes outlive = no_list_form (form_of c.args.name.now) (sym c.is_list.ensures ∙ c.if-is_list.false)
+
+pub returns-then-is_list-clause-made : goal.returns-then-is_list-clause-made
+returns-then-is_list-clause-made g c =
+    join_made (g.S.Shelf.files c.args.shelf.now) _ _ c.args.name.now c.args.query.now _ c.joined_dods.result c.join_prepared.result c.join_prepared.ensures c.joined_dods.ensures.body c.joined_dods.ensures.refused
+    (with_form (form_of c.args.name.now) _ c.joined_dods.result (list_form (form_of c.args.name.now) (sym c.is_list.ensures ∙ c.if-is_list.true)) c.joined_dods.ensures.why)
+
+pub returns-then-is_list-clause-kept : goal.returns-then-is_list-clause-kept
+returns-then-is_list-clause-kept g c = join_stays c.joined_dods.result c.join_prepared.result _ _ c.join_prepared.ensures c.joined_dods.ensures.stays
+
+pub returns-then-is_list-clause-untouched : goal.returns-then-is_list-clause-untouched
+returns-then-is_list-clause-untouched g c = λ none. not_formless (form_of c.args.name.now) (list_form (form_of c.args.name.now) (sym c.is_list.ensures ∙ c.if-is_list.true)) none
+
+pub returns-clause-made : goal.returns-clause-made
+returns-clause-made g c =
+    making.body_made (g.S.Shelf.files c.args.shelf.now) _ _ c.args.name.now c.args.query.now _ c.dods_answer.result c.body_prepared.result c.body_prepared.ensures
+    c.dods_answer.ensures.body c.dods_answer.ensures.sends c.dods_answer.ensures.of_saved c.dods_answer.ensures.accepted c.dods_answer.ensures.form c.dods_answer.ensures.tells c.dods_answer.ensures.alone c.dods_answer.ensures.fits
+    c.dods_answer.ensures.cost c.dods_answer.ensures.cost_at c.dods_answer.ensures.refused c.dods_answer.ensures.why
+
+pub returns-clause-kept : goal.returns-clause-kept
+returns-clause-kept g c = making.body_stays c.dods_answer.result c.body_prepared.result _ _ c.body_prepared.ensures c.dods_answer.ensures.stays

@@ -1,0 +1,70 @@
+//! Texts by the form of the file of a name: a list of files, or another file.
+
+ghost use Rattle.std.specs.Prelude.{◌≡◌, ◌≢◌, ◌+◌, ◌≤◌, ℕ, List, IfOk, IfErr, IsTrue, Ok, Err, None, Some, is_some};
+ghost use Rattle.dap_outside.specs.Causes.{Rose};
+ghost use Rattle.dap_server.specs.Costs.{most_first};
+ghost use Rattle.dap_server.specs.Files.{form_of, is_joined};
+ghost use Rattle.dap_server.specs.Results.{text_of};
+ghost use Rattle.dap_server.specs.inner.Opening.{StaysBut, WhereFault, WhereRefused};
+ghost use Rattle.dap_server.specs.inner.Preparing.{MayGiveAs};
+
+use crate::joined_kinds::{joined_das, joined_dds};
+use crate::kinds::{das_answer, dds_answer};
+use crate::open::{FileForm, form_of};
+use crate::stop::Stop;
+use dap_http::Kind;
+use dap_outside::Shelf;
+use dap_types::Bytes;
+use std::alloc::Global;
+
+/// Whether a name is that of a list of files.
+pub fn is_list(name: &str) -> bool
+    ensures { result ≡ is_joined (form_of name.now) }
+{
+    match form_of(name) {
+        Some(FileForm::Joined) => true,
+        Some(FileForm::Netcdf) => false,
+        Some(FileForm::Table) => false,
+        Some(FileForm::Saved) => false,
+        None => false,
+    }
+}
+
+/// The DAS of the file of a name.
+pub fn das_by_form<S: Shelf>(alloc: Global, shelf: &mut S, name: &str) -> Result<Bytes, Stop>
+    ensures text { IfOk result (λ text. (query : List ℕ) → MayGiveAs (S.files shelf.old) Kind.Das name.now query (Ok (text_of Kind.Das text))) }
+    ensures refused { IfErr result (WhereRefused (λ why. (query : List ℕ) → MayGiveAs (S.files shelf.old) Kind.Das name.now query (Err why))) }
+    ensures why { IfErr result (WhereFault (IsTrue (is_some (form_of name.now)) × Rose (S.faults shelf.old) (S.faults shelf.new))) }
+    ensures later { S.faults shelf.old ≤ S.faults shelf.new }
+    ensures stays { StaysBut result (S.faults shelf.old) (S.faults shelf.new) }
+    ensures files { S.files shelf.new ≡ S.files shelf.old }
+    ensures asked { S.asked shelf.new ≤ S.asked shelf.old + most_first (S.files shelf.old) name.now }
+    ensures untouched { form_of name.now ≡ None → shelf.new ≡ shelf.old }
+{
+    if is_list(name) {
+        return joined_das(alloc, shelf, name);
+    }
+    das_answer(alloc, shelf, name)
+}
+
+/// The DDS of what a query leaves of the file of a name.
+pub fn dds_by_form<S: Shelf>(
+    alloc: Global,
+    shelf: &mut S,
+    name: &str,
+    query: &[u8],
+) -> Result<Bytes, Stop>
+    ensures text { IfOk result (λ text. MayGiveAs (S.files shelf.old) Kind.Dds name.now query.now (Ok (text_of Kind.Dds text))) }
+    ensures refused { IfErr result (WhereRefused (λ why. MayGiveAs (S.files shelf.old) Kind.Dds name.now query.now (Err why))) }
+    ensures why { IfErr result (WhereFault (IsTrue (is_some (form_of name.now)) × Rose (S.faults shelf.old) (S.faults shelf.new))) }
+    ensures later { S.faults shelf.old ≤ S.faults shelf.new }
+    ensures stays { StaysBut result (S.faults shelf.old) (S.faults shelf.new) }
+    ensures files { S.files shelf.new ≡ S.files shelf.old }
+    ensures asked { S.asked shelf.new ≤ S.asked shelf.old + most_first (S.files shelf.old) name.now }
+    ensures untouched { form_of name.now ≡ None → shelf.new ≡ shelf.old }
+{
+    if is_list(name) {
+        return joined_dds(alloc, shelf, name, query);
+    }
+    dds_answer(alloc, shelf, name, query)
+}
