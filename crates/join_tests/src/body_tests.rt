@@ -1,16 +1,8 @@
 //! Small files, joined, and the body that a client expects of them.
 
-use crate::testing::{body_of, expect_body, file_of, joined};
+use crate::testing::{body_of, expect_body, file_of, joined, r};
 use join_source::JoinRefusal;
 use std::test::Fail;
-
-/// Int16 `s[t]`, the one record variable, of so many records.
-const fn r(records: u32) -> [u32; 20] {
-    [
-        0x43444601, records, 0x0a, 1, 1, 0x74000000, 0, 0, 0, 0x0b, 1, 1, 0x73000000, 1, 0, 0, 0,
-        3, 4, 0x50,
-    ]
-}
 
 /// Int32 `v[y = 3][x = 4]`, the numbers from 0 on.
 const V: [u32; 36] = [
@@ -202,19 +194,4 @@ fn too_many_records(rt: HostRuntime) -> Result<(), Fail> {
         Err(JoinRefusal::TooManyRecords) => Ok(()),
         _ => panic!(&rt; "joined"),
     }
-}
-
-fn crosses<T: Send + Sync>(_: &T) {}
-
-#[test]
-fn workers_may_have_them(rt: HostRuntime) -> Result<(), Fail> {
-    let alloc = rt.alloc();
-    let some = file_of(alloc, &r(1), b"\x00\x01")?;
-    let Ok(one) = joined(&rt, alloc, &[some.as_slice()])? else {
-        panic!(&rt; "not joined");
-    };
-    crosses(&one);
-    let body = body_of(&rt, alloc, &[some.as_slice()], b"")?;
-    crosses(&body);
-    Ok(())
 }

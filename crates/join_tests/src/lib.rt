@@ -7,3 +7,5 @@ mod body_tests;
 mod list_tests;
 #[cfg(test)]
 mod testing;
+#[cfg(test)]
+mod worker_tests;

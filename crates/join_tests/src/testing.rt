@@ -11,12 +11,20 @@ use dap_types::{Bytes, Index, List, Memory, Name};
 use grid_projection::resolve;
 use join_source::{JoinBody, JoinRefusal, Joined, join};
 use netcdf_source::{Header, read_header};
-use slab_fill::NoGate;
+use slab_fill::{Gate, NoGate};
 use std::alloc::Global;
 use std::process::Abort;
 use std::test::Fail;
 use std::thread::Threads;
 use xdr_encode::Streamed;
+
+/// The header of Int16 `s[t]`, the one record variable, of so many records.
+pub const fn r(records: u32) -> [u32; 20] {
+    [
+        0x43444601, records, 0x0a, 1, 1, 0x74000000, 0, 0, 0, 0x0b, 1, 1, 0x73000000, 1, 0, 0, 0,
+        3, 4, 0x50,
+    ]
+}
 
 /// The bytes of some words, and of what stands behind them.
 pub fn file_of(alloc: Global, words: &[u32], behind: &[u8]) -> Result<Vec<u8>, Memory> {
@@ -133,13 +141,14 @@ fn expect_sizes<R: Abort>(rt: &R, shelf: &SureShelf, found: &[usize], files: &[&
 }
 
 /// What a sink gets that takes so many bytes a call.
-fn put_of<R: Threads + Abort + Sync>(
+pub fn put_of<R: Threads + Abort + Sync, G: Gate>(
     rt: &R,
     alloc: Global,
     files: &[&[u8]],
     body: &mut JoinBody,
     piece: u32,
     workers: u32,
+    gate: &G,
 ) -> Result<MemSink, Fail>
     requires fits { FitsFiles body.old (map (λ f. length f.now) files.now) }
     requires piece { 0 < piece }
@@ -151,7 +160,7 @@ fn put_of<R: Threads + Abort + Sync>(
     let found = found.as_mut_slice();
     expect_sizes(rt, &shelf, found, files);
     let mut out = MemSink::new(alloc, 4000000, piece, List::new(alloc))?;
-    let sent = body.stream(rt, &mut shelf, found, &mut out, workers, &NoGate);
+    let sent = body.stream(rt, &mut shelf, found, &mut out, workers, gate);
     assert!(rt; sent == Streamed::Sent);
     Ok(out)
 }
@@ -172,7 +181,7 @@ fn expect_put<R: Threads + Abort + Sync>(
     requires many { workers ≤ 64 }
 {
     let mut body = body_of(rt, alloc, files, query)?;
-    let put = put_of(rt, alloc, files, &mut body, piece, workers)?;
+    let put = put_of(rt, alloc, files, &mut body, piece, workers, &NoGate)?;
     let bytes = put.bytes();
     let head = dds.len() + 6;
     assert!(rt; body.dds() == dds);

@@ -1,0 +1,130 @@
+//! Workers of a body of joined files: as many come as are asked for, each once for each file, and two of
+//! them at once.
+
+use crate::testing::{body_of, file_of, joined, put_of, r};
+use slab_fill::Gate;
+use std::alloc::Global;
+use std::process::Abort;
+use std::sync::atomic::{AtomicBool, AtomicU64, Ordering};
+use std::test::Fail;
+use std::thread::Threads;
+
+/// The body of two files of 14 records each goes out, by so many workers.
+fn expect_sent<R: Threads + Abort + Sync, G: Gate>(
+    rt: &R,
+    alloc: Global,
+    workers: u32,
+    gate: &G,
+) -> Result<(), Fail>
+    requires some { 1 ≤ workers }
+    requires many { workers ≤ 64 }
+{
+    let file = file_of(alloc, &r(14), &[7; 28])?;
+    let files = [file.as_slice(), file.as_slice()];
+    let mut body = body_of(rt, alloc, &files, b"")?;
+    let out = put_of(rt, alloc, &files, &mut body, 65536, workers, gate)?;
+    let head = body.dds().len() + 6;
+    assert!(rt; out.bytes().len() >= head && out.bytes().len() - head == 120);
+    Ok(())
+}
+
+/// Which workers came, a bit for each number, and how often one came.
+#[derive(Drop)]
+struct Roll {
+    seen: AtomicU64,
+    count: AtomicU64,
+}
+
+impl Gate for Roll {
+    fn enter(&self, worker: u32) {
+        if worker < 64 {
+            self.seen.fetch_or(1 << worker, Ordering::SeqCst);
+        }
+        self.count.fetch_add(1, Ordering::SeqCst);
+    }
+}
+
+/// So many workers are asked for, and these come, once for each of the two files.
+fn expect_workers<R: Threads + Abort + Sync>(
+    rt: &R,
+    alloc: Global,
+    workers: u32,
+    numbers: u64,
+) -> Result<(), Fail>
+    requires some { 1 ≤ workers }
+    requires many { workers ≤ 64 }
+{
+    let roll = Roll {
+        seen: AtomicU64::new(0),
+        count: AtomicU64::new(0),
+    };
+    expect_sent(rt, alloc, workers, &roll)?;
+    assert_eq!(rt; roll.seen.load(Ordering::SeqCst), numbers);
+    assert_eq!(rt; roll.count.load(Ordering::SeqCst), 2 * u64::from(workers));
+    Ok(())
+}
+
+#[test]
+fn each_worker_comes_for_each_file(rt: HostRuntime) -> Result<(), Fail> {
+    let alloc = rt.alloc();
+    expect_workers(&rt, alloc, 1, 0b1)?;
+    expect_workers(&rt, alloc, 2, 0b11)?;
+    expect_workers(&rt, alloc, 7, 0b1111111)?;
+    expect_workers(&rt, alloc, 14, 0b11111111111111)
+}
+
+/// Two workers who each look for the other.
+#[derive(Drop)]
+struct Meeting {
+    arrived: [AtomicBool; 2],
+    met: [AtomicBool; 2],
+}
+
+/// How often a worker looks.
+const TURNS: u32 = 100_000_000;
+
+impl Gate for Meeting {
+    fn enter(&self, worker: u32) {
+        let mine = if worker == 0 { 0 } else { 1 };
+        self.arrived[mine].store(true, Ordering::SeqCst);
+        for _ in 0..TURNS {
+            if self.arrived[1 - mine].load(Ordering::SeqCst) {
+                self.met[mine].store(true, Ordering::SeqCst);
+                return;
+            }
+        }
+    }
+}
+
+/// The machine has to give the process a second thread.
+#[test]
+fn two_workers_meet(rt: HostRuntime) -> Result<(), Fail> {
+    let mut met = false;
+    for _ in 0..8 {
+        if !met {
+            let gate = Meeting {
+                arrived: [AtomicBool::new(false), AtomicBool::new(false)],
+                met: [AtomicBool::new(false), AtomicBool::new(false)],
+            };
+            expect_sent(&rt, rt.alloc(), 2, &gate)?;
+            met = gate.met[0].load(Ordering::SeqCst) && gate.met[1].load(Ordering::SeqCst);
+        }
+    }
+    assert!(rt; met, "two workers met");
+    Ok(())
+}
+
+fn crosses<T: Send + Sync>(_: &T) {}
+
+#[test]
+fn workers_may_have_them(rt: HostRuntime) -> Result<(), Fail> {
+    let alloc = rt.alloc();
+    let some = file_of(alloc, &r(1), b"\x00\x01")?;
+    let Ok(one) = joined(&rt, alloc, &[some.as_slice()])? else {
+        panic!(&rt; "not joined");
+    };
+    crosses(&one);
+    let body = body_of(&rt, alloc, &[some.as_slice()], b"")?;
+    crosses(&body);
+    Ok(())
+}
