@@ -20,8 +20,8 @@ use Rattle.dap_server.specs.Files.{form_of, saved}
 use Rattle.dap_server.specs.Prepared.{MayGive}
 use Rattle.dap_server.specs.Replies.{Request, is_head, reply_of}
 use Rattle.dap_server.specs.Results.{text_of}
-use Rattle.dap_server.specs.declared.turn.Answered.{Answered}
-use Rattle.dap_server.specs.declared.turn.Answered.TheVariants as answered
+use Rattle.dap_server.specs.declared.reply_outcome.Answered.{Answered}
+use Rattle.dap_server.specs.declared.reply_outcome.Answered.TheVariants as answered
 use Rattle.dap_server.specs.inner.Serving.{Answers, AnswersWith, Costs, PutsCause, PutsFramed, PutsReply, PutsText, PutsValues, SaysWhole, ShelfRose, SinkRose, Stand, answered_by, broken, data_front, is_open}
 use Rattle.dap_server.proofs.Failing.{calm, failed-once, failed-open}
 use Rattle.dap_server.proofs.Puts.{part-behind, part-longer, part-of}

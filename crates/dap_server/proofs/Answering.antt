@@ -21,8 +21,8 @@ use Rattle.dap_server.specs.Steps.{unless}
 use Rattle.dap_server.specs.inner.Marking.{IsRefusedOn}
 use Rattle.dap_server.specs.inner.Opening.{WhereRefused, dataset_in, stored_of}
 use Rattle.dap_server.specs.declared.open.Opened.{Opened}
-use Rattle.dap_server.specs.declared.stop.Stop.{Stop}
-use Rattle.dap_server.specs.declared.stop.Stop.TheVariants.{Refused, ShelfFault, Memory}
+use Rattle.dap_server.specs.declared.no_answer.Stop.{Stop}
+use Rattle.dap_server.specs.declared.no_answer.Stop.TheVariants.{Refused, ShelfFault, Memory}
 
 -- what a constraint without a cause leaves
 leaves_marked : (s : Stored) (query : List ℕ) (d : Dataset) (c : Constraint) → d ≡ s.dataset → Spells query c → cause d c ≡ None → Leaves s query (Ok (left_of s c))

@@ -15,9 +15,9 @@ use Rattle.dap_server.specs.Files.{Files}
 use Rattle.dap_server.specs.Replies.{Turn, replies, reply_of, request}
 use Rattle.dap_server.specs.Whole.{AnswersAll}
 use Rattle.dap_server.specs.declared.served.Served.{Served}
-use Rattle.dap_server.specs.declared.turn.Answered.{Answered}
-use Rattle.dap_server.specs.declared.turn.Answered.TheVariants as answered
-use Rattle.dap_server.specs.declared.turn.Next.{Next}
+use Rattle.dap_server.specs.declared.reply_outcome.Answered.{Answered}
+use Rattle.dap_server.specs.declared.reply_outcome.Answered.TheVariants as answered
+use Rattle.dap_server.specs.declared.reply_outcome.Next.{Next}
 use Rattle.dap_server.specs.inner.Serving.{Answers, GoesOn, GoesOnFew, PutsLast, PutsRefusal, RoseNext, ServesFrom, SinkRose, Stand, next_of, request_in}
 use Rattle.dap_server.proofs.Ends.{refused}
 use Rattle.dap_server.proofs.Requesting.{last-put, no-memory, stand}

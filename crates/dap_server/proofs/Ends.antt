@@ -14,8 +14,8 @@ use Rattle.dap_server.specs.Replies.{Request, Turn, is_last, last_reply, request
 use Rattle.dap_server.specs.declared.served.Ending.{Ending}
 use Rattle.dap_server.specs.declared.served.Ending.TheVariants.{Closed, WriteFault, Broken}
 use Rattle.dap_server.specs.declared.served.Served.{Served}
-use Rattle.dap_server.specs.declared.turn.Answered.{Answered}
-use Rattle.dap_server.specs.declared.turn.Answered.TheVariants as answered
+use Rattle.dap_server.specs.declared.reply_outcome.Answered.{Answered}
+use Rattle.dap_server.specs.declared.reply_outcome.Answered.TheVariants as answered
 use Rattle.dap_server.specs.inner.Serving.{Answers, PutsLast, PutsRefusal, Serves, ServesFrom, Stand, next_of, request_in}
 use Rattle.dap_server.proofs.Choices.{where_true}
 use Rattle.dap_server.proofs.Failing.{calm, failed-as, failed-said}

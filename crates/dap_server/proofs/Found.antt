@@ -12,8 +12,8 @@ use Rattle.dap_server.specs.Headers.{IsHeaderCause, front}
 use Rattle.dap_server.specs.Joins.{IsMember, Member}
 use Rattle.dap_server.specs.inner.Members.{IsFileOf, IsHeaderOf, bad_member, most_in_line}
 use Rattle.dap_server.specs.inner.Opening.{IsRead, WhereRefused}
-use Rattle.dap_server.specs.declared.stop.Stop.{Stop}
-use Rattle.dap_server.specs.declared.stop.Stop.TheVariants.{Refused, ShelfFault, Memory}
+use Rattle.dap_server.specs.declared.no_answer.Stop.{Stop}
+use Rattle.dap_server.specs.declared.no_answer.Stop.TheVariants.{Refused, ShelfFault, Memory}
 
 -- no file of that name
 pub missing : {F : Type 0} (told : Told) (name_of content : F → Option (List ℕ)) (name : List ℕ) (line : ℕ) → Finds told name_of content name None → IsMember told line name (Err (Damaged (NoMember line)))

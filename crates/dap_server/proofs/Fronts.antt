@@ -9,8 +9,8 @@ use Rattle.netcdf_source.specs.File.{FileHeader}
 use Rattle.dap_errors.specs.declared.cause.Cause.{Cause}
 use Rattle.dap_server.specs.Files.{IsHeaderCause, front}
 use Rattle.dap_server.specs.inner.Opening.{IsRead, WhereRefused}
-use Rattle.dap_server.specs.declared.stop.Stop.{Stop}
-use Rattle.dap_server.specs.declared.stop.Stop.TheVariants.{Refused, ShelfFault, Memory}
+use Rattle.dap_server.specs.declared.no_answer.Stop.{Stop}
+use Rattle.dap_server.specs.declared.no_answer.Stop.TheVariants.{Refused, ShelfFault, Memory}
 
 -- what was read begins the front of these bytes
 pub record Front (content : Option (List ℕ)) (size : ℕ) (v : List ℕ) : Type 0 where

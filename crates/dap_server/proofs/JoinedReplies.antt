@@ -15,7 +15,7 @@ use Rattle.dap_server.specs.Prepared.{MayGive}
 use Rattle.dap_server.specs.Replies.{Request, is_head}
 use Rattle.dap_server.specs.Results.{text_of}
 use Rattle.dap_server.specs.inner.Serving.{AnswersWith, Costs, PutsValues, SaysWhole, ShelfRose, Stand, data_front}
-use Rattle.dap_server.specs.declared.turn.Answered.{Answered}
+use Rattle.dap_server.specs.declared.reply_outcome.Answered.{Answered}
 
 -- the values of a data response, where its files' bytes are known or not
 pub joined-answer : (told : Told) (q : Request) (a : Asked) (front : List ℕ) (AreThese : List (List ℕ) → Type 0) (text_over : List (List ℕ) → List ℕ) (s z : Stand) (result : Answered)

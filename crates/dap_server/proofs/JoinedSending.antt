@@ -15,8 +15,8 @@ use Rattle.dap_server.specs.Files.{Stored}
 use Rattle.dap_server.specs.Results.{DdsAnswers}
 use Rattle.dap_server.specs.inner.Marking.{IsRefusedOn}
 use Rattle.dap_server.specs.inner.Opening.{WhereRefused}
-use Rattle.dap_server.specs.declared.stop.Stop.{Stop}
-use Rattle.dap_server.specs.declared.stop.Stop.TheVariants.{Refused, ShelfFault, Memory}
+use Rattle.dap_server.specs.declared.no_answer.Stop.{Stop}
+use Rattle.dap_server.specs.declared.no_answer.Stop.TheVariants.{Refused, ShelfFault, Memory}
 
 -- what is asked at a fault, in the words of the name and the constraint
 pub asks_as : (cs : List Contents) (name : List ℕ) (constraint : Constraint) (d : Dataset) (m : Marks) (files : List (List ℕ)) (put cost : ℕ) → d ≡ joined_dataset cs name → m ≡ marks d constraint

@@ -26,8 +26,8 @@ use Rattle.dap_server.specs.inner.Joining.{IsJoinOf}
 use Rattle.dap_server.specs.inner.Members.{AreFilesOf, AreHeadersOf}
 use Rattle.dap_server.specs.inner.Opening.{WhereRefused}
 use Rattle.dap_server.specs.inner.Preparing.{asked_as}
-use Rattle.dap_server.specs.declared.stop.Stop.{Stop}
-use Rattle.dap_server.specs.declared.stop.Stop.TheVariants.{Refused, ShelfFault, Memory}
+use Rattle.dap_server.specs.declared.no_answer.Stop.{Stop}
+use Rattle.dap_server.specs.declared.no_answer.Stop.TheVariants.{Refused, ShelfFault, Memory}
 use Rattle.dap_server.proofs.OpeningLists.{list_opens, same_contents}
 
 -- ---- The files of the lines.

@@ -14,8 +14,8 @@ use Rattle.dap_server.specs.inner.Opening.{StaysBut, WhereFault, WhereRefused}
 use Rattle.dap_server.specs.inner.Preparing.{IsMade, MayGiveAs, asked_as, join_prepared}
 use Rattle.dap_server.specs.declared.prepared.Prepared.{Prepared}
 use Rattle.dap_server.specs.declared.prepared.Prepared.TheVariants as prepared
-use Rattle.dap_server.specs.declared.stop.Stop.{Stop}
-use Rattle.dap_server.specs.declared.stop.Stop.TheVariants.{Refused, ShelfFault, Memory}
+use Rattle.dap_server.specs.declared.no_answer.Stop.{Stop}
+use Rattle.dap_server.specs.declared.no_answer.Stop.TheVariants.{Refused, ShelfFault, Memory}
 
 -- the shelf failed where a file was looked for
 pub with_form : {V : Type 0} (o : Option Form) (Fault : Type 0) (r : Result V Stop) → o ≡ Some joined → IfErr r (WhereFault Fault) → IfErr r (WhereFault (IsTrue (is_some o) × Fault))

@@ -8,8 +8,8 @@ use Rattle.dap_errors.specs.declared.file_cause.FileCause.TheVariants as causes
 use Rattle.dap_outside.specs.Files.{HasSize}
 use Rattle.dap_server.specs.Files.{IsSavedCause}
 use Rattle.dap_server.specs.inner.Opening.{IsRead, WhereRefused}
-use Rattle.dap_server.specs.declared.stop.Stop.{Stop}
-use Rattle.dap_server.specs.declared.stop.Stop.TheVariants.{Refused}
+use Rattle.dap_server.specs.declared.no_answer.Stop.{Stop}
+use Rattle.dap_server.specs.declared.no_answer.Stop.TheVariants.{Refused}
 
 in_bytes : (content : Option (List ℕ)) (name bytes : List ℕ) (s : Stop) → 67108864 < length bytes → IsRead content bytes → s ≡ Refused (Damaged causes.SavedTooLong)
     → WhereRefused (λ cause. (bytes : List ℕ) × IsRead content bytes × IsSavedCause name bytes cause) s

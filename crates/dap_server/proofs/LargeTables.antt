@@ -10,8 +10,8 @@ use Rattle.dap_errors.specs.declared.file_cause.FileCause.TheVariants as causes
 use Rattle.dap_outside.specs.Files.{HasSize}
 use Rattle.dap_server.specs.Files.{IsTableCause}
 use Rattle.dap_server.specs.inner.Opening.{IsRead, WhereRefused}
-use Rattle.dap_server.specs.declared.stop.Stop.{Stop}
-use Rattle.dap_server.specs.declared.stop.Stop.TheVariants.{Refused}
+use Rattle.dap_server.specs.declared.no_answer.Stop.{Stop}
+use Rattle.dap_server.specs.declared.no_answer.Stop.TheVariants.{Refused}
 
 too_long : (name bytes : List ℕ) → 67108864 < length bytes → table_of name bytes ≡ Err tables.TooLong
 unfolding table_of

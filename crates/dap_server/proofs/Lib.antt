@@ -25,7 +25,7 @@ pub mod Refusals
 pub mod Requesting
 pub mod Answered
 pub mod Connecting
-pub mod Rooms
+pub mod PutBuffers
 pub mod Through
 pub mod OneStep
 pub mod OneJoin

@@ -15,8 +15,8 @@ use Rattle.dap_server.specs.inner.Joining.{MayOpen}
 use Rattle.dap_server.specs.inner.Opening.{IsMissing, IsRead, Lies, OpenedAs, WhereRefused, stored_of}
 use Rattle.dap_server.specs.declared.open.Opened.{Opened}
 use Rattle.dap_server.specs.declared.open.Opened.TheVariants.{Netcdf, Saved, Table}
-use Rattle.dap_server.specs.declared.stop.Stop.{Stop}
-use Rattle.dap_server.specs.declared.stop.Stop.TheVariants.{Refused, ShelfFault, Memory}
+use Rattle.dap_server.specs.declared.no_answer.Stop.{Stop}
+use Rattle.dap_server.specs.declared.no_answer.Stop.TheVariants.{Refused, ShelfFault, Memory}
 
 pub same_bytes : (content : Option (List ℕ)) (bytes b : List ℕ) → content ≡ Some b → IsRead content bytes → bytes ≡ b
 same_bytes None bytes b is is_read = cc is

@@ -31,8 +31,8 @@ use Rattle.dap_server.specs.declared.data_body.DataBody.TheVariants as bodies
 use Rattle.das_text.specs.Das.{das}
 use Rattle.dap_server.specs.declared.prepared.Prepared.{Prepared}
 use Rattle.dap_server.specs.declared.prepared.Prepared.TheVariants as prepared
-use Rattle.dap_server.specs.declared.stop.Stop.{Stop}
-use Rattle.dap_server.specs.declared.stop.Stop.TheVariants.{Refused, ShelfFault, Memory}
+use Rattle.dap_server.specs.declared.no_answer.Stop.{Stop}
+use Rattle.dap_server.specs.declared.no_answer.Stop.TheVariants.{Refused, ShelfFault, Memory}
 
 -- what follows a file that was opened
 pub follows : (told : Told) (content : Option (List ℕ)) (size : ℕ) (name bytes : List ℕ) (ts : List Tree) (o : Opened) (next : Stored → Result Text Cause → Type 0) (r : Result Text Cause)

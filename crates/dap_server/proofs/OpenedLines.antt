@@ -9,8 +9,8 @@ use Rattle.dap_server.proofs.Lines.{Reached, bad, begin, line_first, line_within
 use Rattle.dap_server.specs.Joins.{IsMember, Member, Members}
 use Rattle.dap_server.specs.inner.Members.{AreFilesOf, AreHeadersOf, IsFileOf, IsHeaderOf, most_in_line, most_in_lines}
 use Rattle.dap_server.specs.inner.Opening.{WhereRefused}
-use Rattle.dap_server.specs.declared.stop.Stop.{Stop}
-use Rattle.dap_server.specs.declared.stop.Stop.TheVariants.{Refused, ShelfFault, Memory}
+use Rattle.dap_server.specs.declared.no_answer.Stop.{Stop}
+use Rattle.dap_server.specs.declared.no_answer.Stop.TheVariants.{Refused, ShelfFault, Memory}
 
 -- these are the headers and the files of the first k lines
 abbrev pub HaveOpened : {F : Type 0} → Told → List (List ℕ) → ℕ → (F → Option (List ℕ)) → (F → ℕ) → List FileHeader → List F → Type 0

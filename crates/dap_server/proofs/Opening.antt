@@ -24,8 +24,8 @@ use Rattle.dap_server.specs.Results.{DodsAnswers, text_of}
 use Rattle.dap_server.specs.inner.Opening.{Has, IsHeldBy, OpenedAs, WhereRefused, stored_of}
 use Rattle.dap_server.specs.declared.open.Opened.TheVariants as opened
 use Rattle.dap_server.specs.declared.saved_file.SavedFile.{SavedFile}
-use Rattle.dap_server.specs.declared.stop.Stop.{Stop}
-use Rattle.dap_server.specs.declared.stop.Stop.TheVariants.{Refused, ShelfFault, Memory}
+use Rattle.dap_server.specs.declared.no_answer.Stop.{Stop}
+use Rattle.dap_server.specs.declared.no_answer.Stop.TheVariants.{Refused, ShelfFault, Memory}
 
 -- of a netCDF file
 pub netcdf_text : (h : FileHeader) (name query : List ℕ) (b : Body)

@@ -28,8 +28,8 @@ use Rattle.dap_server.specs.Steps.{found_or}
 use Rattle.dap_server.specs.inner.Joining.{IsJoinOf, MayOpen, most_of_size}
 use Rattle.dap_server.specs.inner.Members.{AreFilesOf, AreHeadersOf, most_in_lines}
 use Rattle.dap_server.specs.inner.Opening.{IsMissing, IsRead, WhereRefused, stop_of}
-use Rattle.dap_server.specs.declared.stop.Stop.{Stop}
-use Rattle.dap_server.specs.declared.stop.Stop.TheVariants.{Refused, ShelfFault, Memory}
+use Rattle.dap_server.specs.declared.no_answer.Stop.{Stop}
+use Rattle.dap_server.specs.declared.no_answer.Stop.TheVariants.{Refused, ShelfFault, Memory}
 
 abbrev pub list_file : List ℕ → File
 list_file bytes = record { form = joined; bytes = bytes }

@@ -20,8 +20,8 @@ use Rattle.dap_server.specs.Prepared.{IsOver, MayGive}
 use Rattle.dap_server.specs.Replies.{Request, error_head, head_of, is_head, is_last, reply_of, status_of}
 use Rattle.dap_server.specs.Results.{ResultsAmong, Text, error_object, text_of}
 use Rattle.dap_server.specs.Steps.{found_or}
-use Rattle.dap_server.specs.declared.turn.Answered.{Answered}
-use Rattle.dap_server.specs.declared.turn.Answered.TheVariants as answered
+use Rattle.dap_server.specs.declared.reply_outcome.Answered.{Answered}
+use Rattle.dap_server.specs.declared.reply_outcome.Answered.TheVariants as answered
 use Rattle.dap_server.specs.inner.Serving.{AnswersWith, Costs, IsPutOf, PutsKnown, PutsReply, PutsText, PutsValues, SaysWhole, ShelfRose, Stand, broken, data_front, is_open}
 use Rattle.dap_server.proofs.Choices.{where_true, where_false}
 use Rattle.dap_server.proofs.DataText.{data-some}

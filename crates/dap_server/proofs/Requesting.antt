@@ -19,9 +19,9 @@ use Rattle.dap_server.specs.Replies.{Request, last_reply, reply_of, request}
 use Rattle.dap_server.specs.Results.{text_of}
 use Rattle.dap_server.specs.declared.served.Ending.TheVariants.{Gone, ReadFault}
 use Rattle.dap_server.specs.declared.served.Served.{Served}
-use Rattle.dap_server.specs.declared.turn.Answered.{Answered}
-use Rattle.dap_server.specs.declared.turn.Answered.TheVariants as answered
-use Rattle.dap_server.specs.declared.turn.Next.{Next}
+use Rattle.dap_server.specs.declared.reply_outcome.Answered.{Answered}
+use Rattle.dap_server.specs.declared.reply_outcome.Answered.TheVariants as answered
+use Rattle.dap_server.specs.declared.reply_outcome.Next.{Next}
 use Rattle.dap_server.specs.inner.Serving.{Answers, PutsLast, PutsRefusal, Serves, ServesFrom, Stand, next_of, request_in}
 use Rattle.dap_server.proofs.Ends.{answered-head, one-turn, refuses, stopped}
 use Rattle.dap_server.proofs.Failing.{calm}

@@ -21,7 +21,7 @@ use Rattle.dap_server.proofs.Answering.{dods_large, dods_small}
 use Rattle.dap_server.specs.Files.{saved_stored}
 use Rattle.dap_server.specs.Results.{DodsAnswers, text_of}
 use Rattle.dap_server.specs.inner.Opening.{WhereRefused, saved_stop}
-use Rattle.dap_server.specs.declared.stop.Stop.{Stop}
+use Rattle.dap_server.specs.declared.no_answer.Stop.{Stop}
 
 -- the response that it sends is that of what the constraint leaves
 pub saved_text : (e : Dataset) (query : List ℕ) (d : Dataset) (c : Constraint) (m : Marks) (s : Saved) (b : SavedBody) → d ≡ e → Spells query c → cause d c ≡ None → m ≡ marks d c

@@ -34,8 +34,8 @@ use Rattle.dap_server.specs.Files.{Stored, table_stored}
 use Rattle.dap_server.specs.Results.{DodsAnswers, text_of}
 use Rattle.dap_server.specs.inner.Marking.{IsRefusedOn}
 use Rattle.dap_server.specs.inner.Opening.{WhereRefused, body_stop}
-use Rattle.dap_server.specs.declared.stop.Stop.{Stop}
-use Rattle.dap_server.specs.declared.stop.Stop.TheVariants.{Refused, ShelfFault, Memory}
+use Rattle.dap_server.specs.declared.no_answer.Stop.{Stop}
+use Rattle.dap_server.specs.declared.no_answer.Stop.TheVariants.{Refused, ShelfFault, Memory}
 
 -- what is asked at a fault, in the words of the name and the constraint
 pub asks_as : (c : Contents) (name : List ℕ) (constraint : Constraint) (d : Dataset) (m : Marks) (bytes : List ℕ) (put cost : ℕ) → d ≡ dataset_of c name → m ≡ marks d constraint

@@ -1,12 +1,12 @@
--- What a sink has gained of a head and values that are put to it through a room.
+-- What a sink has gained of a head and values that are put to it through a buffer.
 use Rattle.std.proofs.Common.{◌≡◌, ℕ, ◌<◌, Bool, List, [], ◌++◌, length, Option, Some, None, refl, sym, ap, ◌∙◌, subst, arith, length-append}
 use Rattle.std.proofs.lemmas.List.{append_cancel_left}
 use Rattle.std.specs.Io.KnownBytes.{Appends}
 use Rattle.dap_http.specs.Frames.{IsFront, IsProperFront}
 use Rattle.dap_server.proofs.Puts.{front-of-part, none-of, part-behind}
-use Rattle.dap_server.specs.inner.Roomed.{HasFront, HasPart}
+use Rattle.dap_server.specs.inner.Buffering.{HasFront, HasPart}
 use Rattle.dap_server.specs.inner.Serving.{PutsValues}
-use Rattle.dap_server.specs.declared.turn.Answered.TheVariants as answered
+use Rattle.dap_server.specs.declared.reply_outcome.Answered.TheVariants as answered
 
 pub start-kept : {A G : Type 0} (x y : A × G × Option (List ℕ)) → x ≡ y → x.2 ≡ y.2
 start-kept {A} {G} x y e = ap (λ (t : A × G × Option (List ℕ)). t.2) e
@@ -31,7 +31,7 @@ weaker : (start o : Option (List ℕ)) (all : List ℕ) → HasPart start o all 
 weaker None o all has = tt
 weaker (Some s) o all (part, rest, appends, is, some) = (part, rest, appends, is)
 
--- the sink failed at what the room held
+-- the sink failed at what the buffer held
 pub whole-failed : (front text : List ℕ) (ends last : Bool) (status : ℕ) (w w0 r o start : Option (List ℕ)) → 0 < length front → w0 ≡ w → start ≡ w → ((all : List ℕ) → r ≡ Some all → HasPart start o all)
     → PutsValues front text ends w0 r (answered.Whole status last) → PutsValues front text ends w o answered.WriteFault
 whole-failed front text ends last status w w0 r o start some same began has p =

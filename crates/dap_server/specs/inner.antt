@@ -2,6 +2,6 @@ pub mod Opening
 pub mod Marking
 pub mod Preparing
 pub mod Serving
-pub mod Roomed
+pub mod Buffering
 pub mod Members
 pub mod Joining

@@ -26,9 +26,9 @@ ghost use Rattle.dap_server.specs.inner.Preparing.{WhereOfFile, WhereOfSaved};
 
 use crate::data_body::DataBody;
 use crate::marked::marked_by;
+use crate::no_answer::Stop;
 use crate::open::Opened;
 use crate::saved_file::SavedFile;
-use crate::stop::Stop;
 use constraint_parse::Constraint;
 use csv_source::Table;
 use dap_errors::Cause;

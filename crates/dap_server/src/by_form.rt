@@ -8,10 +8,10 @@ ghost use Rattle.dap_server.specs.Results.{text_of};
 ghost use Rattle.dap_server.specs.inner.Opening.{StaysBut, WhereFault, WhereRefused};
 ghost use Rattle.dap_server.specs.inner.Preparing.{MayGiveAs};
 
-use crate::joined_kinds::{joined_das, joined_dds};
-use crate::kinds::{das_answer, dds_answer};
+use crate::answers_by_kind::{das_answer, dds_answer};
+use crate::joined_answers_by_kind::{joined_das, joined_dds};
+use crate::no_answer::Stop;
 use crate::open::{FileForm, form_of};
-use crate::stop::Stop;
 use dap_http::Kind;
 use dap_outside::Shelf;
 use dap_types::Bytes;

@@ -13,8 +13,8 @@ ghost use Rattle.dap_server.specs.Whole.{AnswersAll};
 ghost use Rattle.dap_server.specs.inner.Serving.{GoesOnFew, PutsLast, PutsRefusal, RoseNext, Serves, ServesFrom, next_of};
 
 use crate::answer::answer;
+use crate::reply_outcome::{Answered, Next};
 use crate::served::{Ending, Served};
-use crate::turn::{Answered, Next};
 use dap_errors::{Cause, status};
 use dap_http::{Head, HeadRead, HeadReader, error_reply, memory_reply};
 use dap_outside::{Link, Shelf, Sink, put_all};

@@ -7,7 +7,7 @@ ghost use Rattle.netcdf_source.specs.Header.{IsCut, IsHeader};
 ghost use Rattle.dap_server.specs.Files.{IsHeaderCause, front, header_cause};
 ghost use Rattle.dap_server.specs.inner.Opening.{IsRead, IsWanted, StaysBut, WhereFault, WhereRefused, stop_of};
 
-use crate::stop::{Stop, damaged};
+use crate::no_answer::{Stop, damaged};
 use dap_errors::FileCause;
 use dap_outside::Shelf;
 use netcdf_source::{Header, HeaderRefusal, read_front};

@@ -16,7 +16,7 @@ ghost use Rattle.dap_server.specs.inner.Opening.{WhereFault, WhereRefused};
 
 use crate::bodies::body_stop;
 use crate::marked::marked_by;
-use crate::stop::Stop;
+use crate::no_answer::Stop;
 use crate::texts::dds_left;
 use dap_http::Kind;
 use dap_types::{Bytes, Memory};

@@ -8,9 +8,9 @@ ghost use Rattle.join_source.specs.Pieces.{AreTold};
 ghost use Rattle.xdr_encode.specs.Streamed.{HasStreamCauses};
 ghost use Rattle.dap_server.specs.inner.Serving.{PutsFramed, PutsValues, SaysWhole, ShelfRose, SinkRose};
 
-use crate::turn::Answered;
+use crate::reply_memory::ReplyMemory;
+use crate::reply_outcome::Answered;
 use crate::values::answered_by;
-use crate::way::Way;
 use dap_http::Framer;
 use dap_outside::{Shelf, Sink, put_all};
 use join_source::JoinBody;
@@ -90,14 +90,14 @@ fn put_streamed<R: Threads + Sync, S: Shelf, O: Sink>(
     }
 }
 
-/// Puts a head and the values that follow it through a room, so that a head and what fits behind it go out
+/// Puts a head and the values that follow it through a buffer, so that a head and what fits behind it go out
 /// at once. Takes no memory.
 pub fn put_joined<R: Threads + Sync, S: Shelf, O: Sink>(
     rt: &R,
     shelf: &mut S,
     files: &mut [S::File],
     body: &mut JoinBody,
-    way: Way,
+    memory: ReplyMemory,
     out: &mut O,
     front: &[u8],
     ends: bool,
@@ -108,7 +108,7 @@ pub fn put_joined<R: Threads + Sync, S: Shelf, O: Sink>(
     requires some { 1 ≤ workers }
     requires many { workers ≤ 64 }
     ensures puts { (contents : List (List ℕ)) → AreTold (map (S.content shelf.old) files.old) contents →
-        PutsValues front.now (framed way.framer.chunked (text_in body.old contents)) ends (O.written out.old) (O.written out.new) result }
+        PutsValues front.now (framed memory.framer.chunked (text_in body.old contents)) ends (O.written out.old) (O.written out.new) result }
     // Whatever the shelf tells of its files, the sink keeps what it had.
     ensures grows { (put : List ℕ) × Appends (O.written out.old) (O.written out.new) put }
     ensures last { SaysWhole ends result }
@@ -120,29 +120,29 @@ pub fn put_joined<R: Threads + Sync, S: Shelf, O: Sink>(
     ensures later { O.put_faults out.old ≤ O.put_faults out.new }
     ensures beside { O.beside_writing out.new ≡ O.beside_writing out.old }
 {
-    let Way { framer, room } = way;
-    let mut roomed = room.before(out);
+    let ReplyMemory { framer, buffer } = memory;
+    let mut buffered = buffer.before(out);
     match put_streamed(
         rt,
         shelf,
         files,
         body,
         framer,
-        &mut roomed,
+        &mut buffered,
         front,
         ends,
         workers,
     ) {
-        Answered::Whole { status, last } => match roomed.end() {
+        Answered::Whole { status, last } => match buffered.end() {
             Ok(()) => Answered::Whole { status, last },
             Err(_) => Answered::WriteFault,
         },
-        Answered::Broken => match roomed.end() {
+        Answered::Broken => match buffered.end() {
             Ok(()) => Answered::Broken,
             Err(_) => Answered::WriteFault,
         },
         Answered::WriteFault => {
-            roomed.stop();
+            buffered.stop();
             Answered::WriteFault
         }
     }

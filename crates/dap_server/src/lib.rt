@@ -4,37 +4,37 @@
 #![tactic(auto)]
 
 mod answer;
+mod answers_by_kind;
 mod bodies;
+mod buffered_sink;
 mod by_form;
 mod connection;
 mod data_body;
-mod framed;
+mod framed_body;
 mod front;
 mod joined_answer;
-mod joined_kinds;
+mod joined_answers_by_kind;
 mod joined_texts;
 mod joined_values;
-mod kinds;
 pub mod laws;
 mod marked;
 mod members;
+mod no_answer;
 mod open;
 mod open_joined;
 mod open_saved;
 mod prepared;
 mod preparing;
 mod put;
-mod room;
-mod roomed;
+mod put_buffer;
+mod reply_memory;
+mod reply_outcome;
 mod saved_answer;
 mod saved_file;
 mod saved_values;
 mod served;
-mod stop;
 mod texts;
-mod turn;
 mod values;
-mod way;
 
 pub use connection::serve_connection;
 pub use prepared::Prepared;

@@ -13,7 +13,7 @@ ghost use Rattle.dap_server.specs.Results.{Reads};
 ghost use Rattle.dap_server.specs.inner.Marking.{IsRefusedOn};
 ghost use Rattle.dap_server.specs.inner.Opening.{WhereFault, WhereRefused, parse_stop};
 
-use crate::stop::Stop;
+use crate::no_answer::Stop;
 use constraint_parse::{Constraint, ParseRefusal, parse};
 use dap_errors::Cause;
 use dap_types::{Dataset, Index};

@@ -12,7 +12,7 @@ ghost use Rattle.dap_server.specs.inner.Members.{AreFilesOf, AreHeadersOf, bad_m
 ghost use Rattle.dap_server.specs.inner.Opening.{IsRead, StaysBut, WhereFault, WhereRefused};
 
 use crate::front::open_netcdf;
-use crate::stop::{Stop, damaged};
+use crate::no_answer::{Stop, damaged};
 use dap_errors::FileCause;
 use dap_outside::Shelf;
 use dap_types::{Bytes, List};

@@ -11,9 +11,9 @@ ghost use Rattle.dap_server.specs.inner.Joining.{MayOpen};
 ghost use Rattle.dap_server.specs.inner.Opening.{IsMissing, IsRead, Lies, OpenedAs, StaysBut, WhereFault, WhereRefused, form_view, stop_of};
 
 use crate::front::open_netcdf;
+use crate::no_answer::{Stop, damaged};
 use crate::open_saved::open_saved;
 use crate::saved_file::SavedFile;
-use crate::stop::{Stop, damaged};
 use csv_source::{Table, TableRefusal, read_table};
 use dap_errors::{Cause, FileCause};
 use dap_outside::Shelf;

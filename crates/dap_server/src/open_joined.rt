@@ -15,8 +15,8 @@ ghost use Rattle.dap_server.specs.inner.Members.{AreHeadersOf};
 ghost use Rattle.dap_server.specs.inner.Opening.{IsRead, StaysBut, WhereFault, WhereRefused, stop_of};
 
 use crate::members::{MemberFiles, open_members};
+use crate::no_answer::{Stop, damaged};
 use crate::open::{find, read_front};
-use crate::stop::{Stop, damaged};
 use dap_errors::FileCause;
 use dap_outside::Shelf;
 use dap_types::{Bytes, List};

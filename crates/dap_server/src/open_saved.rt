@@ -8,9 +8,9 @@ ghost use Rattle.saved_source.specs.Responses.{Holds, IsSaved, dataset_in};
 ghost use Rattle.dap_server.specs.Files.{IsSavedCause, saved_cause};
 ghost use Rattle.dap_server.specs.inner.Opening.{IsRead, StaysBut, WhereFault, WhereRefused, stop_of};
 
+use crate::no_answer::{Stop, damaged};
 use crate::open::read_front;
 use crate::saved_file::SavedFile;
-use crate::stop::{Stop, damaged};
 use dap_errors::FileCause;
 use dap_outside::Shelf;
 use saved_source::{SavedRefusal, read_saved};

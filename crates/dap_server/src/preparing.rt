@@ -12,12 +12,12 @@ ghost use Rattle.saved_source.specs.Bodies.{Sends};
 ghost use Rattle.dap_server.specs.Results.{Text, text_of};
 ghost use Rattle.dap_server.specs.inner.Preparing.{IsMade, asked_as, body_prepared, data_prepared, join_prepared, stopped, text_prepared};
 
+use crate::answers_by_kind::{dods_answer, version_answer};
 use crate::by_form::{das_by_form, dds_by_form, is_list};
 use crate::data_body::DataBody;
-use crate::joined_kinds::joined_dods;
-use crate::kinds::{dods_answer, version_answer};
+use crate::joined_answers_by_kind::joined_dods;
+use crate::no_answer::Stop;
 use crate::prepared::Prepared;
-use crate::stop::Stop;
 use dap_http::{Kind, Target};
 use dap_outside::Shelf;
 use dap_types::{Bytes, List};

@@ -3,7 +3,7 @@
 ghost use Rattle.std.specs.Prelude.{◌≡◌, ◌≤◌};
 ghost use Rattle.dap_server.specs.inner.Serving.{PutsText, SinkRose};
 
-use crate::turn::Answered;
+use crate::reply_outcome::Answered;
 use dap_outside::{Sink, put_all};
 
 /// Puts a reply that stands whole.

@@ -8,9 +8,9 @@ ghost use Rattle.dap_server.specs.inner.Serving.{PutsReply, PutsText, SinkRose, 
 
 use crate::answer::{is_head, put_memory};
 use crate::put::put_reply;
+use crate::reply_memory::ReplyMemory;
+use crate::reply_outcome::Answered;
 use crate::saved_values::put_response;
-use crate::turn::Answered;
-use crate::way::Way;
 use dap_errors::Cause;
 use dap_http::{Head, Kind, data_head};
 use dap_outside::Sink;
@@ -37,8 +37,8 @@ fn put_with_values<O: Sink>(
     ensures beside { O.beside_writing out.new ≡ O.beside_writing out.old }
 {
     let chunked = Kind::Dods.is_chunked(head.minor);
-    match Way::new(alloc, chunked) {
-        Ok(way) => put_response(body, way, out, front, ends),
+    match ReplyMemory::new(alloc, chunked) {
+        Ok(memory) => put_response(body, memory, out, front, ends),
         Err(Memory) => put_memory(out, head, ends),
     }
 }

@@ -7,8 +7,8 @@ ghost use Rattle.dap_outside.specs.Causes.{HasCause};
 ghost use Rattle.saved_source.specs.Bodies.{Sends};
 ghost use Rattle.dap_server.specs.inner.Serving.{PutsPart, PutsText, SinkRose};
 
-use crate::turn::Answered;
-use crate::way::Way;
+use crate::reply_memory::ReplyMemory;
+use crate::reply_outcome::Answered;
 use dap_http::Framer;
 use dap_outside::{Failed, Sink, put_all};
 use saved_source::SavedBody;
@@ -49,25 +49,25 @@ fn put_behind<O: Sink>(
     put_framed(body, framer, out)
 }
 
-/// Puts a head and the values that follow it through a room, so that a head and what fits behind it go out
+/// Puts a head and the values that follow it through a buffer, so that a head and what fits behind it go out
 /// at once. Takes no memory.
 pub fn put_response<O: Sink>(
     body: &mut SavedBody,
-    way: Way,
+    memory: ReplyMemory,
     out: &mut O,
     front: &[u8],
     ends: bool,
 ) -> Answered
     requires { 0 < length front.now }
-    ensures puts { (text : List ℕ) → Sends body.old text → PutsText (front.now ++ framed way.framer.chunked text) 200 ends (O.written out.old) (O.written out.new) result }
+    ensures puts { (text : List ℕ) → Sends body.old text → PutsText (front.now ++ framed memory.framer.chunked text) 200 ends (O.written out.old) (O.written out.new) result }
     ensures fault { SinkRose result (O.put_faults out.old) (O.put_faults out.new) }
     ensures later { O.put_faults out.old ≤ O.put_faults out.new }
     ensures beside { O.beside_writing out.new ≡ O.beside_writing out.old }
 {
-    let Way { framer, room } = way;
-    let mut roomed = room.before(out);
-    match put_behind(body, framer, &mut roomed, front) {
-        Ok(()) => match roomed.end() {
+    let ReplyMemory { framer, buffer } = memory;
+    let mut buffered = buffer.before(out);
+    match put_behind(body, framer, &mut buffered, front) {
+        Ok(()) => match buffered.end() {
             Ok(()) => Answered::Whole {
                 status: 200,
                 last: ends,
@@ -75,7 +75,7 @@ pub fn put_response<O: Sink>(
             Err(_) => Answered::WriteFault,
         },
         Err(_) => {
-            roomed.stop();
+            buffered.stop();
             Answered::WriteFault
         }
     }

@@ -13,8 +13,8 @@ ghost use Rattle.dap_server.specs.Results.{DdsAnswers, das_text, text_of};
 ghost use Rattle.dap_server.specs.inner.Opening.{WhereFault, WhereRefused, attributes_in, dataset_in, stored_of};
 
 use crate::marked::marked_by;
+use crate::no_answer::Stop;
 use crate::open::Opened;
-use crate::stop::Stop;
 use dap_errors::Cause;
 use dap_http::Kind;
 use dap_types::{Bytes, Dataset, Memory};

@@ -6,9 +6,9 @@ ghost use Rattle.dap_http.specs.Frames.{framed};
 ghost use Rattle.xdr_encode.specs.Bodies.{FitsFile, cost_in, text_in};
 ghost use Rattle.dap_server.specs.inner.Serving.{GoesOver, PutsValues, SaysWhole, ShelfRose, SinkRose, answered_by};
 
-use crate::framed::put_framed;
-use crate::turn::Answered;
-use crate::way::Way;
+use crate::framed_body::put_framed;
+use crate::reply_memory::ReplyMemory;
+use crate::reply_outcome::Answered;
 use dap_http::Framer;
 use dap_outside::{Shelf, Sink, put_all};
 use std::thread::Threads;
@@ -63,14 +63,14 @@ fn put_streamed<R: Threads + Sync, S: Shelf, O: Sink>(
     }
 }
 
-/// Puts a head and the values that follow it through a room, so that a head and what fits behind it go out
+/// Puts a head and the values that follow it through a buffer, so that a head and what fits behind it go out
 /// at once. Takes no memory.
 pub fn put_values<R: Threads + Sync, S: Shelf, O: Sink>(
     rt: &R,
     shelf: &mut S,
     file: &mut S::File,
     body: &mut Body,
-    way: Way,
+    memory: ReplyMemory,
     out: &mut O,
     front: &[u8],
     ends: bool,
@@ -81,7 +81,7 @@ pub fn put_values<R: Threads + Sync, S: Shelf, O: Sink>(
     requires some { 1 ≤ workers }
     requires many { workers ≤ 64 }
     ensures puts { (bytes : List ℕ) → GoesOver body.old (S.content shelf.old file.old) bytes →
-        PutsValues front.now (framed way.framer.chunked (text_in body.old bytes)) ends (O.written out.old) (O.written out.new) result }
+        PutsValues front.now (framed memory.framer.chunked (text_in body.old bytes)) ends (O.written out.old) (O.written out.new) result }
     // Whatever the shelf tells of its file, the sink keeps what it had.
     ensures grows { (put : List ℕ) × Appends (O.written out.old) (O.written out.new) put }
     ensures last { SaysWhole ends result }
@@ -93,29 +93,29 @@ pub fn put_values<R: Threads + Sync, S: Shelf, O: Sink>(
     ensures later { O.put_faults out.old ≤ O.put_faults out.new }
     ensures beside { O.beside_writing out.new ≡ O.beside_writing out.old }
 {
-    let Way { framer, room } = way;
-    let mut roomed = room.before(out);
+    let ReplyMemory { framer, buffer } = memory;
+    let mut buffered = buffer.before(out);
     match put_streamed(
         rt,
         shelf,
         file,
         body,
         framer,
-        &mut roomed,
+        &mut buffered,
         front,
         ends,
         workers,
     ) {
-        Answered::Whole { status, last } => match roomed.end() {
+        Answered::Whole { status, last } => match buffered.end() {
             Ok(()) => Answered::Whole { status, last },
             Err(_) => Answered::WriteFault,
         },
-        Answered::Broken => match roomed.end() {
+        Answered::Broken => match buffered.end() {
             Ok(()) => Answered::Broken,
             Err(_) => Answered::WriteFault,
         },
         Answered::WriteFault => {
-            roomed.stop();
+            buffered.stop();
             Answered::WriteFault
         }
     }

@@ -10,8 +10,8 @@ use Rattle.dap_errors.specs.declared.file_cause.FileCause.TheVariants.{BadMember
 use Rattle.dap_server.specs.Costs.{most_of_names}
 use Rattle.dap_server.specs.Joins.{Member}
 use Rattle.dap_server.specs.inner.Opening.{IsRead}
-use Rattle.dap_server.specs.declared.stop.Stop.{Stop}
-use Rattle.dap_server.specs.declared.stop.Stop.TheVariants.{Refused, ShelfFault, Memory}
+use Rattle.dap_server.specs.declared.no_answer.Stop.{Stop}
+use Rattle.dap_server.specs.declared.no_answer.Stop.TheVariants.{Refused, ShelfFault, Memory}
 
 -- the header is that of the member
 abbrev pub IsHeaderOf : FileHeader → Member → Type 0

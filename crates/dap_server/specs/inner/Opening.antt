@@ -25,8 +25,8 @@ use Rattle.dap_server.specs.declared.open.FileForm.{FileForm}
 use Rattle.dap_server.specs.declared.open.FileForm.TheVariants as forms
 use Rattle.dap_server.specs.declared.open.Opened.{Opened}
 use Rattle.dap_server.specs.declared.open.Opened.TheVariants.{Netcdf, Saved, Table}
-use Rattle.dap_server.specs.declared.stop.Stop.{Stop}
-use Rattle.dap_server.specs.declared.stop.Stop.TheVariants.{Refused, ShelfFault, Memory}
+use Rattle.dap_server.specs.declared.no_answer.Stop.{Stop}
+use Rattle.dap_server.specs.declared.no_answer.Stop.TheVariants.{Refused, ShelfFault, Memory}
 
 -- the bytes that a file tells, or any where it tells none
 abbrev pub IsRead : Option (List ℕ) → List ℕ → Type 0

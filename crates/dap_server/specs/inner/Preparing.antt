@@ -13,8 +13,8 @@ use Rattle.dap_server.specs.declared.data_body.DataBody.{DataBody}
 use Rattle.dap_server.specs.declared.data_body.DataBody.TheVariants as bodies
 use Rattle.dap_server.specs.declared.prepared.Prepared.{Prepared}
 use Rattle.dap_server.specs.declared.prepared.Prepared.TheVariants as prepared
-use Rattle.dap_server.specs.declared.stop.Stop.{Stop}
-use Rattle.dap_server.specs.declared.stop.Stop.TheVariants.{Refused, ShelfFault, Memory}
+use Rattle.dap_server.specs.declared.no_answer.Stop.{Stop}
+use Rattle.dap_server.specs.declared.no_answer.Stop.TheVariants.{Refused, ShelfFault, Memory}
 use Rattle.xdr_encode.specs.Bodies.{FitsFile, HasNoFile, MayAsk, cost_in, text_in}
 use Rattle.xdr_encode.specs.declared.body.Body.{Body}
 use Rattle.join_source.specs.declared.body.JoinBody.{JoinBody}

@@ -21,10 +21,10 @@ use Rattle.dap_server.specs.Replies.{Request, Turn, is_last, last_reply, reply_o
 use Rattle.dap_server.specs.Results.{Text}
 use Rattle.dap_server.specs.declared.served.Ending.TheVariants.{Closed, WriteFault, Broken}
 use Rattle.dap_server.specs.declared.served.Served.{Served}
-use Rattle.dap_server.specs.declared.turn.Answered.{Answered}
-use Rattle.dap_server.specs.declared.turn.Answered.TheVariants as answered
-use Rattle.dap_server.specs.declared.turn.Next.{Next}
-use Rattle.dap_server.specs.declared.turn.Next.TheVariants as next
+use Rattle.dap_server.specs.declared.reply_outcome.Answered.{Answered}
+use Rattle.dap_server.specs.declared.reply_outcome.Answered.TheVariants as answered
+use Rattle.dap_server.specs.declared.reply_outcome.Next.{Next}
+use Rattle.dap_server.specs.declared.reply_outcome.Next.TheVariants as next
 
 -- ---- Bytes that are put.
 

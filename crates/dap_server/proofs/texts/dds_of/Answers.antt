@@ -4,8 +4,8 @@ use Rattle.dap_types.specs.View.{dataset_view}
 use Rattle.dap_errors.specs.declared.cause.Cause.{Cause}
 use Rattle.dap_model.specs.Dds.{dds}
 use Rattle.dap_model.specs.Filter.{constrained}
-use Rattle.dap_server.specs.declared.stop.Stop.{Stop}
-use Rattle.dap_server.specs.declared.stop.Stop.TheVariants.{Refused, ShelfFault, Memory}
+use Rattle.dap_server.specs.declared.no_answer.Stop.{Stop}
+use Rattle.dap_server.specs.declared.no_answer.Stop.TheVariants.{Refused, ShelfFault, Memory}
 use Rattle.grid_projection.specs.Resolved.{marks_in}
 use Rattle.dap_server.proofs.Answering as answering
 use Rattle.dap_server.specs.Results.{DdsAnswers}

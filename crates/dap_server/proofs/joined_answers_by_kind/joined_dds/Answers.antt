@@ -1,0 +1,28 @@
+use Rattle.std.proofs.Common.{rules, Err}
+use Rattle.dap_http.specs.declared.kind.Kind.TheVariants.{Dds}
+use Rattle.dap_server.proofs.JoinsGiven as given
+use Rattle.dap_server.proofs.Making as making
+use Rattle.dap_server.specs.Results.{DdsAnswers, text_of}
+use Rattle.dap_server.specs.inner.Opening.{WhereRefused}
+use Rattle.dap_server.specs.inner.Preparing.{MayGiveAs}
+use Rattle.dap_server.proofs.joined_answers_by_kind.joined_dds.Goals as goal
+
+pub returns-clause-text : goal.returns-clause-text
+returns-clause-text g c =
+    given.follows_ok _ _ _ c.args.name.now c.in_ok-joined.joined _ c.requires.form c.in_ok-joined.ensures.opened (λ s. DdsAnswers s c.args.query.now) (text_of Dds) c.joined_dds_text.result c.joined_dds_text.ensures.text
+
+pub returns-clause-refused : goal.returns-clause-refused
+returns-clause-refused g c =
+    given.follows_err _ _ _ c.args.name.now c.in_ok-joined.joined _ c.requires.form c.in_ok-joined.ensures.opened (λ s. DdsAnswers s c.args.query.now) c.joined_dds_text.result c.joined_dds_text.ensures.refused
+
+pub returns-in_err-joined-clause-refused : goal.returns-in_err-joined-clause-refused
+returns-in_err-joined-clause-refused g c =
+    let stop : WhereRefused (λ why. MayGiveAs (g.S.Shelf.files c.args.shelf.now) Dds c.args.name.now c.args.query.now (Err why)) c.in_err-joined.field-0.0 =
+    making.stops _ c.args.name.now (λ s. DdsAnswers s c.args.query.now) c.in_err-joined.field-0.0 c.in_err-joined.ensures.refused in
+    search (rules, stop)
+
+pub returns-clause-why : goal.returns-clause-why
+returns-clause-why g c = making.no_fault c.joined_dds_text.result _ c.joined_dds_text.ensures.no_fault
+
+pub returns-clause-stays : goal.returns-clause-stays
+returns-clause-stays g c = making.still_stays c.joined_dds_text.result _ _ c.in_ok-joined.ensures.stays

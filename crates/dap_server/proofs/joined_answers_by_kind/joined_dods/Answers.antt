@@ -1,0 +1,26 @@
+use Rattle.std.proofs.Common.{rules, Err}
+use Rattle.dap_http.specs.declared.kind.Kind.TheVariants.{Dods}
+use Rattle.dap_server.proofs.JoinsGiven as given
+use Rattle.dap_server.proofs.Making as making
+use Rattle.dap_server.specs.Results.{DodsAnswers}
+use Rattle.dap_server.specs.inner.Opening.{WhereRefused}
+use Rattle.dap_server.specs.inner.Preparing.{MayGiveAs}
+use Rattle.dap_server.proofs.joined_answers_by_kind.joined_dods.Goals as goal
+
+pub returns-clause-body : goal.returns-clause-body
+returns-clause-body g c =
+    given.body_joined _ _ _ c.args.name.now c.in_ok-joined.joined _ c.requires.form c.in_ok-joined.ensures.opened c.args.query.now c.in_ok-body.body
+    (λ file bytes tells. g.met.S.Shelf.content_is_bytes c.open_joined.new.shelf file bytes tells)
+    c.in_ok-body.ensures.text c.in_ok-body.ensures.accepted c.in_ok-body.ensures.fits c.in_ok-body.ensures.cost c.in_ok-body.ensures.cost_at
+
+pub returns-in_err-joined-clause-refused : goal.returns-in_err-joined-clause-refused
+returns-in_err-joined-clause-refused g c =
+    let stop : WhereRefused (λ why. MayGiveAs (g.S.Shelf.files c.args.shelf.now) Dods c.args.name.now c.args.query.now (Err why)) c.in_err-joined.field-0.0 =
+    making.stops _ c.args.name.now (λ s. DodsAnswers s c.args.query.now) c.in_err-joined.field-0.0 c.in_err-joined.ensures.refused in
+    search (rules, stop)
+
+pub returns-in_err-body-clause-refused : goal.returns-in_err-body-clause-refused
+returns-in_err-body-clause-refused g c =
+    let stop : WhereRefused (λ why. MayGiveAs (g.S.Shelf.files c.args.shelf.now) Dods c.args.name.now c.args.query.now (Err why)) c.in_err-body.field-0.0 =
+    given.follows_stop _ _ _ c.args.name.now c.in_ok-joined.joined _ c.requires.form c.in_ok-joined.ensures.opened (λ s. DodsAnswers s c.args.query.now) c.in_err-body.field-0.0 c.in_err-body.ensures.refused in
+    search (rules, stop)
