@@ -18,7 +18,7 @@ use Rattle.saved_source.specs.Responses.{IsSaved, saved_dataset}
 use Rattle.dap_server.proofs.Accepted.{accepted_is_served}
 use Rattle.dap_server.proofs.Lying.{opens}
 use Rattle.dap_server.specs.Files.{Stored, saved, saved_stored}
-use Rattle.dap_server.specs.Results.{Results, left_of, text_of}
+use Rattle.dap_server.specs.Results.{Results, left_of, result_text}
 use Rattle.dap_http.specs.declared.kind.Kind.TheVariants.{Dods}
 use Rattle.dap_client.proofs.Bodies.{good_is_body}
 use Rattle.both_ends.proofs.LeftLeaves.{all_left, all_renamed}
@@ -45,9 +45,9 @@ saved_is_served target name bytes files d ts asks there is leaves short =
     let trees : constrained_trees m (kept []) d ts ≡ ts = all_trees_whole m d.members 1 ts leaves (marks_whole d) (saved_fits bytes name d ts is) in
     let suits : SuitsAll m 1 d.members = marks_suit d no_constraint well refl in
     let small : too_large (constrained m d) ≡ None = left_is_small m bytes name d ts is suits (subst (λ e. length (dds e) ≤ 16777216) (sym same) short) in
-    let served : Results target files (Ok (text_of Dods (body (constrained m d) (constrained_trees m (kept []) d ts)))) =
+    let served : Results target files (Ok (result_text Dods (body (constrained m d) (constrained_trees m (kept []) d ts)))) =
     accepted_is_served target name [] files s no_constraint asks.is_target (opens (Some files) files name bytes saved (Ok s) asks.form there (d, ts, is, refl)) is_spelled refl small in
-    subst (λ us. Results target files (Ok (text_of Dods (body d us)))) trees (subst (λ e. Results target files (Ok (text_of Dods (body e (constrained_trees m (kept []) d ts))))) same served)
+    subst (λ us. Results target files (Ok (result_text Dods (body d us)))) trees (subst (λ e. Results target files (Ok (result_text Dods (body e (constrained_trees m (kept []) d ts))))) same served)
 
 pub written_is_served_again : WrittenIsServedAgain
 written_is_served_again target other name files again text r asks there few differ short =

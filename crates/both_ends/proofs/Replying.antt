@@ -13,7 +13,7 @@ use Rattle.dap_http.specs.Replies.{HasFinal}
 use Rattle.dap_http.specs.Texts.{head_text}
 use Rattle.dap_http.specs.declared.kind.Kind.TheVariants.{Dods}
 use Rattle.dap_server.specs.Replies.{Request, is_head, is_last, reply_of}
-use Rattle.dap_server.specs.Results.{text_of}
+use Rattle.dap_server.specs.Results.{result_text}
 use Rattle.both_ends.specs.Ends.{ReplyDelivers, ReplyIsJudged}
 
 abbrev head : Bool → Bool → List ℕ
@@ -51,17 +51,17 @@ delivers in_chunks close text more none =
 
 -- the reply, in its parts
 laid-out : (q : Request) (text : List ℕ) → is_head q ≡ false
-    → reply_of q (Ok (text_of Dods text)) ≡ head (q.minor == 1) (is_last q (Ok (text_of Dods text))) ++ framed (q.minor == 1) text
-laid-out q text get = ap (λ b. head (q.minor == 1) (is_last q (Ok (text_of Dods text))) ++ (if b then [] else framed (q.minor == 1) text)) get
+    → reply_of q (Ok (result_text Dods text)) ≡ head (q.minor == 1) (is_last q (Ok (result_text Dods text))) ++ framed (q.minor == 1) text
+laid-out q text get = ap (λ b. head (q.minor == 1) (is_last q (Ok (result_text Dods text))) ++ (if b then [] else framed (q.minor == 1) text)) get
 
 one-is : (n : ℕ) → n ≡ 1 → (n == 1) ≡ true
 one-is n e = ap (λ m. m == 1) e
 
 pub reply_delivers : ReplyDelivers
 reply_delivers q text get = (
-  subst (λ (l : List ℕ). Delivers l true text []) (append-nil _ ∙ sym (laid-out q text get)) (delivers (q.minor == 1) (is_last q (Ok (text_of Dods text))) text [] (λ e. refl)),
+  subst (λ (l : List ℕ). Delivers l true text []) (append-nil _ ∙ sym (laid-out q text get)) (delivers (q.minor == 1) (is_last q (Ok (result_text Dods text))) text [] (λ e. refl)),
   λ more one. subst (λ (l : List ℕ). Delivers (l ++ more) true text more) (sym (laid-out q text get))
-      (delivers (q.minor == 1) (is_last q (Ok (text_of Dods text))) text more (λ e. absurd (true≢false (sym (one-is q.minor one) ∙ e)))),
+      (delivers (q.minor == 1) (is_last q (Ok (result_text Dods text))) text more (λ e. absurd (true≢false (sym (one-is q.minor one) ∙ e)))),
 )
 
 pub reply_is_judged : ReplyIsJudged

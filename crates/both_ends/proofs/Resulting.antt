@@ -48,7 +48,7 @@ use Rattle.dap_http.specs.declared.kind.Kind.TheVariants.{Dds, Das, Dods, Ver}
 use Rattle.dap_server.specs.Files.{Files, Form, IsStored, Stored, form_of, has_end, joined, netcdf, saved, table}
 use Rattle.dap_server.specs.Joins.{IsJoined, bytes_in, contents_in}
 use Rattle.both_ends.proofs.JoinedStored.{joined-sent, members-headed}
-use Rattle.dap_server.specs.Results.{Answers, DodsAnswers, File, Left, Opens, Text, dds_text, dods_text, file_named, left_of, text_of}
+use Rattle.dap_server.specs.Results.{Answers, DodsAnswers, File, Left, Opens, Text, dds_text, dods_text, file_named, left_of, result_text}
 use Rattle.dap_server.specs.Steps.{found_or, unless}
 use Rattle.dap_client.proofs.Bodies.{body_good}
 use Rattle.dap_client.specs.Verdict.{IsVerdict, bad, dods_form, good}
@@ -213,20 +213,20 @@ text-in (Err why) = []
 abbrev answer : Text → Result Text Cause
 answer t = Ok t
 
-another-kind : (text other : List ℕ) (kind : Kind) → ¬ (Dods ≡ kind) → answer (text_of Dods text) ≡ answer (text_of kind other) → ⊥
+another-kind : (text other : List ℕ) (kind : Kind) → ¬ (Dods ≡ kind) → answer (result_text Dods text) ≡ answer (result_text kind other) → ⊥
 unfolding kind-of
 another-kind text other kind differ same = differ (ap kind-of same)
 
-dds-kind : (d : Dataset) (text : List ℕ) → Ok (text_of Dods text) ≡ dds_text d → ⊥
+dds-kind : (d : Dataset) (text : List ℕ) → Ok (result_text Dods text) ≡ dds_text d → ⊥
 dds-kind d text same = go (nat_lt 16777216 (length (dds d))) same where
-  go : (b : Bool) → Ok (text_of Dods text) ≡ cond b (Err (TooLarge 0)) (Ok (text_of Dds (dds d))) → ⊥
+  go : (b : Bool) → Ok (result_text Dods text) ≡ cond b (Err (TooLarge 0)) (Ok (result_text Dds (dds d))) → ⊥
   go true e = cc e
   go false e = another-kind text (dds d) Dds (λ k. cc k) e
 
-dods-small : (left : Left) (text : List ℕ) → Ok (text_of Dods text) ≡ dods_text left → (too_large left.dataset ≡ None) × (text ≡ body left.dataset left.trees)
+dods-small : (left : Left) (text : List ℕ) → Ok (result_text Dods text) ≡ dods_text left → (too_large left.dataset ≡ None) × (text ≡ body left.dataset left.trees)
 unfolding text-in
 dods-small left text same = go (too_large left.dataset) refl same where
-  go : (o : Option ℕ) → too_large left.dataset ≡ o → Ok (text_of Dods text) ≡ unless (option_map (λ (leaf : ℕ). TooLarge leaf) o) (text_of Dods (body left.dataset left.trees)) → (too_large left.dataset ≡ None) × (text ≡ body left.dataset left.trees)
+  go : (o : Option ℕ) → too_large left.dataset ≡ o → Ok (result_text Dods text) ≡ unless (option_map (λ (leaf : ℕ). TooLarge leaf) o) (result_text Dods (body left.dataset left.trees)) → (too_large left.dataset ≡ None) × (text ≡ body left.dataset left.trees)
   go None e s = (e, ap text-in s)
   go (Some leaf) e s = cc s
 
@@ -236,7 +236,7 @@ left-is s c left same = go (cause s.dataset c) refl same where
   go None e h = let one : left ≡ left_of s c = cc in (e, one)
   go (Some why) e h = cc h
 
-parts-of : (files : Files) (name query text : List ℕ) (s : Stored) → Opens files name (Ok s) → DodsAnswers s query (Ok (text_of Dods text)) → Parts files name query text
+parts-of : (files : Files) (name query text : List ℕ) (s : Stored) → Opens files name (Ok s) → DodsAnswers s query (Ok (result_text Dods text)) → Parts files name query text
 parts-of files name query text s opens (inl (left, inl (c, spells, is), same)) =
     let (none, one) = left-is s c left is in
     let (small, is_body) = dods-small left text same in
@@ -252,7 +252,7 @@ parts-of files name query text s opens (inl (left, inl (c, spells, is), same)) =
 parts-of files name query text s opens (inl (left, inr (why, reads, is), same)) = cc is
 parts-of files name query text s opens (inr (why, leaves, is)) = cc is
 
-by-kind : (kind : Kind) (files : Files) (name query text : List ℕ) → Answers kind files name query (Ok (text_of Dods text)) → (kind ≡ Dods) × Parts files name query text
+by-kind : (kind : Kind) (files : Files) (name query text : List ℕ) → Answers kind files name query (Ok (result_text Dods text)) → (kind ≡ Dods) × Parts files name query text
 by-kind Ver files name query text answers = absurd (another-kind text _ Ver (λ k. cc k) answers)
 by-kind Das files name query text (inl (s, opens, is)) = absurd (another-kind text _ Das (λ k. cc k) is)
 by-kind Das files name query text (inr (why, opens, is)) = cc is

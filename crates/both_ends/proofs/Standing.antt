@@ -9,8 +9,8 @@ use Rattle.dap_http.specs.declared.kind.Kind.TheVariants.{Dods}
 use Rattle.dap_outside.specs.Files.{Told}
 use Rattle.dap_server.specs.Connections.{AreTurns, Behind, IsClosed, MayAnswer, behind_text, ends_after, is_last_turn, nothing, part_of_refusal, part_of_reply, put_from, refusal}
 use Rattle.dap_server.specs.Files.{Files}
-use Rattle.dap_server.specs.Replies.{AreAnswered, IsAnswered, IsAnsweredAmong, Request, Turn, is_head, replies, reply_of, request, wants}
-use Rattle.dap_server.specs.Results.{Results, Text, text_of}
+use Rattle.dap_server.specs.Replies.{AreAnswered, IsRequestAnswered, IsRequestAnsweredAmong, Request, Turn, is_head, replies, reply_of, request, wants}
+use Rattle.dap_server.specs.Results.{Results, Text, result_text}
 use Rattle.dap_server.specs.declared.served.Ending.{Ending}
 use Rattle.dap_server.specs.declared.served.Ending.TheVariants.{Closed, Gone, ReadFault, WriteFault, Broken}
 use Rattle.both_ends.proofs.Replying.{reply_delivers}
@@ -37,7 +37,7 @@ record Place (before after : List Turn) (t : Turn) (tail : List ℕ) : Type 0 wh
 no-head : (q : Request) → q.method ≡ codes "GET" → is_head q ≡ false
 no-head q e = rw e refl
 
-delivered : (before after : List Turn) (t : Turn) (tail text : List ℕ) → Place before after t tail → t.head.method ≡ codes "GET" → t.answer ≡ Ok (text_of Dods text)
+delivered : (before after : List Turn) (t : Turn) (tail text : List ℕ) → Place before after t tail → t.head.method ≡ codes "GET" → t.answer ≡ Ok (result_text Dods text)
     → let rest = replies (length before + 1 + 1) after ++ tail in Delivers (reply_behind before t ++ rest) true text rest
 delivered before after t tail text p get is =
     subst (λ (r : Result Text Cause). Delivers (reply_of q r ++ rest) true text rest) (sym is) (go t.head.minor refl)
@@ -48,16 +48,16 @@ delivered before after t tail text p get is =
     rest : List ℕ
     rest = replies (length before + 1 + 1) after ++ tail
 
-    no-more : (l : List ℕ) → l ≡ [] → Delivers (reply_of q (Ok (text_of Dods text)) ++ l) true text l
-    no-more l e = subst (λ (m : List ℕ). Delivers (reply_of q (Ok (text_of Dods text)) ++ m) true text m) (sym e)
-        (subst (λ (b : List ℕ). Delivers b true text []) (sym (append-nil (reply_of q (Ok (text_of Dods text))))) (reply_delivers q text (no-head q get)).0)
+    no-more : (l : List ℕ) → l ≡ [] → Delivers (reply_of q (Ok (result_text Dods text)) ++ l) true text l
+    no-more l e = subst (λ (m : List ℕ). Delivers (reply_of q (Ok (result_text Dods text)) ++ m) true text m) (sym e)
+        (subst (λ (b : List ℕ). Delivers b true text []) (sym (append-nil (reply_of q (Ok (result_text Dods text))))) (reply_delivers q text (no-head q get)).0)
 
-    go : (m : ℕ) → t.head.minor ≡ m → Delivers (reply_of q (Ok (text_of Dods text)) ++ rest) true text rest
+    go : (m : ℕ) → t.head.minor ≡ m → Delivers (reply_of q (Ok (result_text Dods text)) ++ rest) true text rest
     go zero e = let (none, empty) = p.last e in no-more rest (ap (λ (l : List Turn). replies (length before + 1 + 1) l ++ tail) none ∙ empty)
     go (suc m) e = (reply_delivers q text (no-head q get)).1 rest (omega (arith, e, p.minor))
 
 stands-good : (files : Files) (put : List ℕ) (before after : List Turn) (t : Turn) (tail text : List ℕ) → HoldBytes files → put ≡ replies 1 (before ++ t ∷ after) ++ tail
-    → Results t.head.target files t.answer → Place before after t tail → t.head.method ≡ codes "GET" → t.answer ≡ Ok (text_of Dods text) → length text < 2 ^ 40 → StandsGood files put before t text
+    → Results t.head.target files t.answer → Place before after t tail → t.head.method ≡ codes "GET" → t.answer ≡ Ok (result_text Dods text) → length text < 2 ^ 40 → StandsGood files put before t text
 stands-good files put before after t tail text hold laid results p get is short =
     let j : ℕ = length before + 1 in
     let rest = replies (j + 1) after ++ tail in
@@ -91,14 +91,14 @@ minor-of bytes rest h first = first.0.0.0.minor
 is-get : (q : Request) → q.method ≡ codes "GET" → is_other q.method ≡ false
 is-get q e = rw e refl
 
-answered : (files : Files) (q : Request) (answer : Result Text Cause) → q.method ≡ codes "GET" → IsAnswered files q answer → Results q.target files answer
+answered : (files : Files) (q : Request) (answer : Result Text Cause) → q.method ≡ codes "GET" → IsRequestAnswered files q answer → Results q.target files answer
 answered files q answer get is = by (is_other q.method) (is-get q get) is where
   by : (b : Bool) → b ≡ false → MatchBool b (answer ≡ Err BadMethod) (Results q.target files answer) → Results q.target files answer
   by true e m = cc e
   by false e m = m
 
 may-result : (files : Files) (q : Request) (answer : Result Text Cause) (t : Text) → q.method ≡ codes "GET" → answer ≡ Ok t → MayAnswer (Some files) q answer → Results q.target files answer
-may-result files q answer t get is (inl (others, same, answers)) = answered files q answer get (subst (λ (fs : Files). IsAnsweredAmong (Some files) fs q answer) same answers)
+may-result files q answer t get is (inl (others, same, answers)) = answered files q answer get (subst (λ (fs : Files). IsRequestAnsweredAmong (Some files) fs q answer) same answers)
 may-result files q answer t get is (inr (inl (failed, served, looks))) = cc (is, failed)
 may-result files q answer t get is (inr (inr wanted)) = cc (is, wanted)
 
@@ -154,7 +154,7 @@ served_is_good files taken ended c served hold s before after t text parts get i
     let r = reached (Some files) 1 j taken c.left before after t (omega arith) (subst (λ (l : List Turn). AreTurns (Some files) 1 taken l c.left) parts s.turns) in
     let alone = λ (old : t.head.minor ≡ 0). r.ends (or-true (ends_connection j t.head) (wants t.answer) (old-ends j t.head old)) in
     stands-good files (put_from 1 c) before after t (behind_text c.behind) text hold (ap (λ (l : List Turn). replies 1 l ++ behind_text c.behind) parts)
-    (may-result files (request j t.head) t.answer (text_of Dods text) get is r.may)
+    (may-result files (request j t.head) t.answer (result_text Dods text) get is r.may)
     (record {
       minor = minor-of r.bytes r.rest t.head r.first;
       last = λ old. (
@@ -173,7 +173,7 @@ record ReachedAll (files : Files) (j : ℕ) (after : List Turn) (t : Turn) : Typ
   bytes : List ℕ
   rest : List ℕ
   first : FirstRequest bytes t.head rest
-  answers : IsAnswered files (request j t.head) t.answer
+  answers : IsRequestAnswered files (request j t.head) t.answer
   ends : ends_connection j t.head ≡ true → after ≡ []
 
 abbrev heads : List Turn → List RequestHead
@@ -191,7 +191,7 @@ reached-all files k j bytes left [] after t e (rest, first, next) (answers, othe
       bytes = bytes;
       rest = rest;
       first = first;
-      answers = subst (λ (n : ℕ). IsAnswered files (request n t.head) t.answer) same answers;
+      answers = subst (λ (n : ℕ). IsRequestAnswered files (request n t.head) t.answer) same answers;
       ends = λ is. no-heads after (by (ends_connection k t.head) (ap (λ (n : ℕ). ends_connection n t.head) same ∙ is) next);
     }
   where

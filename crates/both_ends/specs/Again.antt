@@ -9,7 +9,7 @@ use Rattle.dap_http.specs.Targets.{target_of}
 use Rattle.dap_http.specs.declared.kind.Kind.TheVariants.{Dods}
 use Rattle.saved_source.specs.Responses.{IsSaved, first_repeated, most_saved, saved_dataset}
 use Rattle.dap_server.specs.Files.{Files, form_of, saved}
-use Rattle.dap_server.specs.Results.{Results, left_of, text_of}
+use Rattle.dap_server.specs.Results.{Results, left_of, result_text}
 use Rattle.both_ends.specs.Ends.{IsGoodResult}
 
 -- the target asks for the whole of a file of that name, which is read as a saved response
@@ -21,7 +21,7 @@ pub record AsksWhole (target name : List ℕ) : Type 0 where
 -- variables stay as they are where each Structure and each Sequence of it has one; its DDS is not too long.
 abbrev pub SavedIsServed : Type 0
 SavedIsServed = (target name bytes : List ℕ) (files : Files) (d : Dataset) (ts : List Tree) → AsksWhole target name → files name ≡ Some bytes → IsSaved bytes name d ts
-    → all_leaves_everywhere d.members ≡ true → length (dds d) ≤ most_text → Results target files (Ok (text_of Dods (body d ts)))
+    → all_leaves_everywhere d.members ≡ true → length (dds d) ≤ most_text → Results target files (Ok (result_text Dods (body d ts)))
 
 -- A data response that a target is answered with, saved under any name as it is, gives its dataset under that
 -- name and its values back where it is asked for without a constraint, unless it is too long or two of its
@@ -30,4 +30,4 @@ abbrev pub WrittenIsServedAgain : Type 0
 WrittenIsServedAgain = (target other name : List ℕ) (files again : Files) (text : List ℕ) (r : IsGoodResult target files text) → AsksWhole other name → again name ≡ Some text → length text ≤ most_saved →
     let left = left_of r.stored r.constraint in
     let d = saved_dataset name left.dataset in
-    first_repeated d ≡ None → length (dds d) ≤ most_text → Results other again (Ok (text_of Dods (body d left.trees)))
+    first_repeated d ≡ None → length (dds d) ≤ most_text → Results other again (Ok (result_text Dods (body d left.trees)))

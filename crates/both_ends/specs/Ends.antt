@@ -9,10 +9,10 @@ use Rattle.grid_projection.specs.Resolved.{cause}
 use Rattle.dap_http.specs.Delivered.{Delivers}
 use Rattle.dap_http.specs.Targets.{target_of}
 use Rattle.dap_http.specs.declared.kind.Kind.TheVariants.{Dods}
-use Rattle.dap_server.specs.Connections.{Connection, IsServed, put_from}
+use Rattle.dap_server.specs.Connections.{Connection, IsConnectionServed, put_from}
 use Rattle.dap_server.specs.Files.{Files, Stored}
 use Rattle.dap_server.specs.Replies.{Request, Turn, is_head, replies, reply_of, request}
-use Rattle.dap_server.specs.Results.{Opens, Results, left_of, text_of}
+use Rattle.dap_server.specs.Results.{Opens, Results, left_of, result_text}
 use Rattle.dap_server.specs.Whole.{AnswersAll}
 use Rattle.dap_server.specs.declared.served.Served.{Served}
 use Rattle.dap_client.specs.Replies.{IsReplyVerdict}
@@ -39,24 +39,24 @@ pub record IsGoodResult (target : List ℕ) (files : Files) (text : List ℕ) : 
 
 -- a data response of fewer than 2^40 bytes that a target is answered with is good
 abbrev pub ResultIsGood : Type 0
-ResultIsGood = (target : List ℕ) (files : Files) (text : List ℕ) → HoldBytes files → Results target files (Ok (text_of Dods text)) → length text < body_limit → IsGoodResult target files text
+ResultIsGood = (target : List ℕ) (files : Files) (text : List ℕ) → HoldBytes files → Results target files (Ok (result_text Dods text)) → length text < body_limit → IsGoodResult target files text
 
 -- one of 2^40 bytes or more is too long for who reads it, and nothing else is wrong with its first 2^40 bytes
 abbrev pub ResultIsTooLong : Type 0
 ResultIsTooLong =
-    (target : List ℕ) (files : Files) (text : List ℕ) → HoldBytes files → Results target files (Ok (text_of Dods text)) → body_limit ≤ length text → IsVerdict dods_form text (bad TooLong body_limit)
+    (target : List ℕ) (files : Files) (text : List ℕ) → HoldBytes files → Results target files (Ok (result_text Dods text)) → body_limit ≤ length text → IsVerdict dods_form text (bad TooLong body_limit)
 
 -- The reply to a request other than HEAD delivers the data response, whole; where it is sent in chunks, whatever stands
 -- behind it.
 abbrev pub ReplyDelivers : Type 0
 ReplyDelivers = (q : Request) (text : List ℕ) → is_head q ≡ false →
-    Delivers (reply_of q (Ok (text_of Dods text))) true text []
-    × ((more : List ℕ) → q.minor ≡ 1 → Delivers (reply_of q (Ok (text_of Dods text)) ++ more) true text more)
+    Delivers (reply_of q (Ok (result_text Dods text))) true text []
+    × ((more : List ℕ) → q.minor ≡ 1 → Delivers (reply_of q (Ok (result_text Dods text)) ++ more) true text more)
 
 -- so that the verdict on the data response, whatever it is, is the verdict on the reply
 abbrev pub ReplyIsJudged : Type 0
 ReplyIsJudged = (q : Request) (text : List ℕ) (v : Verdict) → is_head q ≡ false → IsVerdict dods_form text v
-    → IsReplyVerdict dods_form (reply_of q (Ok (text_of Dods text))) (length text) v
+    → IsReplyVerdict dods_form (reply_of q (Ok (result_text Dods text))) (length text) v
 
 -- ---- What a connection has put.
 
@@ -76,13 +76,13 @@ pub record StandsGood (files : Files) (put : List ℕ) (before : List Turn) (t :
 -- so does the reply of each of these turns that answers GET with a data response of fewer than 2^40 bytes
 abbrev pub StandGood : Files → List ℕ → List Turn → Type 0
 StandGood files put turns =
-    (before after : List Turn) (t : Turn) (text : List ℕ) → turns ≡ before ++ t ∷ after → t.head.method ≡ codes "GET" → t.answer ≡ Ok (text_of Dods text) → length text < body_limit
+    (before after : List Turn) (t : Turn) (text : List ℕ) → turns ≡ before ++ t ∷ after → t.head.method ≡ codes "GET" → t.answer ≡ Ok (result_text Dods text) → length text < body_limit
     → StandsGood files put before t text
 
 -- In every run of `serve_connection`, over a shelf that tells files which hold bytes: the replies in what it put, by
 -- its clause `served`.
 abbrev pub ServedIsGood : Type 0
-ServedIsGood = (files : Files) (taken : List ℕ) (ended : Bool) (c : Connection) (served : Served) → HoldBytes files → IsServed (Some files) taken ended c served → StandGood files (put_from 1 c) c.turns
+ServedIsGood = (files : Files) (taken : List ℕ) (ended : Bool) (c : Connection) (served : Served) → HoldBytes files → IsConnectionServed (Some files) taken ended c served → StandGood files (put_from 1 c) c.turns
 
 -- and in one in which no fault came and memory was had, the replies to all requests of the input, by its clause
 -- `no_fault`

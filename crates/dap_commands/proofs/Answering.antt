@@ -12,7 +12,7 @@ use Rattle.dap_server.proofs.Lying.{some_files}
 use Rattle.dap_server.specs.Costs.{IsCost, IsCostAt, most_first}
 use Rattle.dap_server.specs.Files.{Form, form_of, is_read_first, joined, netcdf, saved, table}
 use Rattle.dap_server.specs.Prepared.{IsOver, MayGive, MustGive}
-use Rattle.dap_server.specs.Results.{AnswersAmong, Text, error_object, text_of}
+use Rattle.dap_server.specs.Results.{AnswersAmong, Text, error_object, result_text}
 use Rattle.dap_server.specs.Steps.{found_or}
 use Rattle.dap_commands.specs.Answer.{AnswerSays, HasNoText, MayAskAs, MayAskFor, MayHaveAsked, MayResult, MustResult, WhereKnown, has_netcdf, is_read_late, looks_up, most_before, status_of}
 use Rattle.dap_commands.specs.inner.Puts.{BodyPut, IsPut, RefusalPut, TextPut, start_of}
@@ -127,10 +127,10 @@ module _ (told : Told) (target : List ℕ) (Out Front Line : List ℕ → Type 0
   refusal_says cause LinkFault may put = absurd put
 
   -- data of which the text is known, and data of which it is not
-  known_says : (text : List ℕ) (status : Status) → IsTrue (looks_up target) → MayResult told target (Ok (text_of Dods text)) → BodyPut text Out Front status → AnswerSays told target Out Front Line status
-  known_says text Complete looks may put = (text_of Dods text, may, where_known told target _ (Out text) put)
+  known_says : (text : List ℕ) (status : Status) → IsTrue (looks_up target) → MayResult told target (Ok (result_text Dods text)) → BodyPut text Out Front status → AnswerSays told target Out Front Line status
+  known_says text Complete looks may put = (result_text Dods text, may, where_known told target _ (Out text) put)
   known_says text ReadFault looks may put = (looks, inr (text, may, where_known told target _ (Front text) put))
-  known_says text WriteFault looks may put = (Ok (text_of Dods text), may, where_known told target _ (Front text) put)
+  known_says text WriteFault looks may put = (Ok (result_text Dods text), may, where_known told target _ (Front text) put)
   known_says text Words looks may put = absurd put
   known_says text Unsaved looks may put = absurd put
   known_says text Refused looks may put = absurd put
@@ -140,11 +140,11 @@ module _ (told : Told) (target : List ℕ) (Out Front Line : List ℕ → Type 0
   known_says text ServerError looks may put = absurd put
   known_says text LinkFault looks may put = absurd put
 
-  hidden_says : (text : List ℕ) (status : Status) → IsTrue (looks_up target) → MayResult told target (Ok (text_of Dods text))
-      → ((P : Type 0) → WhereKnown told target (Ok (text_of Dods text)) P) → IsPut status → AnswerSays told target Out Front Line status
-  hidden_says text Complete looks may hidden put = (text_of Dods text, may, hidden (Out text))
+  hidden_says : (text : List ℕ) (status : Status) → IsTrue (looks_up target) → MayResult told target (Ok (result_text Dods text))
+      → ((P : Type 0) → WhereKnown told target (Ok (result_text Dods text)) P) → IsPut status → AnswerSays told target Out Front Line status
+  hidden_says text Complete looks may hidden put = (result_text Dods text, may, hidden (Out text))
   hidden_says text ReadFault looks may hidden put = (looks, inr (text, may, hidden (Front text)))
-  hidden_says text WriteFault looks may hidden put = (Ok (text_of Dods text), may, hidden (Front text))
+  hidden_says text WriteFault looks may hidden put = (Ok (result_text Dods text), may, hidden (Front text))
   hidden_says text Words looks may hidden put = absurd put
   hidden_says text Unsaved looks may hidden put = absurd put
   hidden_says text Refused looks may hidden put = absurd put
@@ -176,8 +176,8 @@ Body = List ℕ → List ℕ
 
 pub body_says : (told : Told) (target : List ℕ) (Out Front Line : List ℕ → Type 0) (a : Asked) (content : Option (List ℕ)) (text_over : Body) (status : Status)
     → target_of target ≡ Some a → a.kind ≡ Dods → IsTrue (is_some (form_of a.name))
-    → ((bytes : List ℕ) → IsOver a.name content bytes → MayGive told a (Ok (text_of Dods (text_over bytes))))
-    → (text : List ℕ) × MayGive told a (Ok (text_of Dods text))
+    → ((bytes : List ℕ) → IsOver a.name content bytes → MayGive told a (Ok (result_text Dods (text_over bytes))))
+    → (text : List ℕ) × MayGive told a (Ok (result_text Dods text))
     → (IsSome told → IsSome content)
     → ((bytes : List ℕ) → content ≡ Some bytes → BodyPut (text_over bytes) Out Front status)
     → (IsTrue (is_read_first (form_of a.name)) → (bytes : List ℕ) → BodyPut (text_over bytes) Out Front status)
@@ -197,22 +197,22 @@ body_says None target Out Front Line a content text_over status is is_dods has o
         known_says None target Out Front Line (text_over []) status (looks target a is is_dods has) (may_result None target a _ is (over [] (inr first))) (alone first [])
     by_form (Some joined) e =
         hidden_says None target Out Front Line accepted.0 status (looks target a is is_dods has) (may_result None target a _ is accepted.1)
-        (hidden_none target (text_of Dods accepted.0) (late_join target a is is_dods e)) is_put
+        (hidden_none target (result_text Dods accepted.0) (late_join target a is is_dods e)) is_put
     by_form (Some netcdf) e =
         hidden_says None target Out Front Line accepted.0 status (looks target a is is_dods has) (may_result None target a _ is accepted.1)
-        (hidden_none target (text_of Dods accepted.0) (late target a is is_dods e)) is_put
+        (hidden_none target (result_text Dods accepted.0) (late target a is is_dods e)) is_put
 
 -- the body of joined files
 pub joined_says : (told : Told) (target : List ℕ) (Out Front Line : List ℕ → Type 0) (a : Asked) (AreThese : List (List ℕ) → Type 0) (text_over : List (List ℕ) → List ℕ) (status : Status)
     → target_of target ≡ Some a → (a.kind ≡ Dods) × (form_of a.name ≡ Some joined)
-    → ((contents : List (List ℕ)) → AreThese contents → MayGive told a (Ok (text_of Dods (text_over contents))))
-    → (text : List ℕ) × MayGive told a (Ok (text_of Dods text))
+    → ((contents : List (List ℕ)) → AreThese contents → MayGive told a (Ok (result_text Dods (text_over contents))))
+    → (text : List ℕ) × MayGive told a (Ok (result_text Dods text))
     → (IsSome told → (contents : List (List ℕ)) × AreThese contents)
     → ((contents : List (List ℕ)) → AreThese contents → BodyPut (text_over contents) Out Front status)
     → IsPut status → AnswerSays told target Out Front Line status
 joined_says None target Out Front Line a AreThese text_over status is (is_dods, form) over accepted tells put is_put =
     hidden_says None target Out Front Line accepted.0 status (looks target a is is_dods (ap is_some form)) (may_result None target a _ is accepted.1)
-    (hidden_none target (text_of Dods accepted.0) (late_join target a is is_dods form)) is_put
+    (hidden_none target (result_text Dods accepted.0) (late_join target a is is_dods form)) is_put
 joined_says (Some files) target Out Front Line a AreThese text_over status is (is_dods, form) over accepted tells put is_put =
     let (contents, these) = tells refl in
     known_says (Some files) target Out Front Line (text_over contents) status (looks target a is is_dods (ap is_some form)) (may_result (Some files) target a _ is (over contents these)) (put contents these)
@@ -264,7 +264,7 @@ pub asks_first : (told : Told) (target : List ℕ) (a : Asked) (before now : ℕ
 asks_first told target a before now is first = (most_first told a.name + 0, rw is (0, inl refl, refl), omega (arith, first))
 
 pub asks_all : (told : Told) (target : List ℕ) (a : Asked) (before then_ now cost own : ℕ) → target_of target ≡ Some a → then_ ≤ before + most_first told a.name → now ≤ then_ + own → own ≤ cost
-    → (text : List ℕ) × MayGive told a (Ok (text_of Dods text)) → IsCost told a cost → (most : ℕ) × MayAskFor told target most × (now ≤ before + most)
+    → (text : List ℕ) × MayGive told a (Ok (result_text Dods text)) → IsCost told a cost → (most : ℕ) × MayAskFor told target most × (now ≤ before + most)
 asks_all told target a before then_ now cost own is first next few accepted is_cost =
     (most_first told a.name + cost, rw is (cost, inr (accepted, is_cost), refl), omega (arith, first, next, few))
 
@@ -308,7 +308,7 @@ asks_nothing told target before = by_asked (target_of target)
 -- what was asked where a body was put in part
 pub asked_then : (told : Told) (target : List ℕ) (a : Asked) (content : Option (List ℕ)) (text_over : List ℕ → List ℕ) (may_ask : List ℕ → ℕ → ℕ → Type 0) (old new : Option (List ℕ)) (before mid now : ℕ)
     → target_of target ≡ Some a → IsSome told → (IsSome told → IsSome content)
-    → ((bytes : List ℕ) → IsOver a.name content bytes → MayGive told a (Ok (text_of Dods (text_over bytes))))
+    → ((bytes : List ℕ) → IsOver a.name content bytes → MayGive told a (Ok (result_text Dods (text_over bytes))))
     → ((bytes : List ℕ) (put cost : ℕ) → content ≡ Some bytes → may_ask bytes put cost → IsCostAt told a put cost)
     → ((bytes : List ℕ) → content ≡ Some bytes → Stops (text_over bytes) (may_ask bytes) old new mid now)
     → mid ≤ before + most_first told a.name → MayHaveAsked told target old new before now
@@ -324,7 +324,7 @@ asked_then told target a (Some bytes) text_over may_ask old new before mid now i
 -- the same of joined files
 pub joined_asked_then : (told : Told) (target : List ℕ) (a : Asked) (AreThese : List (List ℕ) → Type 0) (text_over : List (List ℕ) → List ℕ) (may_ask : List (List ℕ) → ℕ → ℕ → Type 0) (old new : Option (List ℕ)) (before mid now : ℕ)
     → target_of target ≡ Some a → IsSome told → (IsSome told → (contents : List (List ℕ)) × AreThese contents)
-    → ((contents : List (List ℕ)) → AreThese contents → MayGive told a (Ok (text_of Dods (text_over contents))))
+    → ((contents : List (List ℕ)) → AreThese contents → MayGive told a (Ok (result_text Dods (text_over contents))))
     → ((contents : List (List ℕ)) (put cost : ℕ) → AreThese contents → may_ask contents put cost → IsCostAt told a put cost)
     → ((contents : List (List ℕ)) → AreThese contents → Stops (text_over contents) (may_ask contents) old new mid now)
     → mid ≤ before + most_first told a.name → MayHaveAsked told target old new before now

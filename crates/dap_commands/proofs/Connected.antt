@@ -4,7 +4,7 @@ use Rattle.dap_errors.specs.declared.cause.Cause.{Cause}
 use Rattle.dap_http.specs.Frames.{IsProperFront}
 use Rattle.dap_server.specs.Connections.{AreTurns, Behind, IsClosed, MayAnswer, Stops, behind_text, ends_after, part_of_reply}
 use Rattle.dap_server.specs.Files.{Files}
-use Rattle.dap_server.specs.Replies.{IsAnsweredAmong, Turn, replies, reply_of, request}
+use Rattle.dap_server.specs.Replies.{IsRequestAnsweredAmong, Turn, replies, reply_of, request}
 use Rattle.dap_server.specs.Results.{Text}
 use Rattle.dap_server.specs.declared.served.Ending.{Ending}
 use Rattle.dap_server.specs.declared.served.Ending.TheVariants.{Closed, Gone, ReadFault, WriteFault, Broken}
@@ -14,7 +14,7 @@ use Rattle.dap_commands.specs.ServerHalf.{AnswersGet, Gets, HasResult, IsOrFaile
 
 module _ (target : List ℕ) (files : Files) (r : Result Text Cause) (has : HasResult target files r) where
   or-failed : (k : ℕ) (t : Turn) → Gets target t → MayAnswer (Some files) (request k t.head) t.answer → IsOrFailed r t.answer
-  or-failed k t gets (inl (others, same, answered)) = inl (has.get k t.head t.answer gets.0 gets.1 (subst (λ (fs : Files). IsAnsweredAmong (Some files) fs (request k t.head) t.answer) same answered))
+  or-failed k t gets (inl (others, same, answered)) = inl (has.get k t.head t.answer gets.0 gets.1 (subst (λ (fs : Files). IsRequestAnsweredAmong (Some files) fs (request k t.head) t.answer) same answered))
   or-failed k t gets (inr (inl (failed, served, looks))) = inr (inl failed)
   or-failed k t gets (inr (inr wanted)) = inr (inr wanted)
 

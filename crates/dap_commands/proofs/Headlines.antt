@@ -17,8 +17,8 @@ use Rattle.dap_http.specs.Texts.{IsReplyStatus, description_of, head_text, is_ch
 use Rattle.dap_http.specs.declared.kind.Kind.TheVariants.{Dods}
 use Rattle.dap_http.proofs.Carrying.{carries-data, carries-text}
 use Rattle.dap_server.specs.Files.{Files, Stored}
-use Rattle.dap_server.specs.Replies.{IsAnswered, Request, error_head, is_head, is_last, reply_of, request}
-use Rattle.dap_server.specs.Results.{AnswersAsked, DodsAnswers, Left, Results, ResultsAmong, Text, error_object, left_of, text_of}
+use Rattle.dap_server.specs.Replies.{IsRequestAnswered, Request, error_head, is_head, is_last, reply_of, request}
+use Rattle.dap_server.specs.Results.{AnswersAsked, DodsAnswers, Left, Results, ResultsAmong, Text, error_object, left_of, result_text}
 use Rattle.dap_server.specs.Steps.{found_or, unless}
 use Rattle.dap_server.proofs.Accepted.{accepted_is_served}
 use Rattle.dap_server.proofs.OneAnswer.{one_result}
@@ -61,7 +61,7 @@ one files target name query r other is bytes has given =
 is-get : (q : Request) → q.method ≡ codes "GET" → is_other q.method ≡ false
 is-get q e = rw e refl
 
-getting : (files : Files) (k : ℕ) (head : RequestHead) (target : List ℕ) (answer : Result Text Cause) → head.method ≡ codes "GET" → head.target ≡ target → IsAnswered files (request k head) answer → Results target files answer
+getting : (files : Files) (k : ℕ) (head : RequestHead) (target : List ℕ) (answer : Result Text Cause) → head.method ≡ codes "GET" → head.target ≡ target → IsRequestAnswered files (request k head) answer → Results target files answer
 getting files k head target answer is_get is_target answered =
     subst (λ t. Results t files answer) is_target (by (is_other head.method) (is-get (request k head) is_get) answered)
   where
@@ -82,9 +82,9 @@ has-result files target name query r is bytes has = record {
 pub told : (files : Files) (target : List ℕ) (r : Result Text Cause) → MayResult (Some files) target r → Results target files r
 told files target r (others, same, given) = subst (λ (fs : Files). ResultsAmong (Some files) target fs r) same given
 
-put-body : (files : Files) (target bytes : List ℕ) → HasResult target files (Ok (text_of Dods bytes)) → (Out Front Line : List ℕ → Type 0) → AnswerSays (Some files) target Out Front Line status.Complete → Out bytes
+put-body : (files : Files) (target bytes : List ℕ) → HasResult target files (Ok (result_text Dods bytes)) → (Out Front Line : List ℕ → Type 0) → AnswerSays (Some files) target Out Front Line status.Complete → Out bytes
 put-body files target bytes has Out Front Line (t, may, out) =
-    let same : t ≡ text_of Dods bytes = ok_is t (text_of Dods bytes) (has.only (Ok t) (told files target (Ok t) may)) in
+    let same : t ≡ result_text Dods bytes = ok_is t (result_text Dods bytes) (has.only (Ok t) (told files target (Ok t) may)) in
     subst (λ (x : Text). Out x.text) same out
   where
     ok_is : (v w : Text) → Path (Result Text Cause) (Ok v) (Ok w) → v ≡ w
@@ -119,11 +119,11 @@ put-cause files target why has Out Front Line s (inr e) says = damaged (subst (A
 no-head : (q : Request) → q.method ≡ codes "GET" → is_head q ≡ false
 no-head q e = rw e refl
 
-carried : (bytes : List ℕ) (k : ℕ) (head : RequestHead) → head.method ≡ codes "GET" → Carries (reply_of (request k head) (Ok (text_of Dods bytes))) bytes
+carried : (bytes : List ℕ) (k : ℕ) (head : RequestHead) → head.method ≡ codes "GET" → Carries (reply_of (request k head) (Ok (result_text Dods bytes))) bytes
 carried bytes k head is_get =
     let q : Request = request k head in
     let in_chunks = is_chunked Dods q.minor in
-    let last = is_last q (Ok (text_of Dods bytes)) in
+    let last = is_last q (Ok (result_text Dods bytes)) in
     let all = AllPass-from_list_all is_value_byte (description_of Dods) refl in
     subst (λ b. Carries (head_text 200 (description_of Dods) None in_chunks last ++ (if b then [] else framed in_chunks bytes)) bytes) (sym (no-head q is_get))
     (carries-data 200 (description_of Dods) bytes in_chunks last (inl refl) all)
@@ -196,15 +196,15 @@ refuses files target name query why is bytes has =
     }
 
 serves : (files : Files) (target name query bytes : List ℕ) → target_of target ≡ Some (record { name = name; kind = Dods; query = query }) → IsTrue (list_all is_byte query)
-    → Results target files (Ok (text_of Dods bytes)) → IsServed target files bytes
+    → Results target files (Ok (result_text Dods bytes)) → IsServed target files bytes
 serves files target name query bytes is all_bytes has =
-    let all = has-result files target name query (Ok (text_of Dods bytes)) is all_bytes has in
+    let all = has-result files target name query (Ok (result_text Dods bytes)) is all_bytes has in
     record {
       has = all;
-      complete = λ a status w sound. w.comes (Ok (text_of Dods bytes)) all.must sound.0 sound.1 sound.2;
+      complete = λ a status w sound. w.comes (Ok (result_text Dods bytes)) all.must sound.0 sound.1 sound.2;
       put = λ a w. put-body files target bytes all (Appends a.puts.out a.puts.out_then) (AppendsFront a.puts.out a.puts.out_then) (SaysLine a.puts) w.says;
       carried = carried bytes;
-      answered = answers-get target files (Ok (text_of Dods bytes)) all;
+      answered = answers-get target files (Ok (result_text Dods bytes)) all;
     }
 
 first-cause : (target query : List ℕ) (files : Files) (s : Stored) (why : Cause) → Asks target query files s → IsFirstCause query s why → Results target files (Err why)
@@ -219,7 +219,7 @@ first-cause target query files s why a first =
         inl (
           left,
           inl (c, spells, sym (ap (λ o. unless o left) none)),
-          ap Err is ∙ sym (ap (λ o. unless (option_map (λ k. causes.TooLarge k) o) (text_of Dods (body left.dataset left.trees))) large),
+          ap Err is ∙ sym (ap (λ o. unless (option_map (λ k. causes.TooLarge k) o) (result_text Dods (body left.dataset left.trees))) large),
         )
 
 pub headline : {V W : Type 0} → Headline V W

@@ -13,7 +13,7 @@ use Rattle.dap_outside.specs.Files.{Told}
 use Rattle.dap_server.specs.Costs.{IsCost, IsCostAt, asks_shelf, most_first}
 use Rattle.dap_server.specs.Files.{Files, Form, MayHave, form_of, joined, netcdf, saved, table}
 use Rattle.dap_server.specs.Prepared.{MayGive}
-use Rattle.dap_server.specs.Results.{ResultsAmong, Text, error_object, put_of, text_of}
+use Rattle.dap_server.specs.Results.{ResultsAmong, Text, error_object, put_of, result_text}
 use Rattle.xdr_encode.specs.Streamed.{Stops}
 use Rattle.dap_commands.specs.Lines.{damaged_line, refused_line}
 use Rattle.dap_commands.specs.declared.status.Status.{Status}
@@ -95,7 +95,7 @@ AnswerSays told target Out Front Line Damaged =
     (why : FileCause) × MayResult told target (Err (causes.Damaged why)) × Out (error_object (causes.Damaged why)) × Line (damaged_line (message_text (causes.Damaged why)))
 AnswerSays told target Out Front Line ReadFault =
     IsTrue (looks_up target)
-    × (Out [] ⊎ ((text : List ℕ) × MayResult told target (Ok (text_of Dods text)) × WhereKnown told target (Ok (text_of Dods text)) (Front text)))
+    × (Out [] ⊎ ((text : List ℕ) × MayResult told target (Ok (result_text Dods text)) × WhereKnown told target (Ok (result_text Dods text)) (Front text)))
 AnswerSays told target Out Front Line WriteFault = (r : Result Text Cause) × MayResult told target r × WhereKnown told target r (Front (put_of r))
 AnswerSays told target Out Front Line Memory = Out []
 AnswerSays told target Out Front Line Words = ⊥
@@ -106,7 +106,7 @@ AnswerSays told target Out Front Line ServerError = ⊥
 
 -- the values of a data response may be asked for, and of no other answer
 abbrev pub IsCostOf : Told → Asked → ℕ → Type 0
-IsCostOf told a cost = (cost ≡ 0) ⊎ (((text : List ℕ) × MayGive told a (Ok (text_of Dods text))) × IsCost told a cost)
+IsCostOf told a cost = (cost ≡ 0) ⊎ (((text : List ℕ) × MayGive told a (Ok (result_text Dods text))) × IsCost told a cost)
 
 -- the most that is asked for a target: the first read of its file, and the cost of its values
 abbrev pub MayAskAs : Told → Option Asked → ℕ → Type 0
@@ -139,7 +139,7 @@ abbrev pub MayHaveAskedAs : Told → Option Asked → Option (List ℕ) → Opti
 MayHaveAskedAs told None old new before now = now ≤ before
 MayHaveAskedAs told (Some a) old new before now =
     (now ≤ before + most_first told a.name)
-    ⊎ ((text : List ℕ) × MayGive told a (Ok (text_of Dods text)) × Stops text (IsCostAt told a) old new (before + most_first told a.name) now)
+    ⊎ ((text : List ℕ) × MayGive told a (Ok (result_text Dods text)) × Stops text (IsCostAt told a) old new (before + most_first told a.name) now)
 
 abbrev pub MayHaveAsked : Told → List ℕ → Option (List ℕ) → Option (List ℕ) → ℕ → ℕ → Type 0
 MayHaveAsked told target old new before now = MayHaveAskedAs told (target_of target) old new before now

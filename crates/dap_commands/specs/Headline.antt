@@ -36,15 +36,15 @@ served s c = let left = left_of s c in record { bytes = served_body s c; dataset
 -- before others.
 pub record IsReadBack (s : Stored) (c : Constraint) : Type 0 where
   pub is_response : IsResponse (served s c)
-  pub alone : (k : ℕ) (head : RequestHead) → head.method ≡ codes "GET" → AreReplies (served s c ∷ []) (reply_of (request k head) (Ok (results.text_of Dods (served_body s c))))
+  pub alone : (k : ℕ) (head : RequestHead) → head.method ≡ codes "GET" → AreReplies (served s c ∷ []) (reply_of (request k head) (Ok (results.result_text Dods (served_body s c))))
   pub before : (k : ℕ) (head : RequestHead) (rs : List Response) (more : List ℕ) → head.method ≡ codes "GET" → head.minor ≡ 1 → AreReplies rs more
-      → AreReplies (served s c ∷ rs) (reply_of (request k head) (Ok (results.text_of Dods (served_body s c))) ++ more)
+      → AreReplies (served s c ∷ rs) (reply_of (request k head) (Ok (results.result_text Dods (served_body s c))) ++ more)
 
 -- It has 2^40 bytes or more: who reads it refuses it as too long, alone and where the reply to GET carries it.
 pub record IsTooLong (s : Stored) (c : Constraint) : Type 0 where
   pub verdict : IsVerdict dods_form (served_body s c) (bad TooLong body_limit)
   pub carried : (k : ℕ) (head : RequestHead) → head.method ≡ codes "GET"
-      → IsReplyVerdict dods_form (reply_of (request k head) (Ok (results.text_of Dods (served_body s c)))) (length (served_body s c)) (bad TooLong body_limit)
+      → IsReplyVerdict dods_form (reply_of (request k head) (Ok (results.result_text Dods (served_body s c)))) (length (served_body s c)) (bad TooLong body_limit)
   pub shown : (w : Showing) (status : Status) → Shows w status → w.left ≡ Some (served_body s c) → IsShownTooLong w status
 
 -- over the links V of a door and W of a dial

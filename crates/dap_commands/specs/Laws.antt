@@ -7,7 +7,7 @@ use Rattle.dap_http.specs.Targets.{target_of}
 use Rattle.dap_http.specs.declared.kind.Kind.TheVariants.{Dods}
 use Rattle.dap_server.specs.Connections.{put_from}
 use Rattle.dap_server.specs.Files.{Files, form_of, front, netcdf}
-use Rattle.dap_server.specs.Results.{Results, text_of}
+use Rattle.dap_server.specs.Results.{Results, result_text}
 use Rattle.netcdf_source.specs.Header.{IsHeader}
 use Rattle.netcdf_source.specs.Mapping.{dataset_of}
 use Rattle.netcdf_source.specs.Values.{file_trees}
@@ -48,6 +48,6 @@ pub record IsSameFile (c : Contents) (file saved : List ℕ) : Type 0 where
 -- The data response that such a target is answered with, over files which hold bytes: where it is saved, the output gained a
 -- netCDF file of the same dataset and values.
 abbrev pub AnswerIsSaved : Type 0
-AnswerIsSaved = (target name file text : List ℕ) (files : Files) → AsksFile target name file files → HoldBytes files → Results target files (Ok (text_of Dods text))
+AnswerIsSaved = (target name file text : List ℕ) (files : Files) → AsksFile target name file files → HoldBytes files → Results target files (Ok (result_text Dods text))
     → (before now : Option (List ℕ)) (bytes : ℕ) → Judges text before now (Written bytes)
     → (c : Contents) × IsHeader c (front file) (length file) × ((saved : List ℕ) × Appends before now saved × (bytes ≡ length saved) × IsSameFile c file saved)

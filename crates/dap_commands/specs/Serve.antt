@@ -8,7 +8,7 @@ use Rattle.dap_outside.specs.Causes.{Rose}
 use Rattle.dap_outside.specs.Files.{Told}
 use Rattle.dap_outside.specs.Links.{IsNew, LinkState}
 use Rattle.dap_outside.specs.Streams.{AppendsFront}
-use Rattle.dap_server.specs.Connections.{Connection, ConnectionMayAsk, IsPut, IsServed, RoseBy, RoseFor, failures, leaves_open}
+use Rattle.dap_server.specs.Connections.{Connection, ConnectionMayAsk, IsConnectionServed, IsPut, RoseBy, RoseFor, failures, leaves_open}
 use Rattle.dap_server.specs.Files.{Files}
 use Rattle.dap_server.specs.Whole.{AnswersAll}
 use Rattle.dap_server.specs.declared.served.Ending.{Ending}
@@ -47,7 +47,7 @@ pub record Visit (W : Type 0) : Type 0 where
 pub record IsServedOn (told : Told) (came back : LinkState) (c : Connection) (served : Served) (most : ℕ) : Type 0 where
   pub is_new : IsNew came
   pub whole : back.whole ≡ came.whole
-  pub requests : (taken : List ℕ) × Consumes came.left back.left taken × IsServed told taken back.ended c served
+  pub requests : (taken : List ℕ) × Consumes came.left back.left taken × IsConnectionServed told taken back.ended c served
   pub gained : (put : List ℕ) × Appends came.written back.written put × IsPut told 1 c put
   pub causes : RoseFor served.ending came.take_faults back.take_faults came.put_faults back.put_faults
   pub asks : ConnectionMayAsk told c most

@@ -24,8 +24,8 @@ use Rattle.dap_outside.specs.Streams.{AppendsFront}
 use Rattle.dap_server.specs.Connections.{Connection, part_of_reply, put_from}
 use Rattle.dap_server.specs.Connections as connections
 use Rattle.dap_server.specs.Files.{Files, Stored}
-use Rattle.dap_server.specs.Replies.{IsAnswered, Turn, replies, reply_of, request}
-use Rattle.dap_server.specs.Results.{Opens, Results, Text, error_object, left_of, text_of}
+use Rattle.dap_server.specs.Replies.{IsRequestAnswered, Turn, replies, reply_of, request}
+use Rattle.dap_server.specs.Results.{Opens, Results, Text, error_object, left_of, result_text}
 use Rattle.dap_server.specs.declared.served.Served.{Served}
 use Rattle.both_ends.specs.Ends.{reply_behind}
 use Rattle.dap_commands.specs.Answer.{AnswerSays, MustResult, status_for, status_of}
@@ -61,7 +61,7 @@ served_body s c = let left = left_of s c in dds left.dataset ++ codes "Data:\n" 
 pub record HasResult (target : List ℕ) (files : Files) (r : Result Text Cause) : Type 0 where
   pub must : MustResult (Some files) target r
   pub only : (other : Result Text Cause) → Results target files other → other ≡ r
-  pub get : (k : ℕ) (head : RequestHead) (answer : Result Text Cause) → head.method ≡ codes "GET" → head.target ≡ target → IsAnswered files (request k head) answer → answer ≡ r
+  pub get : (k : ℕ) (head : RequestHead) (answer : Result Text Cause) → head.method ≡ codes "GET" → head.target ≡ target → IsRequestAnswered files (request k head) answer → answer ≡ r
 
 -- what a run did to its output and to standard error, and how often these failed
 pub record Puts : Type 0 where
@@ -112,9 +112,9 @@ Gets target t = (t.head.method ≡ codes "GET") × (t.head.target ≡ target)
 -- In every run of `serve_connection` over a shelf that tells these files, by its clause `served`: each turn that gets
 -- the target is answered so, and so is one whose reply broke off.
 pub record AnswersGet (target : List ℕ) (files : Files) (r : Result Text Cause) : Type 0 where
-  pub whole : (taken : List ℕ) (ended : Bool) (c : Connection) (served : Served) → connections.IsServed (Some files) taken ended c served
+  pub whole : (taken : List ℕ) (ended : Bool) (c : Connection) (served : Served) → connections.IsConnectionServed (Some files) taken ended c served
       → (before after : List Turn) (t : Turn) → c.turns ≡ before ++ t ∷ after → Gets target t → StandsAnswered (put_from 1 c) before t r
-  pub broken_off : (taken : List ℕ) (ended : Bool) (c : Connection) (served : Served) → connections.IsServed (Some files) taken ended c served
+  pub broken_off : (taken : List ℕ) (ended : Bool) (c : Connection) (served : Served) → connections.IsConnectionServed (Some files) taken ended c served
       → (t : Turn) (part : List ℕ) → c.behind ≡ part_of_reply t part → Gets target t
       → IsOrFailed r t.answer × IsProperFront part (reply_behind c.turns t)
 
@@ -123,11 +123,11 @@ pub record AnswersGet (target : List ℕ) (files : Files) (r : Result Text Cause
 -- `answer` is complete but for faults and want of memory, and wherever it is, it put the body; the reply to GET
 -- carries it; and on every connection GET is answered by it
 pub record IsServed (target : List ℕ) (files : Files) (body : List ℕ) : Type 0 where
-  pub has : HasResult target files (Ok (text_of Dods body))
+  pub has : HasResult target files (Ok (result_text Dods body))
   pub complete : (a : Answering) (status : Status) → Says target files a status → IsSound a status → status ≡ Complete
   pub put : (a : Answering) → Says target files a Complete → Appends a.puts.out a.puts.out_then body
-  pub carried : (k : ℕ) (head : RequestHead) → head.method ≡ codes "GET" → Carries (reply_of (request k head) (Ok (text_of Dods body))) body
-  pub answered : AnswersGet target files (Ok (text_of Dods body))
+  pub carried : (k : ℕ) (head : RequestHead) → head.method ≡ codes "GET" → Carries (reply_of (request k head) (Ok (result_text Dods body))) body
+  pub answered : AnswersGet target files (Ok (result_text Dods body))
 
 -- It is never complete for a cause, but refused or the file damaged, and wherever it is, it put the Error object of
 -- this one; the reply to GET carries that, and on every connection GET is answered by it.

@@ -4,7 +4,7 @@ use Rattle.dap_errors.specs.declared.cause.Cause.TheVariants.{BadTarget, TooLarg
 use Rattle.dap_http.specs.declared.kind.Kind.TheVariants.{Dods}
 use Rattle.dap_model.specs.Body.{body}
 use Rattle.dap_server.specs.Laws.{AcceptedIsServed}
-use Rattle.dap_server.specs.Results.{Left, left_of, text_of}
+use Rattle.dap_server.specs.Results.{Left, left_of, result_text}
 use Rattle.dap_server.specs.Steps.{found_or, unless}
 
 pub accepted_is_served : AcceptedIsServed
@@ -19,7 +19,7 @@ accepted_is_served target name query files s c is_asked opens spells accepted sm
         inl (
           left,
           inl (c, spells, sym (ap (λ o. unless o left) accepted)),
-          sym (ap (λ o. unless (option_map (λ leaf. TooLarge leaf) o) (text_of Dods (body left.dataset left.trees))) small),
+          sym (ap (λ o. unless (option_map (λ leaf. TooLarge leaf) o) (result_text Dods (body left.dataset left.trees))) small),
         ),
       ),
     )

@@ -19,7 +19,7 @@ use Rattle.dap_server.specs.Costs.{IsCost, IsFormCost, asks_shelf, most_first}
 use Rattle.dap_server.specs.Files.{form_of, saved}
 use Rattle.dap_server.specs.Prepared.{MayGive}
 use Rattle.dap_server.specs.Replies.{Request, is_head, reply_of}
-use Rattle.dap_server.specs.Results.{text_of}
+use Rattle.dap_server.specs.Results.{result_text}
 use Rattle.dap_server.specs.declared.reply_outcome.Answered.{Answered}
 use Rattle.dap_server.specs.declared.reply_outcome.Answered.TheVariants as answered
 use Rattle.dap_server.specs.inner.Serving.{Answers, AnswersWith, Costs, PutsCause, PutsFramed, PutsReply, PutsText, PutsValues, SaysWhole, ShelfRose, SinkRose, Stand, answered_by, broken, data_front, is_open}
@@ -69,15 +69,15 @@ whole-only bytes status last old new answered.Broken p = absurd p
 whole-only bytes status last old new answered.WriteFault p = refl
 
 pub head-answer : (told : Told) (q : Request) (a : Asked) (front : List ℕ) (s z : Stand) (result : Answered) → is_head q ≡ true → front ≡ data_front q → is_other q.method ≡ false → target_of q.target ≡ Some a
-    → PutsText front 200 q.ends s.written z.written result → ((text : List ℕ) × MayGive told a (Ok (text_of Dods text))) → z.faults ≡ s.faults
+    → PutsText front 200 q.ends s.written z.written result → ((text : List ℕ) × MayGive told a (Ok (result_text Dods text))) → z.faults ≡ s.faults
     → ((cost : ℕ) × IsCost told a cost × (z.asked ≤ s.asked + cost)) → AnswersWith (Costs told a) told q s z result
 head-answer told q a front s z result head is served target puts (text, may) same costs =
-    let put : PutsReply q (Ok (text_of Dods text)) s.written z.written result =
-    reply-put q (Ok (text_of Dods text)) front 200 q.ends s.written z.written result (head-reply q text front head is) refl (or-false q.ends) puts in
+    let put : PutsReply q (Ok (result_text Dods text)) s.written z.written result =
+    reply-put q (Ok (result_text Dods text)) front 200 q.ends s.written z.written result (head-reply q text front head is) refl (or-false q.ends) puts in
     let none : broken result ≡ 0 = whole-only front 200 q.ends s.written z.written result puts in (
-      Ok (text_of Dods text),
+      Ok (result_text Dods text),
       gives told q a _ served target may,
-      reply-known told q (Ok (text_of Dods text)) s.written z.written result put,
+      reply-known told q (Ok (result_text Dods text)) s.written z.written result put,
       calm _ _ s.faults z.faults (omega (arith, none)) same,
       costs,
     )
@@ -95,18 +95,18 @@ with-first told told1 q a w f f1 s s1 z result target calmly few same answers =
     )
 
 pub text-answer : (told : Told) (q : Request) (a : Asked) (kind : Kind) (text : List ℕ) (w w2 : Option (List ℕ)) (f f1 s s1 : ℕ) (result : Answered) → kind ≢ Dods → is_other q.method ≡ false → target_of q.target ≡ Some a
-    → MayGive told a (Ok (text_of kind text)) → f1 ≡ f → s1 ≤ s + most_first told a.name
-    → (PutsReply q (Ok (text_of kind text)) w w2 result ⊎ PutsReply q (Err OutOfMemory) w w2 result) → Answers told q (stand w f s) (stand w2 f1 s1) result
+    → MayGive told a (Ok (result_text kind text)) → f1 ≡ f → s1 ≤ s + most_first told a.name
+    → (PutsReply q (Ok (result_text kind text)) w w2 result ⊎ PutsReply q (Err OutOfMemory) w w2 result) → Answers told q (stand w f s) (stand w2 f1 s1) result
 text-answer told q a kind text w w2 f f1 s s1 result other served target may same few (inl puts) =
     let none : broken result ≡ 0 = text-whole kind text w w2 result other puts in (
-      Ok (text_of kind text),
+      Ok (result_text kind text),
       gives told q a _ served target may,
-      reply-known told q (Ok (text_of kind text)) w w2 result puts,
+      reply-known told q (Ok (result_text kind text)) w w2 result puts,
       calm _ _ f f1 (omega (arith, none)) same,
       text-asks told (target_of q.target) a kind text s s1 other target few,
     )
   where
-    text-whole : (k : Kind) (t : List ℕ) (old new : Option (List ℕ)) (r : Answered) → k ≢ Dods → PutsReply q (Ok (text_of k t)) old new r → broken r ≡ 0
+    text-whole : (k : Kind) (t : List ℕ) (old new : Option (List ℕ)) (r : Answered) → k ≢ Dods → PutsReply q (Ok (result_text k t)) old new r → broken r ≡ 0
     text-whole k t old new (answered.Whole status last) o p = refl
     text-whole k t old new answered.WriteFault o p = refl
     text-whole Dods t old new answered.Broken o p = absurd (o refl)
@@ -118,21 +118,21 @@ text-answer told q a kind text w w2 f f1 s s1 result other served target may sam
 
 -- the data response for what is left of a saved one, for which nothing more is asked
 saved-asks : (told : Told) (o : Option Asked) (a : Asked) (text : List ℕ) (asked asked' : ℕ) → o ≡ Some a → form_of a.name ≡ Some saved → asked' ≤ asked + most_first told a.name
-    → (n : ℕ) × MayAsk told o (Ok (text_of Dods text)) n × (asked' ≤ asked + n)
+    → (n : ℕ) × MayAsk told o (Ok (result_text Dods text)) n × (asked' ≤ asked + n)
 saved-asks told o a text asked asked' target form few = (
   most_first told a.name + 0,
-  subst (λ p. MayAsk told p (Ok (text_of Dods text)) (most_first told a.name + 0)) (sym target) (0, subst (λ f. IsFormCost f told a.name a.query 0) (sym form) refl, refl),
+  subst (λ p. MayAsk told p (Ok (result_text Dods text)) (most_first told a.name + 0)) (sym target) (0, subst (λ f. IsFormCost f told a.name a.query 0) (sym form) refl, refl),
   omega (arith, few),
 )
 
 pub saved-answer : (told : Told) (q : Request) (a : Asked) (text : List ℕ) (w w2 : Option (List ℕ)) (f f1 s s1 : ℕ) (result : Answered) → is_other q.method ≡ false → target_of q.target ≡ Some a → form_of a.name ≡ Some saved
-    → MayGive told a (Ok (text_of Dods text)) → f1 ≡ f → s1 ≤ s + most_first told a.name
-    → (PutsText (reply_of q (Ok (text_of Dods text))) 200 q.ends w w2 result ⊎ PutsReply q (Err OutOfMemory) w w2 result) → Answers told q (stand w f s) (stand w2 f1 s1) result
+    → MayGive told a (Ok (result_text Dods text)) → f1 ≡ f → s1 ≤ s + most_first told a.name
+    → (PutsText (reply_of q (Ok (result_text Dods text))) 200 q.ends w w2 result ⊎ PutsReply q (Err OutOfMemory) w w2 result) → Answers told q (stand w f s) (stand w2 f1 s1) result
 saved-answer told q a text w w2 f f1 s s1 result served target form may same few (inl puts) =
-    let none : broken result ≡ 0 = whole-only (reply_of q (Ok (text_of Dods text))) 200 q.ends w w2 result puts in (
-      Ok (text_of Dods text),
+    let none : broken result ≡ 0 = whole-only (reply_of q (Ok (result_text Dods text))) 200 q.ends w w2 result puts in (
+      Ok (result_text Dods text),
       gives told q a _ served target may,
-      reply-known told q (Ok (text_of Dods text)) w w2 result (reply-put q (Ok (text_of Dods text)) _ 200 q.ends w w2 result refl refl (or-false q.ends) puts),
+      reply-known told q (Ok (result_text Dods text)) w w2 result (reply-put q (Ok (result_text Dods text)) _ 200 q.ends w w2 result refl refl (or-false q.ends) puts),
       calm _ _ f f1 (omega (arith, none)) same,
       saved-asks told (target_of q.target) a text s s1 target form few,
     )

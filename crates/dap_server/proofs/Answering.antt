@@ -16,7 +16,7 @@ use Rattle.grid_projection.specs.Resolved.{cause}
 use Rattle.sequence_select.specs.Selections.{selections}
 use Rattle.dap_http.specs.declared.kind.Kind.TheVariants.{Dds, Dods}
 use Rattle.dap_server.specs.Files.{Stored}
-use Rattle.dap_server.specs.Results.{DdsAnswers, DodsAnswers, Leaves, Left, Text, left_of, text_of}
+use Rattle.dap_server.specs.Results.{DdsAnswers, DodsAnswers, Leaves, Left, Text, left_of, result_text}
 use Rattle.dap_server.specs.Steps.{unless}
 use Rattle.dap_server.specs.inner.Marking.{IsRefusedOn}
 use Rattle.dap_server.specs.inner.Opening.{WhereRefused, dataset_in, stored_of}
@@ -35,9 +35,9 @@ leaves_refused s query d why is_d (inr (c, spells, is)) =
     inl (c, spells, sym (ap (λ o. unless o (left_of s c)) (ap (λ e. cause e c) (sym is_d) ∙ is)))
 
 abbrev dds_or_long : List ℕ → Result Text Cause
-dds_or_long text = if nat_lt 16777216 (length text) then Err (TooLarge 0) else Ok (text_of Dds text)
+dds_or_long text = if nat_lt 16777216 (length text) then Err (TooLarge 0) else Ok (result_text Dds text)
 
-is_short : (text : List ℕ) → length text ≤ 16777216 → Ok (text_of Dds text) ≡ dds_or_long text
+is_short : (text : List ℕ) → length text ≤ 16777216 → Ok (result_text Dds text) ≡ dds_or_long text
 is_short text short =
     let test : nat_lt 16777216 (length text) ≡ false = grind (arith, nat_tests) in
     rw test refl
@@ -52,12 +52,12 @@ same_dds : (s : Stored) (d : Dataset) (c : Constraint) (m : Marks) → d ≡ s.d
 same_dds s d c m is_d is_m = ap (λ n. dds (constrained n d)) is_m ∙ ap (λ e. dds (constrained (marks e c) e)) is_d
 
 pub dds_short : (s : Stored) (query : List ℕ) (d : Dataset) (c : Constraint) (m : Marks) (text : List ℕ) → d ≡ s.dataset → Spells query c → cause d c ≡ None → m ≡ marks d c
-    → text ≡ dds (constrained m d) → length text ≤ 16777216 → DdsAnswers s query (Ok (text_of Dds text))
+    → text ≡ dds (constrained m d) → length text ≤ 16777216 → DdsAnswers s query (Ok (result_text Dds text))
 dds_short s query d c m text is_d spells accepted is_m is_text short =
     inl (
       left_of s c,
       leaves_marked s query d c is_d spells accepted,
-      subst (λ t. Ok (text_of Dds text) ≡ dds_or_long t) (is_text ∙ same_dds s d c m is_d is_m) (is_short text short),
+      subst (λ t. Ok (result_text Dds text) ≡ dds_or_long t) (is_text ∙ same_dds s d c m is_d is_m) (is_short text short),
     )
 
 pub dds_long : (s : Stored) (query : List ℕ) (d : Dataset) (c : Constraint) (m : Marks) (text : List ℕ) → d ≡ s.dataset → Spells query c → cause d c ≡ None → m ≡ marks d c
@@ -86,11 +86,11 @@ dods_large s query d c m leaf is_d spells accepted is_m large =
     inl (
       left,
       leaves_marked s query d c is_d spells accepted,
-      sym (ap (λ o. unless (option_map (λ n. TooLarge n) o) (text_of Dods (body left.dataset left.trees))) (sym (same_size s d c m is_d is_m) ∙ large)),
+      sym (ap (λ o. unless (option_map (λ n. TooLarge n) o) (result_text Dods (body left.dataset left.trees))) (sym (same_size s d c m is_d is_m) ∙ large)),
     )
 
 pub dods_small : (s : Stored) (query : List ℕ) (d : Dataset) (c : Constraint) (m : Marks) (text : List ℕ) → d ≡ s.dataset → Spells query c → cause d c ≡ None → m ≡ marks d c
-    → too_large (constrained m d) ≡ None → text ≡ body (constrained m d) (constrained_trees m (kept (selections d c)) d s.trees) → DodsAnswers s query (Ok (text_of Dods text))
+    → too_large (constrained m d) ≡ None → text ≡ body (constrained m d) (constrained_trees m (kept (selections d c)) d s.trees) → DodsAnswers s query (Ok (result_text Dods text))
 dods_small s query d c m text is_d spells accepted is_m small is_text =
     let left : Left = left_of s c in
     let whole : text ≡ body left.dataset left.trees =
@@ -99,8 +99,8 @@ dods_small s query d c m text is_d spells accepted is_m small is_text =
     inl (
       left,
       leaves_marked s query d c is_d spells accepted,
-      ap (λ t. Ok (text_of Dods t)) whole
-          ∙ sym (ap (λ o. unless (option_map (λ n. TooLarge n) o) (text_of Dods (body left.dataset left.trees))) (sym (same_size s d c m is_d is_m) ∙ small)),
+      ap (λ t. Ok (result_text Dods t)) whole
+          ∙ sym (ap (λ o. unless (option_map (λ n. TooLarge n) o) (result_text Dods (body left.dataset left.trees))) (sym (same_size s d c m is_d is_m) ∙ small)),
     )
 
 -- by the stop

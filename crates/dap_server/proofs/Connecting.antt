@@ -10,7 +10,7 @@ use Rattle.dap_http.specs.declared.head_reader.Head.{Head}
 use Rattle.dap_http.proofs.Feeds.{request-feed}
 use Rattle.dap_outside.specs.Causes.{Rose}
 use Rattle.dap_outside.specs.Files.{Told}
-use Rattle.dap_server.specs.Connections.{ArePut, Behind, Connection, ConnectionMayAsk, FailedBy, IsPut, IsServed, RoseFor, behind_text, failures, leaves_open, nothing, part_of_refusal, part_of_reply, put_from, refusal}
+use Rattle.dap_server.specs.Connections.{ArePut, Behind, Connection, ConnectionMayAsk, FailedBy, IsConnectionServed, IsPut, RoseFor, behind_text, failures, leaves_open, nothing, part_of_refusal, part_of_reply, put_from, refusal}
 use Rattle.dap_server.specs.Files.{Files}
 use Rattle.dap_server.specs.Replies.{Turn, replies, reply_of, request}
 use Rattle.dap_server.specs.Whole.{AnswersAll}
@@ -103,7 +103,7 @@ told-put None k c w w1 some puts = cc some
 told-put (Some files) k c w w1 some (put, appends, is) = subst (Appends w w1) (told-turns files k c.turns c.behind put is) appends
 
 pub served-so : (told : Told) (l l1 w w1 : Option (List ℕ)) (f f1 s s1 : ℕ) (ended : Bool) (served : Served) → ServesFrom 0 0 told [] l l1 (stand w f s) (stand w1 f1 s1) ended served
-    → (c : Connection) × (taken : List ℕ) × Consumes l l1 taken × ((put : List ℕ) × Appends w w1 put × IsPut told 1 c put) × IsServed told taken ended c served
+    → (c : Connection) × (taken : List ℕ) × Consumes l l1 taken × ((put : List ℕ) × Appends w w1 put × IsPut told 1 c put) × IsConnectionServed told taken ended c served
     × FailedBy (failures c served.ending) (leaves_open c.turns served.ending c.behind) f f1 × ((n : ℕ) × ConnectionMayAsk told c n × (s1 ≤ s + n))
 served-so told l l1 w w1 f f1 s s1 ended served serves = serves
 

@@ -12,7 +12,7 @@ use Rattle.dap_server.proofs.Making as making
 use Rattle.dap_server.specs.Costs.{IsFormCost, IsFormCostAt}
 use Rattle.dap_server.specs.Files.{Form, form_of, is_read_first, netcdf, saved}
 use Rattle.dap_server.specs.Prepared.{IsOver}
-use Rattle.dap_server.specs.Results.{DodsAnswers, text_of}
+use Rattle.dap_server.specs.Results.{DodsAnswers, result_text}
 use Rattle.dap_server.specs.inner.Opening.{Has, IsHeldBy, IsRead, Lies, OpenedAs, stored_of}
 use Rattle.dap_server.specs.inner.Preparing.{MayGiveAs, WhereOfFile, WhereOfSaved}
 use Rattle.dap_server.specs.declared.data_body.DataBody.{DataBody}
@@ -38,16 +38,16 @@ held_by content name bytes held ts (opened.Saved s) fit is_read is over = tt
 
 -- the data response over the bytes of its file
 pub over : (told : Told) (content : Option (List ℕ)) (size : ℕ) (name query bytes : List ℕ) (ts : List Tree) (o : Opened) (d : DataBody) → TellsBytes content → Lies told content size name bytes → OpenedAs o name bytes ts
-    → WhereOfFile d (λ b. (bytes held : List ℕ) (ts : List Tree) → OpenedAs o name bytes ts → IsHeldBy o bytes held → DodsAnswers (stored_of o name ts) query (Ok (text_of Dods (text_in b held))))
-    → WhereOfFile d (λ b. (held : List ℕ) → IsOver name content held → MayGiveAs told Dods name query (Ok (text_of Dods (text_in b held))))
+    → WhereOfFile d (λ b. (bytes held : List ℕ) (ts : List Tree) → OpenedAs o name bytes ts → IsHeldBy o bytes held → DodsAnswers (stored_of o name ts) query (Ok (result_text Dods (text_in b held))))
+    → WhereOfFile d (λ b. (held : List ℕ) → IsOver name content held → MayGiveAs told Dods name query (Ok (result_text Dods (text_in b held))))
 over told content size name query bytes ts o (bodies.OfFile b) fit l is text = λ held is_over.
     making.follows told content size name bytes ts o (λ s. DodsAnswers s query) _ l is (text bytes held ts is (held_by content name bytes held ts o fit l.is_read is is_over))
 over told content size name query bytes ts o (bodies.Saved b) fit l is text = tt
 
 -- that of a saved response
 pub sends : (told : Told) (content : Option (List ℕ)) (size : ℕ) (name query bytes : List ℕ) (ts : List Tree) (o : Opened) (d : DataBody) → Lies told content size name bytes → OpenedAs o name bytes ts
-    → WhereOfSaved d (λ b. (bytes : List ℕ) (ts : List Tree) → OpenedAs o name bytes ts → (text : List ℕ) × Sends b text × DodsAnswers (stored_of o name ts) query (Ok (text_of Dods text)))
-    → WhereOfSaved d (λ b. (text : List ℕ) × Sends b text × MayGiveAs told Dods name query (Ok (text_of Dods text)))
+    → WhereOfSaved d (λ b. (bytes : List ℕ) (ts : List Tree) → OpenedAs o name bytes ts → (text : List ℕ) × Sends b text × DodsAnswers (stored_of o name ts) query (Ok (result_text Dods text)))
+    → WhereOfSaved d (λ b. (text : List ℕ) × Sends b text × MayGiveAs told Dods name query (Ok (result_text Dods text)))
 sends told content size name query bytes ts o (bodies.OfFile b) l is sent = tt
 sends told content size name query bytes ts o (bodies.Saved b) l is sent =
     let (text, sends, answers) = sent bytes ts is in
@@ -60,7 +60,7 @@ of_saved name bytes ts o (bodies.Saved b) is named = named bytes ts is
 
 -- some response there is
 pub accepted : (told : Told) (content : Option (List ℕ)) (size : ℕ) (name query bytes : List ℕ) (ts : List Tree) (o : Opened) → Lies told content size name bytes → OpenedAs o name bytes ts
-    → ((bytes : List ℕ) (ts : List Tree) → OpenedAs o name bytes ts → (text : List ℕ) × DodsAnswers (stored_of o name ts) query (Ok (text_of Dods text))) → (text : List ℕ) × MayGiveAs told Dods name query (Ok (text_of Dods text))
+    → ((bytes : List ℕ) (ts : List Tree) → OpenedAs o name bytes ts → (text : List ℕ) × DodsAnswers (stored_of o name ts) query (Ok (result_text Dods text))) → (text : List ℕ) × MayGiveAs told Dods name query (Ok (result_text Dods text))
 accepted told content size name query bytes ts o l is some =
     let (text, answers) = some bytes ts is in
     (text, making.follows told content size name bytes ts o (λ s. DodsAnswers s query) _ l is answers)

@@ -12,7 +12,7 @@ use Rattle.dap_http.specs.declared.kind.Kind.TheVariants.{Dds, Das, Dods, Ver}
 use Rattle.dap_outside.specs.Files.{Told}
 use Rattle.dap_server.specs.Files.{Files}
 use Rattle.dap_server.specs.Prepared.{MayGive}
-use Rattle.dap_server.specs.Results.{AnswersAmong, Text, text_of}
+use Rattle.dap_server.specs.Results.{AnswersAmong, Text, result_text}
 use Rattle.dap_server.specs.Steps.{unless}
 
 abbrev kind_in : Result Text Cause → Kind
@@ -22,7 +22,7 @@ kind_in (Err cause) = Ver
 body-some : (d : Dataset) (ts : List Tree) → 0 < length (body d ts)
 body-some d ts = omega (arith, length-append (dds d ++ codes "Data:\n") (xdr d ts), length-append (dds d) (codes "Data:\n"))
 
-no-dds : (long : Bool) (text other : List ℕ) → Ok (text_of Dods text) ≡ (if long then Err (TooLarge 0) else Ok (text_of Dds other)) → ⊥
+no-dds : (long : Bool) (text other : List ℕ) → Ok (result_text Dods text) ≡ (if long then Err (TooLarge 0) else Ok (result_text Dds other)) → ⊥
 no-dds true text other is = cc is
 no-dds false text other is = cc (ap kind_in is)
 
@@ -30,14 +30,14 @@ abbrev text_in : Result Text Cause → List ℕ
 text_in (Ok t) = t.text
 text_in (Err cause) = []
 
-text-is : (text : List ℕ) (r : Result Text Cause) → Ok (text_of Dods text) ≡ r → text ≡ text_in r
+text-is : (text : List ℕ) (r : Result Text Cause) → Ok (result_text Dods text) ≡ r → text ≡ text_in r
 text-is text r is = ap text_in is
 
-of-body : (o : Option ℕ) (d : Dataset) (ts : List Tree) (text : List ℕ) → Ok (text_of Dods text) ≡ unless (option_map (λ leaf. TooLarge leaf) o) (text_of Dods (body d ts)) → 0 < length text
-of-body None d ts text is = subst (λ t. 0 < length t) (sym (text-is text (Ok (text_of Dods (body d ts))) is)) (body-some d ts)
+of-body : (o : Option ℕ) (d : Dataset) (ts : List Tree) (text : List ℕ) → Ok (result_text Dods text) ≡ unless (option_map (λ leaf. TooLarge leaf) o) (result_text Dods (body d ts)) → 0 < length text
+of-body None d ts text is = subst (λ t. 0 < length t) (sym (text-is text (Ok (result_text Dods (body d ts))) is)) (body-some d ts)
 of-body (Some leaf) d ts text is = cc is
 
-given : (told : Told) (kind : Kind) (files : Files) (name query text : List ℕ) → AnswersAmong told kind files name query (Ok (text_of Dods text)) → 0 < length text
+given : (told : Told) (kind : Kind) (files : Files) (name query text : List ℕ) → AnswersAmong told kind files name query (Ok (result_text Dods text)) → 0 < length text
 given told Ver files name query text is = cc (ap kind_in is)
 given told Das files name query text (inl (s, opens, is)) = cc (ap kind_in is)
 given told Das files name query text (inr (cause, opens, is)) = cc is
@@ -48,5 +48,5 @@ given told Dods files name query text (inl (s, opens, inl (left, leaves, is))) =
 given told Dods files name query text (inl (s, opens, inr (cause, leaves, is))) = cc is
 given told Dods files name query text (inr (cause, opens, is)) = cc is
 
-pub data-some : (told : Told) (a : Asked) (text : List ℕ) → MayGive told a (Ok (text_of Dods text)) → 0 < length text
+pub data-some : (told : Told) (a : Asked) (text : List ℕ) → MayGive told a (Ok (result_text Dods text)) → 0 < length text
 data-some told a text (files, has, answers) = given told a.kind files a.name a.query text answers

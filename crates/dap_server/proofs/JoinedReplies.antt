@@ -13,7 +13,7 @@ use Rattle.dap_server.specs.Costs.{IsCost}
 use Rattle.dap_server.specs.Files.{form_of, is_read_first, joined}
 use Rattle.dap_server.specs.Prepared.{MayGive}
 use Rattle.dap_server.specs.Replies.{Request, is_head}
-use Rattle.dap_server.specs.Results.{text_of}
+use Rattle.dap_server.specs.Results.{result_text}
 use Rattle.dap_server.specs.inner.Serving.{AnswersWith, Costs, PutsValues, SaysWhole, ShelfRose, Stand, data_front}
 use Rattle.dap_server.specs.declared.reply_outcome.Answered.{Answered}
 
@@ -22,12 +22,12 @@ pub joined-answer : (told : Told) (q : Request) (a : Asked) (front : List ℕ) (
     → is_head q ≡ false → front ≡ data_front q → is_other q.method ≡ false → target_of q.target ≡ Some a
     → ((contents : List (List ℕ)) → AreThese contents → PutsValues front (framed (is_chunked Dods q.minor) (text_over contents)) q.ends s.written z.written result) → SaysWhole q.ends result
     → ((put : List ℕ) × Appends s.written z.written put)
-    → ((contents : List (List ℕ)) → AreThese contents → MayGive told a (Ok (text_of Dods (text_over contents)))) → ((text : List ℕ) × MayGive told a (Ok (text_of Dods text)))
+    → ((contents : List (List ℕ)) → AreThese contents → MayGive told a (Ok (result_text Dods (text_over contents)))) → ((text : List ℕ) × MayGive told a (Ok (result_text Dods text)))
     → form_of a.name ≡ Some joined → (IsSome told → (contents : List (List ℕ)) × AreThese contents) → ShelfRose result s.faults z.faults
     → ((cost : ℕ) × IsCost told a cost × (z.asked ≤ s.asked + cost)) → AnswersWith (Costs told a) told q s z result
 joined-answer None q a front AreThese text_over s z result get is served target puts says (put, appends) over (text, may) named tells rose costs = (
-  Ok (text_of Dods text),
-  gives None q a (Ok (text_of Dods text)) served target may,
+  Ok (result_text Dods text),
+  gives None q a (Ok (result_text Dods text)) served target may,
   (put, appends, values-hidden None q text put result get (data-some None a text may) (late q a text get target (ap is_read_first named)) says),
   failed-values q text result s.faults z.faults get rose,
   costs,

@@ -20,7 +20,7 @@ use Rattle.dap_server.specs.Costs.{IsFormCost, IsFormCostAt, IsListAsked, join_h
 use Rattle.dap_server.specs.Files.{Files, MayHave, Stored, form_of, joined}
 use Rattle.dap_server.specs.Joins.{Member, Members, bytes_in, contents_in, joined_stored, stored_together}
 use Rattle.dap_server.specs.Prepared.{IsJoinedFor}
-use Rattle.dap_server.specs.Results.{DodsAnswers, OpensAmong, Text, das_text, text_of}
+use Rattle.dap_server.specs.Results.{DodsAnswers, OpensAmong, Text, das_text, result_text}
 use Rattle.dap_server.specs.Steps.{Is, Then}
 use Rattle.dap_server.specs.inner.Joining.{IsJoinOf}
 use Rattle.dap_server.specs.inner.Members.{AreFilesOf, AreHeadersOf}
@@ -113,8 +113,8 @@ module _ {F : Type 0} (told : Told) (content : F → Option (List ℕ)) (size_of
   pub joined_follows : (next : Stored → Result Text Cause → Type 0) (r : Result Text Cause) → next its_stored r → (files : Files) × MayHave told files × Then (OpensAmong told files name) next r
   joined_follows next r n = (is.files, is.may_have, inl (its_stored, joined_opens, n))
 
-  pub das_joined : (text : List ℕ) → text ≡ das (joined_attributes (members_in j)) → (files : Files) × MayHave told files × Then (OpensAmong told files name) (λ s. Is (das_text s)) (Ok (text_of Das text))
-  das_joined text is_text = joined_follows (λ s. Is (das_text s)) _ (ap (λ t. Ok (text_of Das t)) is_text)
+  pub das_joined : (text : List ℕ) → text ≡ das (joined_attributes (members_in j)) → (files : Files) × MayHave told files × Then (OpensAmong told files name) (λ s. Is (das_text s)) (Ok (result_text Das text))
+  das_joined text is_text = joined_follows (λ s. Is (das_text s)) _ (ap (λ t. Ok (result_text Das t)) is_text)
 
   pub follows_ok : {T : Type 0} (next : Stored → Result Text Cause → Type 0) (answer : T → Text) (r : Result T Stop) → IfOk r (λ t. (files : List (List ℕ)) → next (stored_together (name_in j) (members_in j) files) (Ok (answer t)))
       → IfOk r (λ t. (files : Files) × MayHave told files × Then (OpensAmong told files name) next (Ok (answer t)))
@@ -169,8 +169,8 @@ module _ {F : Type 0} (told : Told) (content : F → Option (List ℕ)) (size_of
       (subst (λ files. JoinedAsk (members_in j) (join_marks (members_in j) (name_in j) constraint) files (join_head_len (members_in j) (name_in j) constraint) put cost) same asks))
 
   pub body_joined : (query : List ℕ) (b : JoinBody) → TellsBytes content
-      → ((files : List (List ℕ)) → HaveHeaders (members_in j) files → DodsAnswers (stored_together (name_in j) (members_in j) files) query (Ok (text_of Dods (text_in b files))))
-      → ((files : List (List ℕ)) → (text : List ℕ) × DodsAnswers (stored_together (name_in j) (members_in j) files) query (Ok (text_of Dods text)))
+      → ((files : List (List ℕ)) → HaveHeaders (members_in j) files → DodsAnswers (stored_together (name_in j) (members_in j) files) query (Ok (result_text Dods (text_in b files))))
+      → ((files : List (List ℕ)) → (text : List ℕ) × DodsAnswers (stored_together (name_in j) (members_in j) files) query (Ok (result_text Dods text)))
       → FitsFiles b (lengths_of (headers_in j))
       → ((constraint : Constraint) × Spells query constraint × (cost_in b ≤ joined_cost (members_in j) (join_marks (members_in j) (name_in j) constraint)))
       → ((constraint : Constraint) × Spells query constraint × ((files : List (List ℕ)) (put cost : ℕ) → HaveHeaders (members_in j) files → MayAsk b files put cost
@@ -180,7 +180,7 @@ module _ {F : Type 0} (told : Told) (content : F → Option (List ℕ)) (size_of
     body = λ contents tells.
         let same : contents ≡ bytes_in is.ms = told_bytes told content size_of fs is.ms contents is.are_files tells in
         joined_follows (λ s. DodsAnswers s query) _
-        (subst (λ files. DodsAnswers (stored_together (name_in j) (members_in j) files) query (Ok (text_of Dods (text_in b contents)))) same (text contents (its_headers contents fit tells)));
+        (subst (λ files. DodsAnswers (stored_together (name_in j) (members_in j) files) query (Ok (result_text Dods (text_in b contents)))) same (text contents (its_headers contents fit tells)));
     accepted = (let (t, answers) = some (bytes_in is.ms) in (t, joined_follows (λ s. DodsAnswers s query) _ answers));
     of_list = (refl, form);
     tells = λ told_some. (bytes_in is.ms, all_told told content size_of fs is.ms is.are_files told_some);

@@ -9,7 +9,7 @@ use Rattle.join_source.specs.declared.body.JoinBody.{JoinBody}
 use Rattle.dap_server.proofs.Making.{same_asked}
 use Rattle.dap_server.specs.Files.{Form, form_of, joined}
 use Rattle.dap_server.specs.Prepared.{IsJoinedFor, MayGive, WhereJoined, WhereNoShelfFault, asked_of}
-use Rattle.dap_server.specs.Results.{text_of}
+use Rattle.dap_server.specs.Results.{result_text}
 use Rattle.dap_server.specs.inner.Opening.{StaysBut, WhereFault, WhereRefused}
 use Rattle.dap_server.specs.inner.Preparing.{IsMade, MayGiveAs, asked_as, join_prepared}
 use Rattle.dap_server.specs.declared.prepared.Prepared.{Prepared}
@@ -51,7 +51,7 @@ made_for told content size_of t name query Fault p is is_name is_query made = su
 
 -- the response that a body of joined files is of
 pub join_accepted : {F : Type 0} (told : Told) (content : F → Option (List ℕ)) (size_of : F → ℕ) (a : Asked) (p : Prepared F) → WhereJoined p (IsJoinedFor told content size_of a)
-    → WhereJoined p (λ b files. (text : List ℕ) × MayGive told a (Ok (text_of Dods text)))
+    → WhereJoined p (λ b files. (text : List ℕ) × MayGive told a (Ok (result_text Dods text)))
 join_accepted told content size_of a (prepared.Joined b files) is = is.accepted
 join_accepted told content size_of a (prepared.Text kind text) is = tt
 join_accepted told content size_of a (prepared.Body b file) is = tt

@@ -19,7 +19,7 @@ use Rattle.dap_server.proofs.ListForms.{list_form, no_list_form}
 use Rattle.dap_server.specs.Costs.{IsFormCost, IsFormCostAt, asks_shelf, is_of_file}
 use Rattle.dap_server.specs.Files.{Files, MayHave, Stored, form_of, is_joined, is_read_first, saved}
 use Rattle.dap_server.specs.Prepared.{asked_of, IsFor, IsOver, MayGive, MustGive, WhereBody, WhereNoShelfFault, WhereRefuse, WhereJoined, WhereSaved, WhereText}
-use Rattle.dap_server.specs.Results.{AnswersAmong, OpensAmong, Text, das_text, text_of}
+use Rattle.dap_server.specs.Results.{AnswersAmong, OpensAmong, Text, das_text, result_text}
 use Rattle.dap_server.specs.Steps.{Is, Then}
 use Rattle.dap_server.proofs.UntoldLists.{untold_list}
 use Rattle.dap_server.specs.inner.Joining.{MayOpen}
@@ -61,7 +61,7 @@ no_form t k name is is_name of_file none =
 
 -- a text is made
 text_made : {F : Type 0} (told : Told) (content : F → Option (List ℕ)) (size_of : F → ℕ) (k : Kind) (name query : List ℕ) (Fault : Type 0) (r : Result (List ℕ) Stop) (p : Prepared F) → p ≡ text_prepared k r
-    → k ≢ Dods → IfOk r (λ text. MayGiveAs told k name query (Ok (text_of k text))) → IfErr r (WhereRefused (λ why. MayGiveAs told k name query (Err why)))
+    → k ≢ Dods → IfOk r (λ text. MayGiveAs told k name query (Ok (result_text k text))) → IfErr r (WhereRefused (λ why. MayGiveAs told k name query (Err why)))
     → IfErr r (WhereFault (IsTrue (asks_shelf (asked_as k name query)) × Fault)) → IsMade told content size_of (asked_as k name query) Fault p
 text_made told content size_of k name query Fault (Ok text) p made none gives refuses faults =
     rw made (record { text = (none, gives); body = tt; accepted = tt; of_file = tt; tells = tt; alone = tt; fits = tt; cost = tt; cost_at = tt; sends = tt; of_saved = tt; joined = tt; refused = tt; shelf_fault = tt })
@@ -73,17 +73,17 @@ text_made told content size_of k name query Fault (Err Memory) p made none gives
     rw made (record { text = tt; body = tt; accepted = tt; of_file = tt; tells = tt; alone = tt; fits = tt; cost = tt; cost_at = tt; sends = tt; of_saved = tt; joined = tt; refused = tt; shelf_fault = tt })
 
 pub text_for : {F : Type 0} (told : Told) (content : F → Option (List ℕ)) (size_of : F → ℕ) (t : Target) (k : Kind) (name query : List ℕ) (Fault : Type 0) (r : Result (List ℕ) Stop) (p : Prepared F) → p ≡ text_prepared k r
-    → t.kind ≡ k → name ≡ t.name → query ≡ t.query → k ≢ Dods → IfOk r (λ text. MayGiveAs told k name query (Ok (text_of k text))) → IfErr r (WhereRefused (λ why. MayGiveAs told k name query (Err why)))
+    → t.kind ≡ k → name ≡ t.name → query ≡ t.query → k ≢ Dods → IfOk r (λ text. MayGiveAs told k name query (Ok (result_text k text))) → IfErr r (WhereRefused (λ why. MayGiveAs told k name query (Err why)))
     → IfErr r (WhereFault (IsTrue (asks_shelf (asked_as k name query)) × Fault)) → IsMade told content size_of (asked_of t) Fault p
 text_for told content size_of t k name query Fault r p made is is_name is_query none gives refuses faults =
     subst (λ a. IsMade told content size_of a Fault p) (same_asked t k name query is is_name is_query) (text_made told content size_of k name query Fault r p made none gives refuses faults)
 
 -- a body is made
 pub body_made : {F : Type 0} (told : Told) (content : F → Option (List ℕ)) (size_of : F → ℕ) (name query : List ℕ) (Fault : Type 0) (r : Result (DataBody × F) Stop) (p : Prepared F) → p ≡ body_prepared r
-    → IfOk r (λ q. WhereOfFile q.0 (λ b. (bytes : List ℕ) → IsOver name (content q.1) bytes → MayGiveAs told Dods name query (Ok (text_of Dods (text_in b bytes)))))
-    → IfOk r (λ q. WhereOfSaved q.0 (λ b. (text : List ℕ) × Sends b text × MayGiveAs told Dods name query (Ok (text_of Dods text))))
+    → IfOk r (λ q. WhereOfFile q.0 (λ b. (bytes : List ℕ) → IsOver name (content q.1) bytes → MayGiveAs told Dods name query (Ok (result_text Dods (text_in b bytes)))))
+    → IfOk r (λ q. WhereOfSaved q.0 (λ b. (text : List ℕ) × Sends b text × MayGiveAs told Dods name query (Ok (result_text Dods text))))
     → IfOk r (λ q. WhereOfSaved q.0 (λ b. form_of name ≡ Some saved))
-    → IfOk r (λ q. (text : List ℕ) × MayGiveAs told Dods name query (Ok (text_of Dods text)))
+    → IfOk r (λ q. (text : List ℕ) × MayGiveAs told Dods name query (Ok (result_text Dods text)))
     → IfOk r (λ q. IsTrue (is_some (form_of name)))
     → IfOk r (λ q. IsSome told → IsSome (content q.1))
     → IfOk r (λ q. WhereOfFile q.0 (λ b. IsTrue (is_read_first (form_of name)) → HasNoFile b))
@@ -114,16 +114,16 @@ same None a one other bytes (files, may, gives) must = by_list (is_joined (form_
   by_list false is = answers_one None a.kind files a.name a.query (inr (no_list_form (form_of a.name) is)) bytes other one (must files tt) gives
 
 pub only : {F : Type 0} (told : Told) (a : Asked) (p : Prepared F) → IsTrue (list_all is_byte a.query)
-    → WhereText p (λ kind text. (kind ≢ Dods) × MayGive told a (Ok (text_of kind text)))
-    → WhereBody p (λ b file. (text : List ℕ) × MayGive told a (Ok (text_of Dods text)))
-    → WhereSaved p (λ b. (text : List ℕ) × Sends b text × MayGive told a (Ok (text_of Dods text)))
-    → WhereJoined p (λ b files. (text : List ℕ) × MayGive told a (Ok (text_of Dods text)))
+    → WhereText p (λ kind text. (kind ≢ Dods) × MayGive told a (Ok (result_text kind text)))
+    → WhereBody p (λ b file. (text : List ℕ) × MayGive told a (Ok (result_text Dods text)))
+    → WhereSaved p (λ b. (text : List ℕ) × Sends b text × MayGive told a (Ok (result_text Dods text)))
+    → WhereJoined p (λ b files. (text : List ℕ) × MayGive told a (Ok (result_text Dods text)))
     → WhereRefuse p (λ why. MayGive told a (Err why))
     → (answer : Result Text Cause) → MustGive told a answer → IsFor answer p
-only told a (prepared.Text kind text) bytes is x y j z answer must = same told a (Ok (text_of kind text)) answer bytes is.1 must
-only told a (prepared.Body b file) bytes x (text, is) y j z answer must = (text, same told a (Ok (text_of Dods text)) answer bytes is must)
-only told a (prepared.Saved b) bytes x y (text, sends, is) j z answer must = (text, same told a (Ok (text_of Dods text)) answer bytes is must)
-only told a (prepared.Joined b files) bytes x y z (text, is) u answer must = (text, same told a (Ok (text_of Dods text)) answer bytes is must)
+only told a (prepared.Text kind text) bytes is x y j z answer must = same told a (Ok (result_text kind text)) answer bytes is.1 must
+only told a (prepared.Body b file) bytes x (text, is) y j z answer must = (text, same told a (Ok (result_text Dods text)) answer bytes is must)
+only told a (prepared.Saved b) bytes x y (text, sends, is) j z answer must = (text, same told a (Ok (result_text Dods text)) answer bytes is must)
+only told a (prepared.Joined b files) bytes x y z (text, is) u answer must = (text, same told a (Ok (result_text Dods text)) answer bytes is must)
 only told a (prepared.Refuse why) bytes x y z j is answer must = same told a (Err why) answer bytes is must
 only told a prepared.ShelfFault bytes x y z j u answer must = tt
 only told a prepared.Memory bytes x y z j u answer must = tt
@@ -153,8 +153,8 @@ follows_stop told content size name bytes ts o next Memory l is n = tt
 
 -- the attributes of what was opened
 pub das_follows : (told : Told) (content : Option (List ℕ)) (size : ℕ) (name bytes : List ℕ) (ts : List Tree) (o : Opened) (text : List ℕ) → Lies told content size name bytes → OpenedAs o name bytes ts
-    → text ≡ das (attributes_in o) → (files : Files) × MayHave told files × Then (OpensAmong told files name) (λ s. Is (das_text s)) (Ok (text_of Das text))
-das_follows told content size name bytes ts o text l is is_text = follows told content size name bytes ts o (λ s. Is (das_text s)) _ l is (ap (λ t. Ok (text_of Das t)) is_text)
+    → text ≡ das (attributes_in o) → (files : Files) × MayHave told files × Then (OpensAmong told files name) (λ s. Is (das_text s)) (Ok (result_text Das text))
+das_follows told content size name bytes ts o text l is is_text = follows told content size name bytes ts o (λ s. Is (das_text s)) _ l is (ap (λ t. Ok (result_text Das t)) is_text)
 
 pub das_stops : (told : Told) (name : List ℕ) (s : Stop) → WhereRefused (λ why. MayOpen told name (Err why)) s
     → WhereRefused (λ why. (query : List ℕ) → MayGiveAs told Das name query (Err why)) s
@@ -177,15 +177,15 @@ no_refusal (Err ShelfFault) P is = tt
 no_refusal (Err Memory) P is = tt
 
 -- the version, whatever is asked
-pub version_given : (told : Told) (name query : List ℕ) (r : Result (List ℕ) Stop) → IfOk r (λ text. text ≡ version) → IfOk r (λ text. MayGiveAs told Ver name query (Ok (text_of Ver text)))
+pub version_given : (told : Told) (name query : List ℕ) (r : Result (List ℕ) Stop) → IfOk r (λ text. text ≡ version) → IfOk r (λ text. MayGiveAs told Ver name query (Ok (result_text Ver text)))
 version_given told name query (Ok text) is =
     let (files, may) = lying.some_files told in
-    (files, may, ap (λ t. Ok (text_of Ver t)) is)
+    (files, may, ap (λ t. Ok (result_text Ver t)) is)
 version_given told name query (Err stop) is = tt
 
 -- the attributes, whatever the query
-pub das_given : (told : Told) (name query : List ℕ) (r : Result (List ℕ) Stop) → IfOk r (λ text. (query : List ℕ) → MayGiveAs told Das name query (Ok (text_of Das text)))
-    → IfOk r (λ text. MayGiveAs told Das name query (Ok (text_of Das text)))
+pub das_given : (told : Told) (name query : List ℕ) (r : Result (List ℕ) Stop) → IfOk r (λ text. (query : List ℕ) → MayGiveAs told Das name query (Ok (result_text Das text)))
+    → IfOk r (λ text. MayGiveAs told Das name query (Ok (result_text Das text)))
 das_given told name query (Ok text) is = is query
 das_given told name query (Err stop) is = tt
 

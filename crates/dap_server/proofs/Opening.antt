@@ -20,7 +20,7 @@ use Rattle.dap_server.proofs.DataGiven.{not_first}
 use Rattle.dap_server.proofs.Sending.{asks_nothing}
 use Rattle.dap_server.specs.Costs.{IsAsked, IsFormCost, IsFormCostAt, head_len, marks_of}
 use Rattle.dap_server.specs.Files.{form_of, is_read_first, netcdf_stored, saved_stored, table_stored}
-use Rattle.dap_server.specs.Results.{DodsAnswers, text_of}
+use Rattle.dap_server.specs.Results.{DodsAnswers, result_text}
 use Rattle.dap_server.specs.inner.Opening.{Has, IsHeldBy, OpenedAs, WhereRefused, stored_of}
 use Rattle.dap_server.specs.declared.open.Opened.TheVariants as opened
 use Rattle.dap_server.specs.declared.saved_file.SavedFile.{SavedFile}
@@ -29,18 +29,18 @@ use Rattle.dap_server.specs.declared.no_answer.Stop.TheVariants.{Refused, ShelfF
 
 -- of a netCDF file
 pub netcdf_text : (h : FileHeader) (name query : List ℕ) (b : Body)
-    → ((bytes : List ℕ) → HasHeader h.contents bytes → DodsAnswers (netcdf_stored name bytes h.contents) query (Ok (text_of Dods (text_in b bytes))))
+    → ((bytes : List ℕ) → HasHeader h.contents bytes → DodsAnswers (netcdf_stored name bytes h.contents) query (Ok (result_text Dods (text_in b bytes))))
     → (bytes held : List ℕ) (ts : List Tree) → OpenedAs (opened.Netcdf h) name bytes ts → IsHeldBy (opened.Netcdf h) bytes held
-    → DodsAnswers (stored_of (opened.Netcdf h) name ts) query (Ok (text_of Dods (text_in b held)))
+    → DodsAnswers (stored_of (opened.Netcdf h) name ts) query (Ok (result_text Dods (text_in b held)))
 netcdf_text h name query b is bytes held ts as_file is_held =
-    subst (λ us. DodsAnswers (stored_of (opened.Netcdf h) name us) query (Ok (text_of Dods (text_in b held)))) (sym as_file.3)
-    (subst (λ t. DodsAnswers (netcdf_stored name bytes h.contents) query (Ok (text_of Dods (text_in b t)))) (sym is_held.0) (is bytes (is_held.1, as_file.1)))
+    subst (λ us. DodsAnswers (stored_of (opened.Netcdf h) name us) query (Ok (result_text Dods (text_in b held)))) (sym as_file.3)
+    (subst (λ t. DodsAnswers (netcdf_stored name bytes h.contents) query (Ok (result_text Dods (text_in b t)))) (sym is_held.0) (is bytes (is_held.1, as_file.1)))
 
-pub netcdf_accepted : (h : FileHeader) (name query : List ℕ) → ((bytes : List ℕ) → (text : List ℕ) × DodsAnswers (netcdf_stored name bytes h.contents) query (Ok (text_of Dods text)))
-    → (bytes : List ℕ) (ts : List Tree) → OpenedAs (opened.Netcdf h) name bytes ts → (text : List ℕ) × DodsAnswers (stored_of (opened.Netcdf h) name ts) query (Ok (text_of Dods text))
+pub netcdf_accepted : (h : FileHeader) (name query : List ℕ) → ((bytes : List ℕ) → (text : List ℕ) × DodsAnswers (netcdf_stored name bytes h.contents) query (Ok (result_text Dods text)))
+    → (bytes : List ℕ) (ts : List Tree) → OpenedAs (opened.Netcdf h) name bytes ts → (text : List ℕ) × DodsAnswers (stored_of (opened.Netcdf h) name ts) query (Ok (result_text Dods text))
 netcdf_accepted h name query is bytes ts as_file =
     let (text, answers) = is bytes in
-    (text, subst (λ us. DodsAnswers (stored_of (opened.Netcdf h) name us) query (Ok (text_of Dods text))) (sym as_file.3) answers)
+    (text, subst (λ us. DodsAnswers (stored_of (opened.Netcdf h) name us) query (Ok (result_text Dods text))) (sym as_file.3) answers)
 
 pub netcdf_alone : (h : FileHeader) (name : List ℕ) (b : Body) (bytes : List ℕ) (ts : List Tree) → OpenedAs (opened.Netcdf h) name bytes ts → IsTrue (is_read_first (form_of name)) → HasNoFile b
 netcdf_alone h name b bytes ts as_file first = absurd (not_first (form_of name) as_file.0 first)
@@ -78,14 +78,14 @@ netcdf_refused h name query ShelfFault is = tt
 netcdf_refused h name query Memory is = tt
 
 -- of a table
-pub table_text : (t : CsvTable) (name query : List ℕ) (b : Body) → ((held : List ℕ) → DodsAnswers (table_stored t) query (Ok (text_of Dods (text_in b held))))
+pub table_text : (t : CsvTable) (name query : List ℕ) (b : Body) → ((held : List ℕ) → DodsAnswers (table_stored t) query (Ok (result_text Dods (text_in b held))))
     → (bytes held : List ℕ) (ts : List Tree) → OpenedAs (opened.Table t) name bytes ts → IsHeldBy (opened.Table t) bytes held
-    → DodsAnswers (stored_of (opened.Table t) name ts) query (Ok (text_of Dods (text_in b held)))
+    → DodsAnswers (stored_of (opened.Table t) name ts) query (Ok (result_text Dods (text_in b held)))
 table_text t name query b is bytes held ts as_file is_held =
-    subst (λ us. DodsAnswers (stored_of (opened.Table t) name us) query (Ok (text_of Dods (text_in b held)))) (sym as_file.2) (is held)
+    subst (λ us. DodsAnswers (stored_of (opened.Table t) name us) query (Ok (result_text Dods (text_in b held)))) (sym as_file.2) (is held)
 
-pub table_accepted : (t : CsvTable) (name query : List ℕ) (b : Body) → ((held : List ℕ) → DodsAnswers (table_stored t) query (Ok (text_of Dods (text_in b held))))
-    → (bytes : List ℕ) (ts : List Tree) → OpenedAs (opened.Table t) name bytes ts → (text : List ℕ) × DodsAnswers (stored_of (opened.Table t) name ts) query (Ok (text_of Dods text))
+pub table_accepted : (t : CsvTable) (name query : List ℕ) (b : Body) → ((held : List ℕ) → DodsAnswers (table_stored t) query (Ok (result_text Dods (text_in b held))))
+    → (bytes : List ℕ) (ts : List Tree) → OpenedAs (opened.Table t) name bytes ts → (text : List ℕ) × DodsAnswers (stored_of (opened.Table t) name ts) query (Ok (result_text Dods text))
 table_accepted t name query b is bytes ts as_file = (text_in b bytes, table_text t name query b is bytes bytes ts as_file tt)
 
 pub table_cost : (t : CsvTable) (name query : List ℕ) (b : Body) → cost_in b ≡ 0
@@ -107,14 +107,14 @@ table_refused t name query Memory is = tt
 -- of a saved response
 abbrev AnswersSaved : SavedFile → List ℕ → SavedBody → Type 0
 AnswersSaved s query b = (bytes name : List ℕ) (ts : List Tree) → IsSaved bytes name (responses.dataset_in s.saved) ts → Holds s.saved ts
-    → (text : List ℕ) × Sends b text × DodsAnswers (saved_stored (responses.dataset_in s.saved) ts) query (Ok (text_of Dods text))
+    → (text : List ℕ) × Sends b text × DodsAnswers (saved_stored (responses.dataset_in s.saved) ts) query (Ok (result_text Dods text))
 
 pub saved_sends : (s : SavedFile) (name query : List ℕ) (b : SavedBody) → AnswersSaved s query b
-    → (bytes : List ℕ) (ts : List Tree) → OpenedAs (opened.Saved s) name bytes ts → (text : List ℕ) × Sends b text × DodsAnswers (stored_of (opened.Saved s) name ts) query (Ok (text_of Dods text))
+    → (bytes : List ℕ) (ts : List Tree) → OpenedAs (opened.Saved s) name bytes ts → (text : List ℕ) × Sends b text × DodsAnswers (stored_of (opened.Saved s) name ts) query (Ok (result_text Dods text))
 saved_sends s name query b is bytes ts as_file = is bytes name ts as_file.1 as_file.2
 
 pub saved_accepted : (s : SavedFile) (name query : List ℕ) (b : SavedBody) → AnswersSaved s query b
-    → (bytes : List ℕ) (ts : List Tree) → OpenedAs (opened.Saved s) name bytes ts → (text : List ℕ) × DodsAnswers (stored_of (opened.Saved s) name ts) query (Ok (text_of Dods text))
+    → (bytes : List ℕ) (ts : List Tree) → OpenedAs (opened.Saved s) name bytes ts → (text : List ℕ) × DodsAnswers (stored_of (opened.Saved s) name ts) query (Ok (result_text Dods text))
 saved_accepted s name query b is bytes ts as_file = let (text, sends, answers) = is bytes name ts as_file.1 as_file.2 in (text, answers)
 
 pub saved_refused : (s : SavedFile) (name query : List ℕ) (stop : Stop) → WhereRefused (λ why. (ts : List Tree) → DodsAnswers (saved_stored (responses.dataset_in s.saved) ts) query (Err why)) stop

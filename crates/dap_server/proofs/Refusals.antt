@@ -26,7 +26,7 @@ use Rattle.dap_server.specs.Connections.{has_failed}
 use Rattle.dap_server.specs.Files.{Files, Form, Stored, IsStored, joined, netcdf, saved, table}
 use Rattle.dap_server.specs.Joins.{AreJoined, IsJoined, IsMember, Lists, Member, Members}
 use Rattle.dap_outside.specs.Files.{Told}
-use Rattle.dap_server.specs.Results.{AnswersAmong, DdsAnswers, DodsAnswers, File, Leaves, Left, OpensAmong, Reads, Text, das_text, dds_text, dods_text, file_named, left_of, text_of}
+use Rattle.dap_server.specs.Results.{AnswersAmong, DdsAnswers, DodsAnswers, File, Leaves, Left, OpensAmong, Reads, Text, das_text, dds_text, dods_text, file_named, left_of, result_text}
 use Rattle.dap_server.specs.Steps.{Is, Then, found_or, unless}
 
 -- the cause is not that of a failed read
@@ -156,7 +156,7 @@ refused-calm told files a c is = go a.kind is where
   go Ver e = cc e
   go Das e = then-calm (OpensAmong told files a.name) (λ (s : Stored). Is (das_text s)) c (opens-calm told files a.name) (λ s n. cc n) e
   go Dds e = then-calm (OpensAmong told files a.name) (λ (s : Stored). DdsAnswers s a.query) c (opens-calm told files a.name)
-      (λ s n. then-calm (Leaves s a.query) (λ (left : Left). Is (dds_text left.dataset)) c (leaves-calm s a.query) (λ (left : Left) m. large-calm (nat_lt 16777216 (length (dds left.dataset))) c (text_of Dds (dds left.dataset)) m) n) e
+      (λ s n. then-calm (Leaves s a.query) (λ (left : Left). Is (dds_text left.dataset)) c (leaves-calm s a.query) (λ (left : Left) m. large-calm (nat_lt 16777216 (length (dds left.dataset))) c (result_text Dds (dds left.dataset)) m) n) e
   go Dods e = then-calm (OpensAmong told files a.name) (λ (s : Stored). DodsAnswers s a.query) c (opens-calm told files a.name)
       (λ s n. then-calm (Leaves s a.query) (λ (left : Left). Is (dods_text left)) c (leaves-calm s a.query)
-      (λ (left : Left) m. unless-calm (option_map (λ leaf. TooLarge leaf) (too_large left.dataset)) (text_of Dods (body left.dataset left.trees)) c (leaf-calm (too_large left.dataset)) m) n) e
+      (λ (left : Left) m. unless-calm (option_map (λ leaf. TooLarge leaf) (too_large left.dataset)) (result_text Dods (body left.dataset left.trees)) c (leaf-calm (too_large left.dataset)) m) n) e

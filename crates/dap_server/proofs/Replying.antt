@@ -17,8 +17,8 @@ use Rattle.dap_server.specs.Connections.{FailedBy, LooksForFile, MayAnswer, has_
 use Rattle.dap_server.specs.Costs.{IsCost, asks_shelf}
 use Rattle.dap_server.specs.Files.{Files, MayHave, form_of, is_read_first}
 use Rattle.dap_server.specs.Prepared.{IsOver, MayGive}
-use Rattle.dap_server.specs.Replies.{Request, error_head, head_of, is_head, is_last, reply_of, status_of}
-use Rattle.dap_server.specs.Results.{ResultsAmong, Text, error_object, text_of}
+use Rattle.dap_server.specs.Replies.{Request, error_head, head_of, is_head, is_last, reply_of, reply_status}
+use Rattle.dap_server.specs.Results.{ResultsAmong, Text, error_object, result_text}
 use Rattle.dap_server.specs.Steps.{found_or}
 use Rattle.dap_server.specs.declared.reply_outcome.Answered.{Answered}
 use Rattle.dap_server.specs.declared.reply_outcome.Answered.TheVariants as answered
@@ -30,7 +30,7 @@ use Rattle.dap_server.proofs.Failing.{calm, failed-once}
 -- ---- texts that stand whole
 
 pub reply-put : (q : Request) (answer : Result Text Cause) (bytes : List ℕ) (status : ℕ) (last : Bool) (old new : Option (List ℕ)) (result : Answered)
-    → bytes ≡ reply_of q answer → status ≡ status_of answer → last ≡ is_last q answer → PutsText bytes status last old new result → PutsReply q answer old new result
+    → bytes ≡ reply_of q answer → status ≡ reply_status answer → last ≡ is_last q answer → PutsText bytes status last old new result → PutsReply q answer old new result
 reply-put q answer bytes status last old new (answered.Whole s l) is st la (ps, pl, appends) = (ps ∙ st, pl ∙ la, subst (Appends old new) is appends)
 reply-put q answer bytes status last old new answered.Broken is st la p = absurd p
 reply-put q answer bytes status last old new answered.WriteFault is st la (part, (rest, more, whole), appends) = (part, (rest, more, sym is ∙ whole), appends)
@@ -60,7 +60,7 @@ cause-reply q cause last h bytes la is e =
     e ∙ ap (λ b. error_head b cause ++ (if h then [] else error_object cause)) la ∙ ap (λ b. error_head (is_last q (Err cause)) cause ++ (if b then [] else error_object cause)) is
 
 pub text-reply : (q : Request) (kind : Kind) (text : List ℕ) (h : Bool) (bytes : List ℕ) → kind ≢ Dods → h ≡ is_head q
-    → bytes ≡ head_text 200 (description_of kind) (Some (length text)) false q.ends ++ (if h then [] else text) → bytes ≡ reply_of q (Ok (text_of kind text))
+    → bytes ≡ head_text 200 (description_of kind) (Some (length text)) false q.ends ++ (if h then [] else text) → bytes ≡ reply_of q (Ok (result_text kind text))
 text-reply q Dds text h bytes other is e = e ∙ ap (λ b. head_text 200 (description_of Dds) (Some (length text)) false q.ends ++ (if b then [] else text)) is
     ∙ ap (λ b. head_text 200 (description_of Dds) (Some (length text)) false b ++ (if is_head q then [] else text)) (or-false q.ends)
 text-reply q Das text h bytes other is e = e ∙ ap (λ b. head_text 200 (description_of Das) (Some (length text)) false q.ends ++ (if b then [] else text)) is
@@ -72,27 +72,27 @@ text-reply q Dods text h bytes other is e = absurd (other refl)
 -- ---- data
 
 -- to HEAD
-pub head-reply : (q : Request) (text front : List ℕ) → is_head q ≡ true → front ≡ data_front q → front ≡ reply_of q (Ok (text_of Dods text))
+pub head-reply : (q : Request) (text front : List ℕ) → is_head q ≡ true → front ≡ data_front q → front ≡ reply_of q (Ok (result_text Dods text))
 head-reply q text front is e =
-    let t : List ℕ = head_of q (Ok (text_of Dods text)) in
+    let t : List ℕ = head_of q (Ok (result_text Dods text)) in
     let same : data_front q ≡ t = ap (head_text 200 (description_of Dods) None (is_chunked Dods q.minor)) (or-false q.ends) in
     e ∙ same ∙ sym (append-nil t) ∙ ap (λ b. t ++ (if b then [] else framed (is_chunked Dods q.minor) text)) (sym is)
 
-pub get-reply : (q : Request) (text front : List ℕ) → is_head q ≡ false → front ≡ data_front q → reply_of q (Ok (text_of Dods text)) ≡ front ++ framed (is_chunked Dods q.minor) text
+pub get-reply : (q : Request) (text front : List ℕ) → is_head q ≡ false → front ≡ data_front q → reply_of q (Ok (result_text Dods text)) ≡ front ++ framed (is_chunked Dods q.minor) text
 get-reply q text front is e =
-    let t : List ℕ = head_of q (Ok (text_of Dods text)) in
+    let t : List ℕ = head_of q (Ok (result_text Dods text)) in
     let same : data_front q ≡ t = ap (head_text 200 (description_of Dods) None (is_chunked Dods q.minor)) (or-false q.ends) in
     ap (λ b. t ++ (if b then [] else framed (is_chunked Dods q.minor) text)) is ∙ ap (λ f. f ++ framed (is_chunked Dods q.minor) text) (sym (e ∙ same))
 
-values-out : (q : Request) (text : List ℕ) → is_head q ≡ false → sends_values q (Ok (text_of Dods text)) ≡ true
+values-out : (q : Request) (text : List ℕ) → is_head q ≡ false → sends_values q (Ok (result_text Dods text)) ≡ true
 values-out q text is = ap not is
 
 pub values-reply : (q : Request) (text front : List ℕ) (old new : Option (List ℕ)) (result : Answered) → is_head q ≡ false → front ≡ data_front q
-    → PutsValues front (framed (is_chunked Dods q.minor) text) q.ends old new result → SaysWhole q.ends result → PutsReply q (Ok (text_of Dods text)) old new result
+    → PutsValues front (framed (is_chunked Dods q.minor) text) q.ends old new result → SaysWhole q.ends result → PutsReply q (Ok (result_text Dods text)) old new result
 values-reply q text front old new (answered.Whole status last) get is appends (s, l) =
     (s, l ∙ or-false q.ends, subst (Appends old new) (sym (get-reply q text front get is)) appends)
 values-reply q text front old new answered.Broken get is (part, (rest, some, e), appends) says =
-    let same : data_front q ≡ head_of q (Ok (text_of Dods text)) = ap (head_text 200 (description_of Dods) None (is_chunked Dods q.minor)) (or-false q.ends) in (
+    let same : data_front q ≡ head_of q (Ok (result_text Dods text)) = ap (head_text 200 (description_of Dods) None (is_chunked Dods q.minor)) (or-false q.ends) in (
       front ++ part,
       record {
         values = values-out q text get;
@@ -121,11 +121,11 @@ pub front-some : (q : Request) → 0 < length (data_front q)
 front-some q = head-some 200 (description_of Dods) None (is_chunked Dods q.minor) q.ends
 
 -- where its values are hidden
-pub values-hidden : (told : Told) (q : Request) (text put : List ℕ) (result : Answered) → is_head q ≡ false → 0 < length text → is_hidden told q (Ok (text_of Dods text)) ≡ true
-    → SaysWhole q.ends result → IsPutOf told q (Ok (text_of Dods text)) put result
+pub values-hidden : (told : Told) (q : Request) (text put : List ℕ) (result : Answered) → is_head q ≡ false → 0 < length text → is_hidden told q (Ok (result_text Dods text)) ≡ true
+    → SaysWhole q.ends result → IsPutOf told q (Ok (result_text Dods text)) put result
 values-hidden told q text put (answered.Whole status last) get some hidden (s, l) = (s, l ∙ or-false q.ends, λ e. absurd (true≢false (sym hidden ∙ e)))
 values-hidden told q text put answered.Broken get some hidden says =
-    let head : List ℕ = head_of q (Ok (text_of Dods text)) in
+    let head : List ℕ = head_of q (Ok (result_text Dods text)) in
     let body : List ℕ = framed (is_chunked Dods q.minor) text in (
       head,
       record {
@@ -138,9 +138,9 @@ values-hidden told q text put answered.Broken get some hidden says =
 values-hidden told q text put answered.WriteFault get some hidden says = (
   [],
   (
-    reply_of q (Ok (text_of Dods text)),
-    (let head = head-some 200 (description_of Dods) None (is_chunked Dods q.minor) (is_last q (Ok (text_of Dods text))) in
-        omega (arith, head, length-append (head_of q (Ok (text_of Dods text))) (if is_head q then [] else framed (is_chunked Dods q.minor) text))),
+    reply_of q (Ok (result_text Dods text)),
+    (let head = head-some 200 (description_of Dods) None (is_chunked Dods q.minor) (is_last q (Ok (result_text Dods text))) in
+        omega (arith, head, length-append (head_of q (Ok (result_text Dods text))) (if is_head q then [] else framed (is_chunked Dods q.minor) text))),
     refl,
   ),
   λ e. absurd (true≢false (sym hidden ∙ e)),
@@ -176,19 +176,19 @@ failed told q a served is asks = inr (inl (refl, served, subst LooksForFile (sym
 -- ---- one request
 
 pub failed-values : (q : Request) (text : List ℕ) (result : Answered) (f f1 : ℕ) → is_head q ≡ false → ShelfRose result f f1
-    → FailedBy (has_failed (Ok (text_of Dods text)) + broken result) (is_open q (Ok (text_of Dods text)) result) f f1
+    → FailedBy (has_failed (Ok (result_text Dods text)) + broken result) (is_open q (Ok (result_text Dods text)) result) f f1
 failed-values q text (answered.Whole status last) f f1 get same = calm (0 + 0) false f f1 (omega arith) same
 failed-values q text answered.Broken f f1 get rose = failed-once (0 + 1) false f f1 (omega arith) rose
 failed-values q text answered.WriteFault f f1 get later = (omega (arith, later), λ _ sent. absurd (true≢false (sym (values-out q text get) ∙ sent)))
 
 pub known-values : (told : Told) (q : Request) (a : Asked) (front text : List ℕ) (s z : Stand) (result : Answered)
     → is_head q ≡ false → front ≡ data_front q → is_other q.method ≡ false → target_of q.target ≡ Some a
-    → PutsValues front (framed (is_chunked Dods q.minor) text) q.ends s.written z.written result → SaysWhole q.ends result → MayGive told a (Ok (text_of Dods text))
+    → PutsValues front (framed (is_chunked Dods q.minor) text) q.ends s.written z.written result → SaysWhole q.ends result → MayGive told a (Ok (result_text Dods text))
     → ShelfRose result s.faults z.faults → ((cost : ℕ) × IsCost told a cost × (z.asked ≤ s.asked + cost)) → AnswersWith (Costs told a) told q s z result
 known-values told q a front text s z result get is served target puts says may rose costs = (
-  Ok (text_of Dods text),
-  gives told q a (Ok (text_of Dods text)) served target may,
-  reply-known told q (Ok (text_of Dods text)) s.written z.written result (values-reply q text front s.written z.written result get is puts says),
+  Ok (result_text Dods text),
+  gives told q a (Ok (result_text Dods text)) served target may,
+  reply-known told q (Ok (result_text Dods text)) s.written z.written result (values-reply q text front s.written z.written result get is puts says),
   failed-values q text result s.faults z.faults get rose,
   costs,
 )
@@ -197,7 +197,7 @@ cases-bool : (b : Bool) → (b ≡ true) ⊎ (b ≡ false)
 cases-bool true = inl refl
 cases-bool false = inr refl
 
-pub late : (q : Request) (a : Asked) (text : List ℕ) → is_head q ≡ false → target_of q.target ≡ Some a → is_read_first (form_of a.name) ≡ false → is_hidden None q (Ok (text_of Dods text)) ≡ true
+pub late : (q : Request) (a : Asked) (text : List ℕ) → is_head q ≡ false → target_of q.target ≡ Some a → is_read_first (form_of a.name) ≡ false → is_hidden None q (Ok (result_text Dods text)) ≡ true
 late q a text get target other =
     ap (λ b. b && is_read_late q.target) (values-out q text get)
     ∙ ap (λ o. option_map_or (λ (a : Asked). not (is_read_first (form_of a.name))) o false) target ∙ ap not other
@@ -207,15 +207,15 @@ pub values-answer : (told : Told) (q : Request) (a : Asked) (front : List ℕ) (
     → is_head q ≡ false → front ≡ data_front q → is_other q.method ≡ false → target_of q.target ≡ Some a
     → ((bytes : List ℕ) → (content ≡ Some bytes) ⊎ Alone → PutsValues front (framed (is_chunked Dods q.minor) (text_over bytes)) q.ends s.written z.written result) → SaysWhole q.ends result
     → ((put : List ℕ) × Appends s.written z.written put)
-    → ((bytes : List ℕ) → IsOver a.name content bytes → MayGive told a (Ok (text_of Dods (text_over bytes)))) → ((text : List ℕ) × MayGive told a (Ok (text_of Dods text)))
+    → ((bytes : List ℕ) → IsOver a.name content bytes → MayGive told a (Ok (result_text Dods (text_over bytes)))) → ((text : List ℕ) × MayGive told a (Ok (result_text Dods text)))
     → (IsTrue (is_read_first (form_of a.name)) → Alone) → (IsSome told → IsSome content) → ShelfRose result s.faults z.faults
     → ((cost : ℕ) × IsCost told a cost × (z.asked ≤ s.asked + cost)) → AnswersWith (Costs told a) told q s z result
 values-answer None q a front content Alone text_over s z result get is served target puts says (put, appends) over (text, may) alone tells rose costs =
     elim (cases-bool (is_read_first (form_of a.name))) [
       | inl first ↦ known-values None q a front (text_over []) s z result get is served target (puts [] (inr (alone first))) says (over [] (inr first)) rose costs
       | inr other ↦ (
-        Ok (text_of Dods text),
-        gives None q a (Ok (text_of Dods text)) served target may,
+        Ok (result_text Dods text),
+        gives None q a (Ok (result_text Dods text)) served target may,
         (put, appends, values-hidden None q text put result get (data-some None a text may) (late q a text get target other) says),
         failed-values q text result s.faults z.faults get rose,
         costs,

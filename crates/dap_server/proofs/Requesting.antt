@@ -16,7 +16,7 @@ use Rattle.dap_outside.specs.Files.{Told}
 use Rattle.dap_server.specs.Connections.{IsPutBehind, MayAsk, nothing}
 use Rattle.dap_server.specs.Costs.{most_first}
 use Rattle.dap_server.specs.Replies.{Request, last_reply, reply_of, request}
-use Rattle.dap_server.specs.Results.{text_of}
+use Rattle.dap_server.specs.Results.{result_text}
 use Rattle.dap_server.specs.declared.served.Ending.TheVariants.{Gone, ReadFault}
 use Rattle.dap_server.specs.declared.served.Served.{Served}
 use Rattle.dap_server.specs.declared.reply_outcome.Answered.{Answered}
@@ -47,13 +47,13 @@ pub nothing-asked : (told : Told) (o : Option Asked) (cause : Cause) (asked aske
 nothing-asked told o cause asked asked' few = let (n, may) = least-asked told o cause in (n, may, omega (arith, few))
 
 pub text-asks : (told : Told) (o : Option Asked) (a : Asked) (kind : Kind) (text : List ℕ) (asked asked' : ℕ) → kind ≢ Dods → o ≡ Some a → asked' ≤ asked + most_first told a.name
-    → (n : ℕ) × MayAsk told o (Ok (text_of kind text)) n × (asked' ≤ asked + n)
+    → (n : ℕ) × MayAsk told o (Ok (result_text kind text)) n × (asked' ≤ asked + n)
 text-asks told o a Dds text asked asked' other is few =
-    (most_first told a.name + 0, subst (λ p. MayAsk told p (Ok (text_of Dds text)) (most_first told a.name + 0)) (sym is) (0, refl, refl), omega (arith, few))
+    (most_first told a.name + 0, subst (λ p. MayAsk told p (Ok (result_text Dds text)) (most_first told a.name + 0)) (sym is) (0, refl, refl), omega (arith, few))
 text-asks told o a Das text asked asked' other is few =
-    (most_first told a.name + 0, subst (λ p. MayAsk told p (Ok (text_of Das text)) (most_first told a.name + 0)) (sym is) (0, refl, refl), omega (arith, few))
+    (most_first told a.name + 0, subst (λ p. MayAsk told p (Ok (result_text Das text)) (most_first told a.name + 0)) (sym is) (0, refl, refl), omega (arith, few))
 text-asks told o a Ver text asked asked' other is few =
-    (most_first told a.name + 0, subst (λ p. MayAsk told p (Ok (text_of Ver text)) (most_first told a.name + 0)) (sym is) (0, refl, refl), omega (arith, few))
+    (most_first told a.name + 0, subst (λ p. MayAsk told p (Ok (result_text Ver text)) (most_first told a.name + 0)) (sym is) (0, refl, refl), omega (arith, few))
 text-asks told o a Dods text asked asked' other is few = absurd (other refl)
 
 -- ---- steps

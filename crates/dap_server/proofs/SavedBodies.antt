@@ -19,7 +19,7 @@ use Rattle.saved_source.specs.declared.saved.Saved.{Saved}
 use Rattle.dap_http.specs.declared.kind.Kind.TheVariants.{Dods}
 use Rattle.dap_server.proofs.Answering.{dods_large, dods_small}
 use Rattle.dap_server.specs.Files.{saved_stored}
-use Rattle.dap_server.specs.Results.{DodsAnswers, text_of}
+use Rattle.dap_server.specs.Results.{DodsAnswers, result_text}
 use Rattle.dap_server.specs.inner.Opening.{WhereRefused, saved_stop}
 use Rattle.dap_server.specs.declared.no_answer.Stop.{Stop}
 
@@ -27,7 +27,7 @@ use Rattle.dap_server.specs.declared.no_answer.Stop.{Stop}
 pub saved_text : (e : Dataset) (query : List ℕ) (d : Dataset) (c : Constraint) (m : Marks) (s : Saved) (b : SavedBody) → d ≡ e → Spells query c → cause d c ≡ None → m ≡ marks d c
     → ((ts : List Tree) → Holds s ts → Sends b (filtered_body m (selections d c) d ts))
     → ((bytes name : List ℕ) (ts : List Tree) → IsSaved bytes name d ts → too_large (constrained m d) ≡ None)
-    → (bytes name : List ℕ) (ts : List Tree) → IsSaved bytes name e ts → Holds s ts → (text : List ℕ) × Sends b text × DodsAnswers (saved_stored e ts) query (Ok (text_of Dods text))
+    → (bytes name : List ℕ) (ts : List Tree) → IsSaved bytes name e ts → Holds s ts → (text : List ℕ) × Sends b text × DodsAnswers (saved_stored e ts) query (Ok (result_text Dods text))
 saved_text e query d c m s b is_d spells accepted is_m sends fits bytes name ts is holds =
     let small : too_large (constrained m d) ≡ None = fits bytes name ts (subst (λ x. IsSaved bytes name x ts) (sym is_d) is) in
     let text : List ℕ = filtered_body m (selections d c) d ts in

@@ -31,7 +31,7 @@ use Rattle.dap_http.specs.declared.kind.Kind.TheVariants.{Dods}
 use Rattle.sequence_select.specs.Selections.{selections}
 use Rattle.dap_server.specs.Costs.{head_len, marks_of}
 use Rattle.dap_server.specs.Files.{Stored, table_stored}
-use Rattle.dap_server.specs.Results.{DodsAnswers, text_of}
+use Rattle.dap_server.specs.Results.{DodsAnswers, result_text}
 use Rattle.dap_server.specs.inner.Marking.{IsRefusedOn}
 use Rattle.dap_server.specs.inner.Opening.{WhereRefused, body_stop}
 use Rattle.dap_server.specs.declared.no_answer.Stop.{Stop}
@@ -96,7 +96,7 @@ asks_nothing b file put asked none may = nothing_begun (leaves_in b) file (lengt
 pub table_small : (t : CsvTable) (query : List ℕ) (d : Dataset) (constraint : Constraint) (m : Marks) (mask : List Bool) (text : List ℕ) → d ≡ table_dataset t → Spells query constraint
     → cause d constraint ≡ None → m ≡ marks d constraint → mask ≡ map (λ row. kept (selections (table_dataset t) constraint) 1 (row_tree row)) t.rows → too_large (constrained m d) ≡ None
     → text ≡ body (constrained m (table_dataset t)) (constrained_trees m all_rows (table_dataset t) (table_trees (kept_table mask t)))
-    → DodsAnswers (table_stored t) query (Ok (text_of Dods text))
+    → DodsAnswers (table_stored t) query (Ok (result_text Dods text))
 table_small t query d constraint m mask text is_d spells accepted is_m is_mask small is_text =
     let is : text ≡ body (constrained m (table_dataset t)) (constrained_trees m (kept (selections (table_dataset t) constraint)) (table_dataset t) (table_trees t)) =
     table_text t m (selections (table_dataset t) constraint) mask text is_mask is_text in

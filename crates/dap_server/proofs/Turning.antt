@@ -25,7 +25,7 @@ request-stays input rest more head first =
 -- one more turn in front of those that are served
 pub turn-before : (n before : ℕ) (told : Told) (kept kept' taken taken' : List ℕ) (t : Turn) (ended : Bool) (c : Connection) (served : Served) (status : ℕ)
     → FirstRequest (kept ++ taken) t.head kept' → Rattle.dap_server.specs.Connections.MayAnswer told (request (n + 1) t.head) t.answer
-    → is_last_turn (n + 1) t ≡ false → status ≡ Rattle.dap_server.specs.Replies.status_of t.answer
+    → is_last_turn (n + 1) t ≡ false → status ≡ Rattle.dap_server.specs.Replies.reply_status t.answer
     → IsServedFrom (n + 1) status told (kept' ++ taken') ended c served
     → IsServedFrom n before told (kept ++ (taken ++ taken')) ended (record { turns = t ∷ c.turns; left = c.left; behind = c.behind }) served
 turn-before n before told kept kept' taken taken' t ended c served status first may goes is s =

@@ -11,9 +11,9 @@ use Rattle.dap_http.specs.Requests.{FirstRequest, HasNoHead, HasNoRequest, IsBad
 use Rattle.dap_http.proofs.HeadReading.{none-now, too-long-still}
 use Rattle.dap_outside.specs.Causes.{Rose}
 use Rattle.dap_outside.specs.Files.{Told}
-use Rattle.dap_server.specs.Connections.{AreTurns, Behind, Connection, IsClosed, IsServed, MayAnswer, RoseBy, RoseFor, Stops, ends_after, failed_turns, failures, is_last_turn, last_status, nothing, part_of_refusal, part_of_reply, put_from, refusal, status_behind}
+use Rattle.dap_server.specs.Connections.{AreTurns, Behind, Connection, IsClosed, IsConnectionServed, MayAnswer, RoseBy, RoseFor, Stops, ends_after, failed_turns, failures, is_last_turn, last_status, nothing, part_of_refusal, part_of_reply, put_from, refusal, status_behind}
 use Rattle.dap_server.specs.Files.{Files}
-use Rattle.dap_server.specs.Replies.{AreAnswered, IsAnswered, IsAnsweredAmong, Request, Turn, replies, request, status_of, wants}
+use Rattle.dap_server.specs.Replies.{AreAnswered, IsRequestAnswered, IsRequestAnsweredAmong, Request, Turn, replies, reply_status, request, wants}
 use Rattle.dap_server.specs.Results.{Text}
 use Rattle.dap_server.specs.Whole.{AnswersAll, EndsBehind}
 use Rattle.dap_server.specs.declared.served.Ending.{Ending}
@@ -58,7 +58,7 @@ no-failures zero faults faults' rose none = refl
 no-failures (suc n) faults faults' rose none = absurd (none (omega (arith, rose)))
 
 -- an answer is a text, a want of memory, a failed read, or another cause
-wants-status : (answer : Result Text Cause) → wants answer ≡ true → status_of answer ≡ 503
+wants-status : (answer : Result Text Cause) → wants answer ≡ true → reply_status answer ≡ 503
 wants-status (Ok t) is = cc is
 wants-status (Err OutOfMemory) is = refl
 wants-status (Err cause) is = cc is
@@ -79,14 +79,14 @@ cases-bool : (b : Bool) → (b ≡ true) ⊎ (b ≡ false)
 cases-bool true = inl refl
 cases-bool false = inr refl
 
-no-wants : (answer : Result Text Cause) → status_of answer ≢ 503 → wants answer ≡ false
+no-wants : (answer : Result Text Cause) → reply_status answer ≢ 503 → wants answer ≡ false
 no-wants answer unlike = elim (cases-bool (wants answer)) [
   | inl is ↦ absurd (unlike (wants-status answer is))
   | inr is ↦ is
 ]
 
-answered-so : (files : Files) (q : Request) (answer : Result Text Cause) → MayAnswer (Some files) q answer → Rattle.dap_server.specs.Connections.has_failed answer ≡ 0 → wants answer ≡ false → IsAnswered files q answer
-answered-so files q answer (inl (other, is, answers)) none calm = subst (λ f. IsAnsweredAmong (Some files) f q answer) is answers
+answered-so : (files : Files) (q : Request) (answer : Result Text Cause) → MayAnswer (Some files) q answer → Rattle.dap_server.specs.Connections.has_failed answer ≡ 0 → wants answer ≡ false → IsRequestAnswered files q answer
+answered-so files q answer (inl (other, is, answers)) none calm = subst (λ f. IsRequestAnsweredAmong (Some files) f q answer) is answers
 answered-so files q answer (inr (inl (is, served, asks))) none calm = cc (none, ap Rattle.dap_server.specs.Connections.has_failed is)
 answered-so files q answer (inr (inr is)) none calm = cc (calm, ap wants is)
 
@@ -130,7 +130,7 @@ all-turns files k bytes left more (t ∷ turns) before (rest, (first, may), behi
       (last-one files k bytes rest more t before first may last (omega (arith, none)) (subst (λ (us : List Turn). Calm before k (t ∷ us)) empty calm)))
   | inr goes ↦
       let same : ends_after (is_last_turn k t) (k + 1) turns ≡ ends_after false (k + 1) turns = ap (λ b. ends_after b (k + 1) turns) goes in
-      let (answered, requests) = all-turns files (k + 1) rest left more turns (status_of t.answer) (of-false (is_last_turn k t) _ _ goes behind) (omega (arith, none)) (λ ends. calm (same ∙ ends)) in
+      let (answered, requests) = all-turns files (k + 1) rest left more turns (reply_status t.answer) (of-false (is_last_turn k t) _ _ goes behind) (omega (arith, none)) (λ ends. calm (same ∙ ends)) in
       let ends : ends_connection k t.head ≡ false = no-left (ends_connection k t.head) (wants t.answer) goes in
       let quiet : wants t.answer ≡ false = no-right (ends_connection k t.head) (wants t.answer) goes in (
         (answered-so files (request k t.head) t.answer may (omega (arith, none)) quiet, answered),
@@ -228,7 +228,7 @@ no-break WriteFault n is = λ e. cc e
 no-break Broken n is = absurd (omega (arith, is))
 
 whole-taken : (files : Files) (taken more : List ℕ) (c : Connection) (served : Served) (ended : Bool) (a b d e f g : ℕ)
-    → IsServed (Some files) taken ended c served → RoseBy (failures c served.ending) a b → RoseFor served.ending d e f g → (IsTrue ended → more ≡ [])
+    → IsConnectionServed (Some files) taken ended c served → RoseBy (failures c served.ending) a b → RoseFor served.ending d e f g → (IsTrue ended → more ≡ [])
     → ¬ (Rose a b) → ¬ (Rose d e) → ¬ (Rose f g) → served.status ≢ 503 → AnswersAll (taken ++ more) files (put_from 1 c) served
 whole-taken files taken more c served ended a b d e f g s rose causes at_end no_shelf no_take no_put calm =
     let count : failures c served.ending ≡ 0 = no-failures (failures c served.ending) a b rose no_shelf in
@@ -247,7 +247,7 @@ whole-taken files taken more c served ended a b d e f g s rose causes at_end no_
     ]
 
 pub whole : (told : Told) (files : Files) (input : List ℕ) (l l' w w' : Option (List ℕ)) (served : Served) (ended : Bool) (a b d e f g : ℕ)
-    → ((c : Connection) × (taken : List ℕ) × Consumes l l' taken × Appends w w' (put_from 1 c) × IsServed told taken ended c served × RoseBy (failures c served.ending) a b)
+    → ((c : Connection) × (taken : List ℕ) × Consumes l l' taken × Appends w w' (put_from 1 c) × IsConnectionServed told taken ended c served × RoseBy (failures c served.ending) a b)
     → RoseFor served.ending d e f g → (IsTrue ended → IsAtEnd l') → told ≡ Some files → l ≡ Some input
     → ¬ (Rose a b) → ¬ (Rose d e) → ¬ (Rose f g) → served.status ≢ 503 → (gained : List ℕ) × Appends w w' gained × AnswersAll input files gained served
 whole told files input l l' w w' served ended a b d e f g (c, taken, consumes, appends, s, rose) causes at_end is_told is_left no_shelf no_take no_put calm =
@@ -255,6 +255,6 @@ whole told files input l l' w w' served ended a b d e f g (c, taken, consumes, a
       put_from 1 c,
       appends,
       subst (λ i. AnswersAll i files (put_from 1 c) served) (sym all)
-          (whole-taken files taken more c served ended a b d e f g (subst (λ t. IsServed t taken ended c served) is_told s) rose causes
+          (whole-taken files taken more c served ended a b d e f g (subst (λ t. IsConnectionServed t taken ended c served) is_told s) rose causes
           (λ mark. subst IsAtEnd is_more (at_end mark)) no_shelf no_take no_put calm),
     )

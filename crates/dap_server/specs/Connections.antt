@@ -12,7 +12,7 @@ use Rattle.dap_http.specs.Requests.{FirstRequest, HasNoRequest, IsBadRequest, Is
 use Rattle.dap_http.specs.Targets.{Asked, target_of}
 use Rattle.dap_server.specs.Costs.{IsCost, asks_shelf, most_first}
 use Rattle.dap_server.specs.Files.{Files, MayHave, form_of, is_read_first}
-use Rattle.dap_server.specs.Replies.{IsAnsweredAmong, Request, Turn, head_of, is_data, is_head, is_last, last_reply, replies, reply_of, request, status_of, wants}
+use Rattle.dap_server.specs.Replies.{IsRequestAnsweredAmong, Request, Turn, head_of, is_data, is_head, is_last, last_reply, replies, reply_of, reply_status, request, wants}
 use Rattle.dap_server.specs.Results.{Text}
 use Rattle.dap_server.specs.declared.served.Ending.{Ending}
 use Rattle.dap_server.specs.declared.served.Ending.TheVariants.{Closed, Gone, ReadFault, WriteFault, Broken}
@@ -29,7 +29,7 @@ LooksForFile (Some a) = IsTrue (asks_shelf a)
 -- by the cause of a failed read, and any by that of a want of memory.
 abbrev pub MayAnswer : Told → Request → Result Text Cause → Type 0
 MayAnswer told q answer =
-    ((files : Files) × MayHave told files × IsAnsweredAmong told files q answer)
+    ((files : Files) × MayHave told files × IsRequestAnsweredAmong told files q answer)
     ⊎ (((answer ≡ Err ReadFailed) × (is_other q.method ≡ false) × LooksForFile (target_of q.target))
     ⊎ (answer ≡ Err OutOfMemory))
 
@@ -56,7 +56,7 @@ ends_after before k (t ∷ turns) = ends_after (is_last_turn k t) (k + 1) turns
 -- the status of the last of them
 abbrev pub last_status : ℕ → List Turn → ℕ
 last_status before [] = before
-last_status before (t ∷ turns) = last_status (status_of t.answer) turns
+last_status before (t ∷ turns) = last_status (reply_status t.answer) turns
 
 -- ---- How a connection may end.
 
@@ -169,8 +169,8 @@ pub record IsServedFrom (n before : ℕ) (told : Told) (taken : List ℕ) (ended
   pub status : served.status ≡ status_behind (last_status before c.turns) c.behind
 
 -- from its first request on
-abbrev pub IsServed : Told → List ℕ → Bool → Connection → Served → Type 0
-IsServed told taken ended c served = IsServedFrom 0 0 told taken ended c served
+abbrev pub IsConnectionServed : Told → List ℕ → Bool → Connection → Served → Type 0
+IsConnectionServed told taken ended c served = IsServedFrom 0 0 told taken ended c served
 
 -- ---- How often the shelf failed, and what was asked of it.
 

@@ -19,7 +19,7 @@ use Rattle.netcdf_source.specs.Header.{IsHeader}
 use Rattle.netcdf_source.specs.Mapping.{records_of}
 use Rattle.netcdf_source.specs.declared.header.Contents.{Contents}
 use Rattle.dap_server.specs.Files.{Files, Stored, form_of, front, joined, netcdf_stored}
-use Rattle.dap_server.specs.Results.{AnswersAsked, Opens, Results, Text, left_of, text_of}
+use Rattle.dap_server.specs.Results.{AnswersAsked, Opens, Results, Text, left_of, result_text}
 
 -- what is asked by a query of bytes has one answer at most
 abbrev pub OneResult : Type 0
@@ -30,7 +30,7 @@ OneResult = (files : Files) (a : Asked) (one other : Result Text Cause) → IsTr
 abbrev pub AcceptedIsServed : Type 0
 AcceptedIsServed = (target name query : List ℕ) (files : Files) (s : Stored) (c : Constraint) → target_of target ≡ Some (record { name = name; kind = Dods; query = query })
     → Opens files name (Ok s) → Spells query c → cause s.dataset c ≡ None → too_large (constrained (marks s.dataset c) s.dataset) ≡ None
-    → let left = left_of s c in Results target files (Ok (text_of Dods (dds left.dataset ++ codes "Data:\n" ++ xdr left.dataset left.trees)))
+    → let left = left_of s c in Results target files (Ok (result_text Dods (dds left.dataset ++ codes "Data:\n" ++ xdr left.dataset left.trees)))
 
 -- a list of one line has what the file of its line has, but that the dataset has the name of the list
 abbrev pub OneLineIsItself : Type 0

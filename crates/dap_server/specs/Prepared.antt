@@ -13,7 +13,7 @@ use Rattle.saved_source.specs.declared.body.SavedBody.{SavedBody}
 use Rattle.xdr_encode.specs.declared.body.Body.{Body}
 use Rattle.dap_server.specs.Costs.{IsCost, IsCostAt}
 use Rattle.dap_server.specs.Files.{Files, MayHave, form_of, is_read_first, joined}
-use Rattle.dap_server.specs.Results.{AnswersAmong, Text, text_of}
+use Rattle.dap_server.specs.Results.{AnswersAmong, Text, result_text}
 use Rattle.dap_server.specs.declared.prepared.Prepared.{Prepared}
 use Rattle.dap_server.specs.declared.prepared.Prepared.TheVariants as prepared
 
@@ -98,10 +98,10 @@ WhereNoShelfFault prepared.Memory P = P
 
 -- it is this answer, unless the shelf failed or memory was wanted
 abbrev pub IsFor : {F : Type 0} → Result Text Cause → Prepared F → Type 0
-IsFor answer (prepared.Text kind text) = answer ≡ Ok (text_of kind text)
-IsFor answer (prepared.Body b file) = (text : List ℕ) × (answer ≡ Ok (text_of Dods text))
-IsFor answer (prepared.Saved b) = (text : List ℕ) × (answer ≡ Ok (text_of Dods text))
-IsFor answer (prepared.Joined b files) = (text : List ℕ) × (answer ≡ Ok (text_of Dods text))
+IsFor answer (prepared.Text kind text) = answer ≡ Ok (result_text kind text)
+IsFor answer (prepared.Body b file) = (text : List ℕ) × (answer ≡ Ok (result_text Dods text))
+IsFor answer (prepared.Saved b) = (text : List ℕ) × (answer ≡ Ok (result_text Dods text))
+IsFor answer (prepared.Joined b files) = (text : List ℕ) × (answer ≡ Ok (result_text Dods text))
 IsFor answer (prepared.Refuse cause) = answer ≡ Err cause
 IsFor answer prepared.ShelfFault = ⊤
 IsFor answer prepared.Memory = ⊤
@@ -109,8 +109,8 @@ IsFor answer prepared.Memory = ⊤
 -- A body of joined files, which are these: over their bytes it is the data response. It reads within them,
 -- and no more than its marks cost.
 pub record IsJoinedFor {F : Type 0} (told : Told) (content : F → Option (List ℕ)) (size_of : F → ℕ) (a : Asked) (b : JoinBody) (files : List F) : Type 0 where
-  pub body : (contents : List (List ℕ)) → AreTold (map content files) contents → MayGive told a (Ok (text_of Dods (text_in b contents)))
-  pub accepted : (text : List ℕ) × MayGive told a (Ok (text_of Dods text))
+  pub body : (contents : List (List ℕ)) → AreTold (map content files) contents → MayGive told a (Ok (result_text Dods (text_in b contents)))
+  pub accepted : (text : List ℕ) × MayGive told a (Ok (result_text Dods text))
   pub of_list : (a.kind ≡ Dods) × (form_of a.name ≡ Some joined)
   pub tells : IsSome told → (contents : List (List ℕ)) × AreTold (map content files) contents
   pub fits : FitsFiles b (map size_of files)

@@ -31,11 +31,11 @@ abbrev pub is_head : Request → Bool
 is_head q = bytes_eq q.method (codes "HEAD")
 
 -- what it is answered: a text, or the first cause, of which a method that is not served comes before all
-abbrev pub IsAnsweredAmong : Told → Files → Request → Result Text Cause → Type 0
-IsAnsweredAmong told files q answer = MatchBool (is_other q.method) (answer ≡ Err BadMethod) (ResultsAmong told q.target files answer)
+abbrev pub IsRequestAnsweredAmong : Told → Files → Request → Result Text Cause → Type 0
+IsRequestAnsweredAmong told files q answer = MatchBool (is_other q.method) (answer ≡ Err BadMethod) (ResultsAmong told q.target files answer)
 
-abbrev pub IsAnswered : Files → Request → Result Text Cause → Type 0
-IsAnswered files q answer = IsAnsweredAmong (Some files) files q answer
+abbrev pub IsRequestAnswered : Files → Request → Result Text Cause → Type 0
+IsRequestAnswered files q answer = IsRequestAnsweredAmong (Some files) files q answer
 
 -- data has no stated length
 abbrev pub stated_length : Text → Option ℕ
@@ -66,9 +66,9 @@ body_of q (Err cause) = error_object cause
 abbrev pub reply_of : Request → Result Text Cause → List ℕ
 reply_of q answer = head_of q answer ++ (if is_head q then [] else body_of q answer)
 
-abbrev pub status_of : Result Text Cause → ℕ
-status_of (Ok t) = 200
-status_of (Err cause) = http_status cause
+abbrev pub reply_status : Result Text Cause → ℕ
+reply_status (Ok t) = 200
+reply_status (Err cause) = http_status cause
 
 -- where there is no request: the head, which ends the connection, and the Error object
 abbrev pub last_reply : Cause → List ℕ
@@ -87,7 +87,7 @@ replies k (t ∷ turns) = reply_of (request k t.head) t.answer ++ replies (k + 1
 -- each is answered by what it asks of these files
 abbrev pub AreAnswered : Files → ℕ → List Turn → Type 0
 AreAnswered files k [] = ⊤
-AreAnswered files k (t ∷ turns) = IsAnswered files (request k t.head) t.answer × AreAnswered files (k + 1) turns
+AreAnswered files k (t ∷ turns) = IsRequestAnswered files (request k t.head) t.answer × AreAnswered files (k + 1) turns
 
 -- the replies to the requests of an input over some files
 pub record Replies (input : List ℕ) (files : Files) (text : List ℕ) : Type 0 where

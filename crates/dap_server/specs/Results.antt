@@ -73,19 +73,19 @@ pub record Text : Type 0 where
   pub kind : Kind
   pub text : List ℕ
 
-abbrev pub text_of : Kind → List ℕ → Text
-text_of kind text = record { kind = kind; text = text }
+abbrev pub result_text : Kind → List ℕ → Text
+result_text kind text = record { kind = kind; text = text }
 
 -- a DDS may not be too long, and a data response may have no leaf with too many elements either
 abbrev pub dds_text : Dataset → Result Text Cause
-dds_text d = if nat_lt most_text (length (dds d)) then Err (TooLarge 0) else Ok (text_of Dds (dds d))
+dds_text d = if nat_lt most_text (length (dds d)) then Err (TooLarge 0) else Ok (result_text Dds (dds d))
 
 abbrev pub dods_text : Left → Result Text Cause
-dods_text left = unless (option_map (λ leaf. TooLarge leaf) (too_large left.dataset)) (text_of Dods (body left.dataset left.trees))
+dods_text left = unless (option_map (λ leaf. TooLarge leaf) (too_large left.dataset)) (result_text Dods (body left.dataset left.trees))
 
 -- what a stored file is answered with, by the kind. For the attributes the query is not read
 abbrev pub das_text : Stored → Result Text Cause
-das_text s = Ok (text_of Das (das s.attributes))
+das_text s = Ok (result_text Das (das s.attributes))
 
 abbrev pub DdsAnswers : Stored → List ℕ → Result Text Cause → Type 0
 DdsAnswers s query = Then (Leaves s query) (λ left. Is (dds_text left.dataset))
@@ -95,7 +95,7 @@ DodsAnswers s query = Then (Leaves s query) (λ left. Is (dods_text left))
 
 -- what some files are answered with, among those that may be found. For the version no file is looked up
 abbrev pub AnswersAmong : Told → Kind → Files → List ℕ → List ℕ → Result Text Cause → Type 0
-AnswersAmong told Ver files name query = Is (Ok (text_of Ver version))
+AnswersAmong told Ver files name query = Is (Ok (result_text Ver version))
 AnswersAmong told Das files name query = Then (OpensAmong told files name) (λ s. Is (das_text s))
 AnswersAmong told Dds files name query = Then (OpensAmong told files name) (λ s. DdsAnswers s query)
 AnswersAmong told Dods files name query = Then (OpensAmong told files name) (λ s. DodsAnswers s query)

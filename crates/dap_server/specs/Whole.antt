@@ -11,14 +11,14 @@ use Rattle.dap_server.specs.declared.served.Ending.TheVariants.{Closed, Gone}
 use Rattle.dap_server.specs.declared.served.Served.{Served}
 
 -- bytes that hold no request are refused so
-abbrev pub IsRefused : List ℕ → Cause → Type 0
-IsRefused left cause = ((cause ≡ BadRequest) × IsBadRequest left) ⊎ ((cause ≡ HeadTooLong) × IsTooLong left)
+abbrev pub IsRequestRefused : List ℕ → Cause → Type 0
+IsRequestRefused left cause = ((cause ≡ BadRequest) × IsBadRequest left) ⊎ ((cause ≡ HeadTooLong) × IsTooLong left)
 
 -- What comes behind the last of `count` requests, which had that status, where it does not end the
 -- connection: one more reply, which does; or the peer is gone.
 abbrev pub EndsBehind : List ℕ → List ℕ → ℕ → ℕ → Served → Type 0
 EndsBehind left tail count status served =
-    ((cause : Cause) × IsRefused left cause × (tail ≡ last_reply cause) × (served ≡ record { replies = count + 1; status = http_status cause; ending = Closed }))
+    ((cause : Cause) × IsRequestRefused left cause × (tail ≡ last_reply cause) × (served ≡ record { replies = count + 1; status = http_status cause; ending = Closed }))
     ⊎ (IsGone left × (tail ≡ []) × (served ≡ record { replies = count; status = status; ending = Gone }))
 
 -- all requests of the input were answered, in order, each by its reply

@@ -3,7 +3,7 @@ use Rattle.std.specs.Prelude.{◌≡◌, codes, Some, None, Ok, Err}
 use Rattle.dap_errors.specs.declared.cause.Cause.TheVariants.{BadTarget, NoFile}
 use Rattle.dap_http.specs.declared.kind.Kind.TheVariants.{Dds, Dods, Ver}
 use Rattle.dap_server.specs.Files.{Files, form_of, joined, netcdf, saved, table}
-use Rattle.dap_server.specs.Results.{Results, asked, text_of}
+use Rattle.dap_server.specs.Results.{Results, asked, result_text}
 
 abbrev pub nothing : Files
 nothing name = None
@@ -16,7 +16,7 @@ abbrev pub NoKind : Type 0
 NoKind = Results (codes "none.html") nothing (Err BadTarget)
 
 abbrev pub AnyVersion : Type 0
-AnyVersion = Results (codes "any.ver") nothing (Ok (text_of Ver (codes "Core version: DAP/2.0\nServer version: dap2/1.0\n")))
+AnyVersion = Results (codes "any.ver") nothing (Ok (result_text Ver (codes "Core version: DAP/2.0\nServer version: dap2/1.0\n")))
 
 -- a query behind a name, and one with escapes
 abbrev pub Call : Type 0

@@ -8,7 +8,7 @@ ghost use Rattle.dap_server.specs.Costs.{IsCost};
 ghost use Rattle.dap_server.specs.Files.{form_of, is_read_first};
 ghost use Rattle.dap_server.specs.Prepared.{IsOver, MayGive, asked_of};
 ghost use Rattle.dap_server.specs.Replies.{is_head, wants_memory};
-ghost use Rattle.dap_server.specs.Results.{text_of};
+ghost use Rattle.dap_server.specs.Results.{result_text};
 ghost use Rattle.dap_server.specs.inner.Serving.{Answers, AnswersWith, Costs, PutsCause, PutsReply, SinkRose, data_front, request_in};
 
 use crate::joined_answer::answer_joined;
@@ -91,7 +91,7 @@ fn put_text<O: Sink>(
     text: &[u8],
 ) -> Answered
     requires { kind ≢ Kind.Dods }
-    ensures puts { (PutsReply (request_in head.now ends) (Ok (text_of kind text.now)) (O.written out.old) (O.written out.new) result)
+    ensures puts { (PutsReply (request_in head.now ends) (Ok (result_text kind text.now)) (O.written out.old) (O.written out.new) result)
         ⊎ PutsReply (request_in head.now ends) (Err Cause.OutOfMemory) (O.written out.old) (O.written out.new) result }
     ensures fault { SinkRose result (O.put_faults out.old) (O.put_faults out.new) }
     ensures later { O.put_faults out.old ≤ O.put_faults out.new }
@@ -122,8 +122,8 @@ fn answer_values<R: Threads + Sync, S: Shelf, O: Sink>(
     requires get { is_head (request_in head.now ends) ≡ false }
     requires front { front.now ≡ data_front (request_in head.now ends) }
     requires fits { FitsFile body.old (S.size_of shelf.old file.old) }
-    requires body { (bytes : List ℕ) → IsOver target.now.name (S.content shelf.old file.old) bytes → MayGive (S.files shelf.old) (asked_of target.now) (Ok (text_of Kind.Dods (text_in body.old bytes))) }
-    requires accepted { (text : List ℕ) × MayGive (S.files shelf.old) (asked_of target.now) (Ok (text_of Kind.Dods text)) }
+    requires body { (bytes : List ℕ) → IsOver target.now.name (S.content shelf.old file.old) bytes → MayGive (S.files shelf.old) (asked_of target.now) (Ok (result_text Kind.Dods (text_in body.old bytes))) }
+    requires accepted { (text : List ℕ) × MayGive (S.files shelf.old) (asked_of target.now) (Ok (result_text Kind.Dods text)) }
     requires alone { IsTrue (is_read_first (form_of target.now.name)) → HasNoFile body.old }
     requires tells { IsSome (S.files shelf.old) → IsSome (S.content shelf.old file.old) }
     requires cost { (cost : ℕ) × IsCost (S.files shelf.old) (asked_of target.now) cost × (cost_in body.old ≤ cost) }
@@ -161,8 +161,8 @@ fn answer_data<R: Threads + Sync, S: Shelf, O: Sink>(
     requires target { target_of head.now.target ≡ Some (asked_of target.now) }
     requires served { is_other head.now.method ≡ false }
     requires fits { FitsFile body.old (S.size_of shelf.old file.old) }
-    requires body { (bytes : List ℕ) → IsOver target.now.name (S.content shelf.old file.old) bytes → MayGive (S.files shelf.old) (asked_of target.now) (Ok (text_of Kind.Dods (text_in body.old bytes))) }
-    requires accepted { (text : List ℕ) × MayGive (S.files shelf.old) (asked_of target.now) (Ok (text_of Kind.Dods text)) }
+    requires body { (bytes : List ℕ) → IsOver target.now.name (S.content shelf.old file.old) bytes → MayGive (S.files shelf.old) (asked_of target.now) (Ok (result_text Kind.Dods (text_in body.old bytes))) }
+    requires accepted { (text : List ℕ) × MayGive (S.files shelf.old) (asked_of target.now) (Ok (result_text Kind.Dods text)) }
     requires alone { IsTrue (is_read_first (form_of target.now.name)) → HasNoFile body.old }
     requires tells { IsSome (S.files shelf.old) → IsSome (S.content shelf.old file.old) }
     requires cost { (cost : ℕ) × IsCost (S.files shelf.old) (asked_of target.now) cost × (cost_in body.old ≤ cost) }

@@ -7,7 +7,7 @@ ghost use Rattle.xdr_encode.specs.Bodies.{FitsFile, HasNoFile, MayAsk, cost_in, 
 ghost use Rattle.dap_server.specs.Costs.{IsFormCost, IsFormCostAt, most_first};
 ghost use Rattle.dap_server.specs.Files.{form_of, is_read_first, joined, saved};
 ghost use Rattle.dap_server.specs.Prepared.{IsOver};
-ghost use Rattle.dap_server.specs.Results.{text_of};
+ghost use Rattle.dap_server.specs.Results.{result_text};
 ghost use Rattle.dap_server.specs.inner.Opening.{StaysBut, WhereFault, WhereRefused};
 ghost use Rattle.dap_server.specs.inner.Preparing.{MayGiveAs, WhereOfFile, WhereOfSaved};
 ghost use Rattle.saved_source.specs.Bodies.{Sends};
@@ -35,7 +35,7 @@ pub fn version_answer(alloc: Global) -> Result<Bytes, Stop>
 /// The DAS of the file of a name, which is no list of files.
 pub fn das_answer<S: Shelf>(alloc: Global, shelf: &mut S, name: &str) -> Result<Bytes, Stop>
     requires no_list { form_of name.now ≢ Some joined }
-    ensures text { IfOk result (λ text. (query : List ℕ) → MayGiveAs (S.files shelf.old) Kind.Das name.now query (Ok (text_of Kind.Das text))) }
+    ensures text { IfOk result (λ text. (query : List ℕ) → MayGiveAs (S.files shelf.old) Kind.Das name.now query (Ok (result_text Kind.Das text))) }
     ensures refused { IfErr result (WhereRefused (λ why. (query : List ℕ) → MayGiveAs (S.files shelf.old) Kind.Das name.now query (Err why))) }
     ensures why { IfErr result (WhereFault (IsTrue (is_some (form_of name.now)) × Rose (S.faults shelf.old) (S.faults shelf.new))) }
     ensures later { S.faults shelf.old ≤ S.faults shelf.new }
@@ -56,7 +56,7 @@ pub fn dds_answer<S: Shelf>(
     query: &[u8],
 ) -> Result<Bytes, Stop>
     requires no_list { form_of name.now ≢ Some joined }
-    ensures text { IfOk result (λ text. MayGiveAs (S.files shelf.old) Kind.Dds name.now query.now (Ok (text_of Kind.Dds text))) }
+    ensures text { IfOk result (λ text. MayGiveAs (S.files shelf.old) Kind.Dds name.now query.now (Ok (result_text Kind.Dds text))) }
     ensures refused { IfErr result (WhereRefused (λ why. MayGiveAs (S.files shelf.old) Kind.Dds name.now query.now (Err why))) }
     ensures why { IfErr result (WhereFault (IsTrue (is_some (form_of name.now)) × Rose (S.faults shelf.old) (S.faults shelf.new))) }
     ensures later { S.faults shelf.old ≤ S.faults shelf.new }
@@ -82,10 +82,10 @@ pub fn dods_answer<R: Threads + Sync, S: Shelf>(
     requires many { workers ≤ 64 }
     requires no_list { form_of name.now ≢ Some joined }
     ensures body { IfOk result (λ p. WhereOfFile p.0 (λ b. (bytes : List ℕ) → IsOver name.now (S.content shelf.new p.1) bytes →
-        MayGiveAs (S.files shelf.old) Kind.Dods name.now query.now (Ok (text_of Kind.Dods (text_in b bytes))))) }
-    ensures sends { IfOk result (λ p. WhereOfSaved p.0 (λ b. (text : List ℕ) × Sends b text × MayGiveAs (S.files shelf.old) Kind.Dods name.now query.now (Ok (text_of Kind.Dods text)))) }
+        MayGiveAs (S.files shelf.old) Kind.Dods name.now query.now (Ok (result_text Kind.Dods (text_in b bytes))))) }
+    ensures sends { IfOk result (λ p. WhereOfSaved p.0 (λ b. (text : List ℕ) × Sends b text × MayGiveAs (S.files shelf.old) Kind.Dods name.now query.now (Ok (result_text Kind.Dods text)))) }
     ensures of_saved { IfOk result (λ p. WhereOfSaved p.0 (λ b. form_of name.now ≡ Some saved)) }
-    ensures accepted { IfOk result (λ p. (text : List ℕ) × MayGiveAs (S.files shelf.old) Kind.Dods name.now query.now (Ok (text_of Kind.Dods text))) }
+    ensures accepted { IfOk result (λ p. (text : List ℕ) × MayGiveAs (S.files shelf.old) Kind.Dods name.now query.now (Ok (result_text Kind.Dods text))) }
     ensures form { IfOk result (λ p. IsTrue (is_some (form_of name.now))) }
     ensures tells { IfOk result (λ p. IsSome (S.files shelf.old) → IsSome (S.content shelf.new p.1)) }
     ensures alone { IfOk result (λ p. WhereOfFile p.0 (λ b. IsTrue (is_read_first (form_of name.now)) → HasNoFile b)) }

@@ -20,7 +20,7 @@ ghost use Rattle.xdr_encode.specs.Costs.{marks_cost};
 ghost use Rattle.dap_outside.specs.Files.{Told};
 ghost use Rattle.dap_server.specs.Costs.{IsFormCost, IsFormCostAt, head_len, marks_of};
 ghost use Rattle.dap_server.specs.Files.{form_of, is_read_first, netcdf_stored, saved, saved_stored, table_stored};
-ghost use Rattle.dap_server.specs.Results.{DodsAnswers, text_of};
+ghost use Rattle.dap_server.specs.Results.{DodsAnswers, result_text};
 ghost use Rattle.dap_server.specs.inner.Opening.{Has, IsHeldBy, OpenedAs, WhereFault, WhereRefused, body_stop, saved_stop, stored_of};
 ghost use Rattle.dap_server.specs.inner.Preparing.{WhereOfFile, WhereOfSaved};
 
@@ -55,9 +55,9 @@ pub fn body_stop(refusal: BodyRefusal) -> Stop
 /// The body for what a query leaves of a netCDF file with that header and name.
 pub fn cdf_body(alloc: Global, header: &Header, name: &str, query: &[u8]) -> Result<Body, Stop>
     ensures text { IfOk result (λ b. (bytes : List ℕ) → HasHeader header.now.contents bytes →
-        DodsAnswers (netcdf_stored name.now bytes header.now.contents) query.now (Ok (text_of Kind.Dods (text_in b bytes)))) }
+        DodsAnswers (netcdf_stored name.now bytes header.now.contents) query.now (Ok (result_text Kind.Dods (text_in b bytes)))) }
     ensures accepted { IfOk result (λ b. (bytes : List ℕ) → (text : List ℕ) ×
-        DodsAnswers (netcdf_stored name.now bytes header.now.contents) query.now (Ok (text_of Kind.Dods text))) }
+        DodsAnswers (netcdf_stored name.now bytes header.now.contents) query.now (Ok (result_text Kind.Dods text))) }
     ensures fits { IfOk result (λ b. FitsFile b header.now.length) }
     ensures cost { IfOk result (λ b. (constraint : Constraint) × Spells query.now constraint × (cost_in b ≤ marks_cost header.now.contents (marks_of header.now.contents name.now constraint))) }
     ensures cost_at { IfOk result (λ b. (constraint : Constraint) × Spells query.now constraint × ((bytes : List ℕ) (put cost : ℕ) → HasHeader header.now.contents bytes → MayAsk b bytes put cost →
@@ -117,7 +117,7 @@ pub fn table_body<R: Threads + Sync>(
 ) -> Result<Body, Stop>
     requires some { 1 ≤ workers }
     requires many { workers ≤ 64 }
-    ensures text { IfOk result (λ b. (held : List ℕ) → DodsAnswers (table_stored table) query.now (Ok (text_of Kind.Dods (text_in b held)))) }
+    ensures text { IfOk result (λ b. (held : List ℕ) → DodsAnswers (table_stored table) query.now (Ok (result_text Kind.Dods (text_in b held)))) }
     ensures alone { IfOk result HasNoFile }
     ensures fits { IfOk result (λ b. (size : ℕ) → FitsFile b size) }
     ensures cost { IfOk result (λ b. cost_in b ≡ 0) }
@@ -154,7 +154,7 @@ fn saved_stop(refusal: SavedBodyRefusal) -> Stop
 /// The body for what a query leaves of a saved response.
 fn saved_body(alloc: Global, response: SavedFile, query: &[u8]) -> Result<SavedBody, Stop>
     ensures text { IfOk result (λ b. (bytes name : List ℕ) (ts : List Tree) → IsSaved bytes name (dataset_in response.saved) ts → Holds response.saved ts →
-        (text : List ℕ) × Sends b text × DodsAnswers (saved_stored (dataset_in response.saved) ts) query.now (Ok (text_of Kind.Dods text))) }
+        (text : List ℕ) × Sends b text × DodsAnswers (saved_stored (dataset_in response.saved) ts) query.now (Ok (result_text Kind.Dods text))) }
     ensures refused { IfErr result (WhereRefused (λ why. (ts : List Tree) → DodsAnswers (saved_stored (dataset_in response.saved) ts) query.now (Err why))) }
     ensures no_fault { IfErr result (WhereFault ⊥) }
 {
@@ -185,12 +185,12 @@ pub fn body_of<R: Threads + Sync>(
     requires some { 1 ≤ workers }
     requires many { workers ≤ 64 }
     ensures text { IfOk result (λ d. WhereOfFile d (λ b. (bytes held : List ℕ) (ts : List Tree) → OpenedAs opened name.now bytes ts → IsHeldBy opened bytes held →
-        DodsAnswers (stored_of opened name.now ts) query.now (Ok (text_of Kind.Dods (text_in b held))))) }
+        DodsAnswers (stored_of opened name.now ts) query.now (Ok (result_text Kind.Dods (text_in b held))))) }
     ensures sends { IfOk result (λ d. WhereOfSaved d (λ b. (bytes : List ℕ) (ts : List Tree) → OpenedAs opened name.now bytes ts →
-        (text : List ℕ) × Sends b text × DodsAnswers (stored_of opened name.now ts) query.now (Ok (text_of Kind.Dods text)))) }
+        (text : List ℕ) × Sends b text × DodsAnswers (stored_of opened name.now ts) query.now (Ok (result_text Kind.Dods text)))) }
     ensures of_saved { IfOk result (λ d. WhereOfSaved d (λ b. (bytes : List ℕ) (ts : List Tree) → OpenedAs opened name.now bytes ts → form_of name.now ≡ Some saved)) }
     ensures accepted { IfOk result (λ d. (bytes : List ℕ) (ts : List Tree) → OpenedAs opened name.now bytes ts →
-        (text : List ℕ) × DodsAnswers (stored_of opened name.now ts) query.now (Ok (text_of Kind.Dods text))) }
+        (text : List ℕ) × DodsAnswers (stored_of opened name.now ts) query.now (Ok (result_text Kind.Dods text))) }
     ensures alone { IfOk result (λ d. WhereOfFile d (λ b. (bytes : List ℕ) (ts : List Tree) → OpenedAs opened name.now bytes ts → IsTrue (is_read_first (form_of name.now)) → HasNoFile b)) }
     ensures fits { IfOk result (λ d. WhereOfFile d (λ b. (bytes : List ℕ) (ts : List Tree) → OpenedAs opened name.now bytes ts → FitsFile b (length bytes))) }
     ensures cost { IfOk result (λ d. WhereOfFile d (λ b. (told : Told) (bytes : List ℕ) (ts : List Tree) → OpenedAs opened name.now bytes ts → Has told name.now bytes →

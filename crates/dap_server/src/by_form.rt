@@ -4,7 +4,7 @@ ghost use Rattle.std.specs.Prelude.{◌≡◌, ◌≢◌, ◌+◌, ◌≤◌, �
 ghost use Rattle.dap_outside.specs.Causes.{Rose};
 ghost use Rattle.dap_server.specs.Costs.{most_first};
 ghost use Rattle.dap_server.specs.Files.{form_of, is_joined};
-ghost use Rattle.dap_server.specs.Results.{text_of};
+ghost use Rattle.dap_server.specs.Results.{result_text};
 ghost use Rattle.dap_server.specs.inner.Opening.{StaysBut, WhereFault, WhereRefused};
 ghost use Rattle.dap_server.specs.inner.Preparing.{MayGiveAs};
 
@@ -32,7 +32,7 @@ pub fn is_list(name: &str) -> bool
 
 /// The DAS of the file of a name.
 pub fn das_by_form<S: Shelf>(alloc: Global, shelf: &mut S, name: &str) -> Result<Bytes, Stop>
-    ensures text { IfOk result (λ text. (query : List ℕ) → MayGiveAs (S.files shelf.old) Kind.Das name.now query (Ok (text_of Kind.Das text))) }
+    ensures text { IfOk result (λ text. (query : List ℕ) → MayGiveAs (S.files shelf.old) Kind.Das name.now query (Ok (result_text Kind.Das text))) }
     ensures refused { IfErr result (WhereRefused (λ why. (query : List ℕ) → MayGiveAs (S.files shelf.old) Kind.Das name.now query (Err why))) }
     ensures why { IfErr result (WhereFault (IsTrue (is_some (form_of name.now)) × Rose (S.faults shelf.old) (S.faults shelf.new))) }
     ensures later { S.faults shelf.old ≤ S.faults shelf.new }
@@ -54,7 +54,7 @@ pub fn dds_by_form<S: Shelf>(
     name: &str,
     query: &[u8],
 ) -> Result<Bytes, Stop>
-    ensures text { IfOk result (λ text. MayGiveAs (S.files shelf.old) Kind.Dds name.now query.now (Ok (text_of Kind.Dds text))) }
+    ensures text { IfOk result (λ text. MayGiveAs (S.files shelf.old) Kind.Dds name.now query.now (Ok (result_text Kind.Dds text))) }
     ensures refused { IfErr result (WhereRefused (λ why. MayGiveAs (S.files shelf.old) Kind.Dds name.now query.now (Err why))) }
     ensures why { IfErr result (WhereFault (IsTrue (is_some (form_of name.now)) × Rose (S.faults shelf.old) (S.faults shelf.new))) }
     ensures later { S.faults shelf.old ≤ S.faults shelf.new }

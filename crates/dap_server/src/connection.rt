@@ -7,7 +7,7 @@ ghost use Rattle.dap_errors.specs.Causes.{http_status};
 ghost use Rattle.httparse.specs.Grammar.{RequestHead};
 ghost use Rattle.dap_http.specs.Reading.{kept_by};
 ghost use Rattle.dap_http.specs.Requests.{FirstRequest};
-ghost use Rattle.dap_server.specs.Connections.{Connection, ConnectionMayAsk, FailedBy, IsPut, IsServed, RoseFor, failures, leaves_open};
+ghost use Rattle.dap_server.specs.Connections.{Connection, ConnectionMayAsk, FailedBy, IsConnectionServed, IsPut, RoseFor, failures, leaves_open};
 ghost use Rattle.dap_server.specs.Files.{Files};
 ghost use Rattle.dap_server.specs.Whole.{AnswersAll};
 ghost use Rattle.dap_server.specs.inner.Serving.{GoesOnFew, PutsLast, PutsRefusal, RoseNext, Serves, ServesFrom, next_of};
@@ -234,7 +234,7 @@ pub fn serve_connection<R: Threads + Sync, S: Shelf, L: Link>(
     ensures served { (c : Connection) × (taken : List ℕ)
         × Consumes (L.left link.old) (L.left link.new) taken
         × ((put : List ℕ) × Appends (L.written link.old) (L.written link.new) put × IsPut (S.files shelf.old) 1 c put)
-        × IsServed (S.files shelf.old) taken (L.ended link.new) c result
+        × IsConnectionServed (S.files shelf.old) taken (L.ended link.new) c result
         × FailedBy (failures c result.ending) (leaves_open c.turns result.ending c.behind) (S.faults shelf.old) (S.faults shelf.new)
         × ((n : ℕ) × ConnectionMayAsk (S.files shelf.old) c n × (S.asked shelf.new ≤ S.asked shelf.old + n)) }
 

@@ -5,7 +5,7 @@ ghost use Rattle.dap_outside.specs.Causes.{Rose};
 ghost use Rattle.dap_server.specs.Costs.{most_first};
 ghost use Rattle.dap_server.specs.Files.{form_of, joined};
 ghost use Rattle.dap_server.specs.Prepared.{IsJoinedFor};
-ghost use Rattle.dap_server.specs.Results.{text_of};
+ghost use Rattle.dap_server.specs.Results.{result_text};
 ghost use Rattle.dap_server.specs.inner.Opening.{StaysBut, WhereFault, WhereRefused};
 ghost use Rattle.dap_server.specs.inner.Preparing.{MayGiveAs, asked_as};
 
@@ -21,7 +21,7 @@ use std::alloc::Global;
 /// The DAS of the files that the list of a name joins.
 pub fn joined_das<S: Shelf>(alloc: Global, shelf: &mut S, name: &str) -> Result<Bytes, Stop>
     requires form { form_of name.now ≡ Some joined }
-    ensures text { IfOk result (λ text. (query : List ℕ) → MayGiveAs (S.files shelf.old) Kind.Das name.now query (Ok (text_of Kind.Das text))) }
+    ensures text { IfOk result (λ text. (query : List ℕ) → MayGiveAs (S.files shelf.old) Kind.Das name.now query (Ok (result_text Kind.Das text))) }
     ensures refused { IfErr result (WhereRefused (λ why. (query : List ℕ) → MayGiveAs (S.files shelf.old) Kind.Das name.now query (Err why))) }
     ensures why { IfErr result (WhereFault (Rose (S.faults shelf.old) (S.faults shelf.new))) }
     ensures later { S.faults shelf.old ≤ S.faults shelf.new }
@@ -41,7 +41,7 @@ pub fn joined_dds<S: Shelf>(
     query: &[u8],
 ) -> Result<Bytes, Stop>
     requires form { form_of name.now ≡ Some joined }
-    ensures text { IfOk result (λ text. MayGiveAs (S.files shelf.old) Kind.Dds name.now query.now (Ok (text_of Kind.Dds text))) }
+    ensures text { IfOk result (λ text. MayGiveAs (S.files shelf.old) Kind.Dds name.now query.now (Ok (result_text Kind.Dds text))) }
     ensures refused { IfErr result (WhereRefused (λ why. MayGiveAs (S.files shelf.old) Kind.Dds name.now query.now (Err why))) }
     ensures why { IfErr result (WhereFault (Rose (S.faults shelf.old) (S.faults shelf.new))) }
     ensures later { S.faults shelf.old ≤ S.faults shelf.new }

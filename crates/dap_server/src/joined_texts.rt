@@ -11,7 +11,7 @@ ghost use Rattle.join_source.specs.Joins.{headers_in, members_in, name_in};
 ghost use Rattle.join_source.specs.Members.{HaveHeaders, joined_attributes, lengths_of};
 ghost use Rattle.dap_server.specs.Costs.{join_head_len, join_marks};
 ghost use Rattle.dap_server.specs.Joins.{stored_together};
-ghost use Rattle.dap_server.specs.Results.{DdsAnswers, DodsAnswers, text_of};
+ghost use Rattle.dap_server.specs.Results.{DdsAnswers, DodsAnswers, result_text};
 ghost use Rattle.dap_server.specs.inner.Opening.{WhereFault, WhereRefused};
 
 use crate::bodies::body_stop;
@@ -33,7 +33,7 @@ pub fn joined_das_text(alloc: Global, joined: &Joined) -> Result<Bytes, Memory>
 
 /// The DDS of what a query leaves of joined files.
 pub fn joined_dds_text(alloc: Global, joined: &Joined, query: &[u8]) -> Result<Bytes, Stop>
-    ensures text { IfOk result (λ text. (files : List (List ℕ)) → DdsAnswers (stored_together (name_in joined.now) (members_in joined.now) files) query.now (Ok (text_of Kind.Dds text))) }
+    ensures text { IfOk result (λ text. (files : List (List ℕ)) → DdsAnswers (stored_together (name_in joined.now) (members_in joined.now) files) query.now (Ok (result_text Kind.Dds text))) }
     ensures refused { IfErr result (WhereRefused (λ why. (files : List (List ℕ)) → DdsAnswers (stored_together (name_in joined.now) (members_in joined.now) files) query.now (Err why))) }
     ensures no_fault { IfErr result (WhereFault ⊥) }
 {
@@ -46,9 +46,9 @@ pub fn joined_dds_text(alloc: Global, joined: &Joined, query: &[u8]) -> Result<B
 /// The body for what a query leaves of joined files.
 pub fn join_body(alloc: Global, joined: &Joined, query: &[u8]) -> Result<JoinBody, Stop>
     ensures text { IfOk result (λ b. (files : List (List ℕ)) → HaveHeaders (members_in joined.now) files →
-        DodsAnswers (stored_together (name_in joined.now) (members_in joined.now) files) query.now (Ok (text_of Kind.Dods (text_in b files)))) }
+        DodsAnswers (stored_together (name_in joined.now) (members_in joined.now) files) query.now (Ok (result_text Kind.Dods (text_in b files)))) }
     ensures accepted { IfOk result (λ b. (files : List (List ℕ)) → (text : List ℕ) ×
-        DodsAnswers (stored_together (name_in joined.now) (members_in joined.now) files) query.now (Ok (text_of Kind.Dods text))) }
+        DodsAnswers (stored_together (name_in joined.now) (members_in joined.now) files) query.now (Ok (result_text Kind.Dods text))) }
     ensures fits { IfOk result (λ b. FitsFiles b (lengths_of (headers_in joined.now))) }
     ensures cost { IfOk result (λ b. (constraint : Constraint) × Spells query.now constraint × (cost_in b ≤ joined_cost (members_in joined.now) (join_marks (members_in joined.now) (name_in joined.now) constraint))) }
     ensures cost_at { IfOk result (λ b. (constraint : Constraint) × Spells query.now constraint × ((files : List (List ℕ)) (put cost : ℕ) → HaveHeaders (members_in joined.now) files → MayAsk b files put cost →

@@ -9,7 +9,7 @@ ghost use Rattle.dap_server.specs.Costs.{IsCost, IsCostAt, asks_shelf, most_firs
 ghost use Rattle.dap_server.specs.Files.{form_of, is_read_first, saved};
 ghost use Rattle.dap_server.specs.Prepared.{IsFor, IsJoinedFor, IsOver, MayGive, MustGive, WhereBody, WhereJoined, WhereNoShelfFault, WhereRefuse, WhereSaved, WhereShelfFault, WhereText, asked_of};
 ghost use Rattle.saved_source.specs.Bodies.{Sends};
-ghost use Rattle.dap_server.specs.Results.{Text, text_of};
+ghost use Rattle.dap_server.specs.Results.{Text, result_text};
 ghost use Rattle.dap_server.specs.inner.Preparing.{IsMade, asked_as, body_prepared, data_prepared, join_prepared, stopped, text_prepared};
 
 use crate::answers_by_kind::{dods_answer, version_answer};
@@ -148,12 +148,12 @@ pub fn prepare<R: Threads + Sync, S: Shelf>(
 ) -> Prepared<S::File>
     requires some { 1 ≤ workers }
     requires many { workers ≤ 64 }
-    ensures text { WhereText result (λ kind text. (kind ≢ Kind.Dods) × MayGive (S.files shelf.old) (asked_of target.now) (Ok (text_of kind text))) }
+    ensures text { WhereText result (λ kind text. (kind ≢ Kind.Dods) × MayGive (S.files shelf.old) (asked_of target.now) (Ok (result_text kind text))) }
 
     // Over the bytes of its file the body is the data response; one whose values were read is it over any.
     ensures body { WhereBody result (λ body file. (bytes : List ℕ) → IsOver target.now.name (S.content shelf.new file) bytes →
-        MayGive (S.files shelf.old) (asked_of target.now) (Ok (text_of Kind.Dods (text_in body bytes)))) }
-    ensures accepted { WhereBody result (λ body file. (text : List ℕ) × MayGive (S.files shelf.old) (asked_of target.now) (Ok (text_of Kind.Dods text))) }
+        MayGive (S.files shelf.old) (asked_of target.now) (Ok (result_text Kind.Dods (text_in body bytes)))) }
+    ensures accepted { WhereBody result (λ body file. (text : List ℕ) × MayGive (S.files shelf.old) (asked_of target.now) (Ok (result_text Kind.Dods text))) }
     ensures of_file { WhereBody result (λ body file. (target.now.kind ≡ Kind.Dods) × IsTrue (is_some (form_of target.now.name))) }
     ensures tells { WhereBody result (λ body file. IsSome (S.files shelf.old) → IsSome (S.content shelf.new file)) }
     ensures alone { WhereBody result (λ body file. IsTrue (is_read_first (form_of target.now.name)) → HasNoFile body) }
@@ -165,7 +165,7 @@ pub fn prepare<R: Threads + Sync, S: Shelf>(
         IsCostAt (S.files shelf.old) (asked_of target.now) put cost) }
 
     // The body of a saved response sends the data response. It has all its values.
-    ensures sends { WhereSaved result (λ body. (text : List ℕ) × Sends body text × MayGive (S.files shelf.old) (asked_of target.now) (Ok (text_of Kind.Dods text))) }
+    ensures sends { WhereSaved result (λ body. (text : List ℕ) × Sends body text × MayGive (S.files shelf.old) (asked_of target.now) (Ok (result_text Kind.Dods text))) }
     ensures of_saved { WhereSaved result (λ body. (target.now.kind ≡ Kind.Dods) × (form_of target.now.name ≡ Some saved)) }
 
     // The body of joined files reads these, and is the data response over their bytes.

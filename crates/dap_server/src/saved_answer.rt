@@ -3,7 +3,7 @@
 ghost use Rattle.std.specs.Prelude.{◌≡◌, ◌≤◌, ◌⊎◌, ℕ, List, Ok, Err, false};
 ghost use Rattle.saved_source.specs.Bodies.{Sends};
 ghost use Rattle.dap_server.specs.Replies.{is_head, reply_of};
-ghost use Rattle.dap_server.specs.Results.{text_of};
+ghost use Rattle.dap_server.specs.Results.{result_text};
 ghost use Rattle.dap_server.specs.inner.Serving.{PutsReply, PutsText, SinkRose, data_front, request_in};
 
 use crate::answer::{is_head, put_memory};
@@ -30,7 +30,7 @@ fn put_with_values<O: Sink>(
     requires get { is_head (request_in head.now ends) ≡ false }
     requires front { front.now ≡ data_front (request_in head.now ends) }
     ensures puts { (text : List ℕ) → Sends body.old text →
-        PutsText (reply_of (request_in head.now ends) (Ok (text_of Kind.Dods text))) 200 ends (O.written out.old) (O.written out.new) result
+        PutsText (reply_of (request_in head.now ends) (Ok (result_text Kind.Dods text))) 200 ends (O.written out.old) (O.written out.new) result
         ⊎ PutsReply (request_in head.now ends) (Err Cause.OutOfMemory) (O.written out.old) (O.written out.new) result }
     ensures fault { SinkRose result (O.put_faults out.old) (O.put_faults out.new) }
     ensures later { O.put_faults out.old ≤ O.put_faults out.new }
@@ -52,7 +52,7 @@ pub fn put_saved<O: Sink>(
     ends: bool,
 ) -> Answered
     ensures puts { (text : List ℕ) → Sends body.old text →
-        PutsText (reply_of (request_in head.now ends) (Ok (text_of Kind.Dods text))) 200 ends (O.written out.old) (O.written out.new) result
+        PutsText (reply_of (request_in head.now ends) (Ok (result_text Kind.Dods text))) 200 ends (O.written out.old) (O.written out.new) result
         ⊎ PutsReply (request_in head.now ends) (Err Cause.OutOfMemory) (O.written out.old) (O.written out.new) result }
     ensures fault { SinkRose result (O.put_faults out.old) (O.put_faults out.new) }
     ensures later { O.put_faults out.old ≤ O.put_faults out.new }

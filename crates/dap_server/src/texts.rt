@@ -9,7 +9,7 @@ ghost use Rattle.dap_types.specs.Model.{Tree};
 ghost use Rattle.dap_types.specs.View.{dataset_view};
 ghost use Rattle.dap_types.specs.WellFormed.{IsWellFormed};
 ghost use Rattle.grid_projection.specs.Resolved.{marks_in};
-ghost use Rattle.dap_server.specs.Results.{DdsAnswers, das_text, text_of};
+ghost use Rattle.dap_server.specs.Results.{DdsAnswers, das_text, result_text};
 ghost use Rattle.dap_server.specs.inner.Opening.{WhereFault, WhereRefused, attributes_in, dataset_in, stored_of};
 
 use crate::marked::marked_by;
@@ -70,7 +70,7 @@ pub fn dds_left(alloc: Global, dataset: &Dataset, marks: &Marks) -> Result<Bytes
 
 /// The DDS of what a query leaves of a stored file.
 pub fn dds_of(alloc: Global, opened: &Opened, name: &str, query: &[u8]) -> Result<Bytes, Stop>
-    ensures text { IfOk result (λ text. (ts : List Tree) → DdsAnswers (stored_of opened.now name.now ts) query.now (Ok (text_of Kind.Dds text))) }
+    ensures text { IfOk result (λ text. (ts : List Tree) → DdsAnswers (stored_of opened.now name.now ts) query.now (Ok (result_text Kind.Dds text))) }
     ensures refused { IfErr result (WhereRefused (λ why. (ts : List Tree) → DdsAnswers (stored_of opened.now name.now ts) query.now (Err why))) }
     ensures no_fault { IfErr result (WhereFault ⊥) }
 {

@@ -10,10 +10,10 @@ use Rattle.dap_errors.specs.declared.cause.Cause.TheVariants as causes
 use Rattle.dap_http.specs.Requests.{FirstRequest, ends_itself}
 use Rattle.dap_http.specs.Targets.{Asked, target_of}
 use Rattle.dap_http.specs.declared.kind.Kind.TheVariants.{Dods}
-use Rattle.dap_server.specs.Connections.{AreTurns, Behind, Connection, IsClosed, IsPut, IsServed, MayAnswer, Stops, behind_text, ends_after, is_last_turn, nothing, part_of_refusal, part_of_reply, last_status, put_from, refusal, status_behind, whole_behind}
+use Rattle.dap_server.specs.Connections.{AreTurns, Behind, Connection, IsClosed, IsConnectionServed, IsPut, MayAnswer, Stops, behind_text, ends_after, is_last_turn, last_status, nothing, part_of_refusal, part_of_reply, put_from, refusal, status_behind, whole_behind}
 use Rattle.dap_server.specs.Files.{Files}
-use Rattle.dap_server.specs.Replies.{Request, Turn, replies, reply_of, request as request_of, status_of, wants}
-use Rattle.dap_server.specs.Results.{AnswersAsked, Results, ResultsAmong, Text, text_of}
+use Rattle.dap_server.specs.Replies.{Request, Turn, replies, reply_of, reply_status, request as request_of, wants}
+use Rattle.dap_server.specs.Results.{AnswersAsked, Results, ResultsAmong, Text, result_text}
 use Rattle.dap_server.specs.Steps.{found_or}
 use Rattle.dap_server.proofs.Connecting.{told-put}
 use Rattle.dap_server.proofs.OneAnswer.{one_result}
@@ -68,12 +68,12 @@ answers files text a r e (inl (b, is_b, given)) =
 answers files text a r e (inr (cause, is_cause, given)) = absurd (cc (is_cause, e))
 
 one-result : (start records : ℕ) (files : Files) (r : Result Text Cause) → 1 ≤ records → records ≤ 4096 → files file_name ≡ Some (soak_bytes start records)
-    → Results (target records) files r → r ≡ Ok (text_of Dods (soak_body start records))
+    → Results (target records) files r → r ≡ Ok (result_text Dods (soak_body start records))
 one-result start records files r some few is given =
     let a : Asked = record { name = file_name; kind = Dods; query = constraint_text records } in
-    one_result files a r (Ok (text_of Dods (soak_body start records))) (are_bytes records few)
+    one_result files a r (Ok (result_text Dods (soak_body start records))) (are_bytes records few)
     (answers files (target records) a r (asked records few) given)
-    (answers files (target records) a (Ok (text_of Dods (soak_body start records))) (asked records few) (is_served start records files some few is))
+    (answers files (target records) a (Ok (result_text Dods (soak_body start records))) (asked records few) (is_served start records files some few is))
 
 -- ---- one turn
 
@@ -87,10 +87,10 @@ asked_for records = request_of 1 (head records)
 
 -- what may be answered with a text is the result
 text-is : (start records : ℕ) (files : Files) (text : Text) → 1 ≤ records → records ≤ 4096 → files file_name ≡ Some (soak_bytes start records)
-    → MayAnswer (Some files) (asked_for records) (Ok text) → text ≡ text_of Dods (soak_body start records)
+    → MayAnswer (Some files) (asked_for records) (Ok text) → text ≡ result_text Dods (soak_body start records)
 text-is start records files text some few is (inl (others, same, answered)) =
     let given : Results (target records) files (Ok text) = subst (λ (fs : Files). ResultsAmong (Some files) (target records) fs (Ok text)) same answered in
-    ok_is text (text_of Dods (soak_body start records)) (one-result start records files (Ok text) some few is given)
+    ok_is text (result_text Dods (soak_body start records)) (one-result start records files (Ok text) some few is given)
   where
     ok_is : (v w : Text) → Path (Result Text Cause) (Ok v) (Ok w) → v ≡ w
     ok_is v w e = cc
@@ -103,7 +103,7 @@ text-is start records files text some few is (inr (inr wanted)) = absurd (no wan
     no : Path (Result Text Cause) (Ok text) (Err causes.OutOfMemory) → ⊥
     no e = cc
 
-reply-is : (start records : ℕ) → reply_of (asked_for records) (Ok (text_of Dods (soak_body start records))) ≡ reply start records
+reply-is : (start records : ℕ) → reply_of (asked_for records) (Ok (result_text Dods (soak_body start records))) ≡ reply start records
 reply-is start records = ap (λ b. head_text 200 (description_of Dods) None true (b || false || false) ++ framed true (soak_body start records)) (ends records)
 
 -- ---- the connection
@@ -123,7 +123,7 @@ no-turn files left ended (part_of_reply t part) stops e = stops
 no-turn files left ended (part_of_refusal cause part) stops e = stops
 
 answer-is : (start records : ℕ) (files : Files) (answer : Result Text Cause) → 1 ≤ records → records ≤ 4096 → files file_name ≡ Some (soak_bytes start records)
-    → MayAnswer (Some files) (asked_for records) answer → 200 ≡ status_of answer → reply_of (asked_for records) answer ≡ reply start records
+    → MayAnswer (Some files) (asked_for records) answer → 200 ≡ reply_status answer → reply_of (asked_for records) answer ≡ reply start records
 answer-is start records files (Ok text) some few is may e =
     ap (λ t. reply_of (asked_for records) (Ok t)) (text-is start records files text some few is may) ∙ reply-is start records
 answer-is start records files (Err cause) some few is may e = absurd (not_200 cause e)
@@ -136,14 +136,14 @@ status-is status (part_of_refusal cause part) is = absurd is
 
 one-turn : (start records : ℕ) (files : Files) (head_is : RequestHead) (answer : Result Text Cause) (behind : Behind) → 1 ≤ records → records ≤ 4096
     → files file_name ≡ Some (soak_bytes start records) → head_is ≡ head records → MayAnswer (Some files) (request_of 1 head_is) answer
-    → ((ends_itself head_is || false || wants answer) ≡ true → IsClosed Closed behind) → 200 ≡ status_behind (status_of answer) behind
+    → ((ends_itself head_is || false || wants answer) ≡ true → IsClosed Closed behind) → 200 ≡ status_behind (reply_status answer) behind
     → (reply_of (request_of 1 head_is) answer ++ []) ++ behind_text behind ≡ reply start records
 one-turn start records files head_is answer behind some few is same may closes status =
     let last : (ends_itself head_is || false || wants answer) ≡ true = ap (λ h. ends_itself h || false || wants answer) same ∙ ap (λ b. b || false || wants answer) (ends records) in
     let closed : IsClosed Closed behind = closes last in
     let may_so : MayAnswer (Some files) (asked_for records) answer = subst (λ h. MayAnswer (Some files) (request_of 1 h) answer) same may in
     let is_reply : reply_of (request_of 1 head_is) answer ≡ reply start records =
-    ap (λ h. reply_of (request_of 1 h) answer) same ∙ answer-is start records files answer some few is may_so (status ∙ status-is (status_of answer) behind closed) in
+    ap (λ h. reply_of (request_of 1 h) answer) same ∙ answer-is start records files answer some few is may_so (status ∙ status-is (reply_status answer) behind closed) in
     ap (λ xs. (reply_of (request_of 1 head_is) answer ++ []) ++ xs) (behind-none behind closed) ∙ append-nil (reply_of (request_of 1 head_is) answer ++ [])
     ∙ append-nil (reply_of (request_of 1 head_is) answer) ∙ is_reply
 
@@ -168,7 +168,7 @@ gained-of start records files taken rest left ended (t ∷ []) behind some few i
 gained-of start records files taken rest left ended (t ∷ u ∷ turns) behind some few is parts are ending count status = absurd (omega arith)
 
 pub gained : (start records : ℕ) (files : Files) (taken rest : List ℕ) (ended : Bool) (c : Connection) (served : Served) → 1 ≤ records → records ≤ 4096
-    → files file_name ≡ Some (soak_bytes start records) → request records ≡ taken ++ rest → IsServed (Some files) taken ended c served
+    → files file_name ≡ Some (soak_bytes start records) → request records ≡ taken ++ rest → IsConnectionServed (Some files) taken ended c served
     → served.replies ≡ 1 → served.status ≡ 200 → served.ending ≡ Closed → put_from 1 c ≡ reply start records
 gained start records files taken rest ended c served some few is parts so one ok closed =
     gained-of start records files taken rest c.left ended c.turns c.behind some few is parts so.turns
@@ -187,13 +187,13 @@ appended (Some ys) text b is e = sym is ∙ cc e
 
 pub written-is : (start records : ℕ) (told : Told) (files : Files) (came left old new : Option (List ℕ)) (ended : Bool) (served : Served) (b : List ℕ) → 1 ≤ records → records ≤ 4096
     → told ≡ Some files → files file_name ≡ Some (soak_bytes start records) → came ≡ Some (request records) → old ≡ Some [] → new ≡ Some b
-    → (c : Connection) (taken : List ℕ) → Consumes came left taken → ((put : List ℕ) × Appends old new put × IsPut told 1 c put) → IsServed told taken ended c served
+    → (c : Connection) (taken : List ℕ) → Consumes came left taken → ((put : List ℕ) × Appends old new put × IsPut told 1 c put) → IsConnectionServed told taken ended c served
     → served.replies ≡ 1 → served.status ≡ 200 → served.ending ≡ Closed → b ≡ reply start records
 written-is start records told files came left old new ended served b some few is_told is is_came is_old is_new c taken consumes puts so one ok closed =
     let (rest, parts) = consumed (request records) left taken (subst (λ o. Consumes o left taken) is_came consumes) in
     let put : Appends (Some []) new (put_from 1 c) = subst (λ o. Appends o new (put_from 1 c)) is_old (told-put told 1 c old new (ap is_some is_told) puts) in
     sym (appended new (put_from 1 c) b put is_new)
-    ∙ gained start records files taken rest ended c served some few is parts (subst (λ (t : Told). IsServed t taken ended c served) is_told so) one ok closed
+    ∙ gained start records files taken rest ended c served some few is parts (subst (λ (t : Told). IsConnectionServed t taken ended c served) is_told so) one ok closed
 
 pub if-ok : {T E : Type 0} (P Q : T → Type 0) (r : Result T E) → ((x : T) → P x → Q x) → IfOk r P → IfOk r Q
 if-ok P Q (Ok x) f p = f x p

@@ -4,7 +4,7 @@ use Rattle.dap_types.specs.Limits.{most_header}
 use Rattle.netcdf_source.specs.Header.{IsHeader}
 use Rattle.dap_http.specs.declared.kind.Kind.TheVariants.{Dods}
 use Rattle.dap_server.specs.Files.{Files}
-use Rattle.dap_server.specs.Results.{Results, text_of}
+use Rattle.dap_server.specs.Results.{Results, result_text}
 use Rattle.soak.specs.Asked.{file_name, target}
 use Rattle.dap_model.specs.Body.{IsBody}
 use Rattle.dap_model.specs.Dds.{dds}
@@ -19,7 +19,7 @@ HeaderIsRead = (start records : ℕ) → records ≤ 4096 → IsHeader (soak_con
 -- over files among which it is, its target has that body as its result
 abbrev pub IsServed : Type 0
 IsServed = (start records : ℕ) (files : Files) → 1 ≤ records → records ≤ 4096 → files file_name ≡ Some (soak_bytes start records)
-    → Results (target records) files (Ok (text_of Dods (soak_body start records)))
+    → Results (target records) files (Ok (result_text Dods (soak_body start records)))
 
 -- s has 11 elements of 32 rows of every other record, and i one row of 32 of each
 abbrev pub ElementsAreCounted : Type 0

@@ -8,7 +8,7 @@ use Rattle.dap_outside.specs.Files.{Told}
 use Rattle.dap_server.specs.Costs.{IsCost, IsCostAt, asks_shelf}
 use Rattle.dap_server.specs.Files.{Files, MayHave, form_of, is_read_first, saved}
 use Rattle.dap_server.specs.Prepared.{IsJoinedFor, IsOver, MayGive, WhereBody, WhereJoined, WhereRefuse, WhereSaved, WhereShelfFault, WhereText}
-use Rattle.dap_server.specs.Results.{AnswersAmong, Text, text_of}
+use Rattle.dap_server.specs.Results.{AnswersAmong, Text, result_text}
 use Rattle.dap_server.specs.declared.data_body.DataBody.{DataBody}
 use Rattle.dap_server.specs.declared.data_body.DataBody.TheVariants as bodies
 use Rattle.dap_server.specs.declared.prepared.Prepared.{Prepared}
@@ -62,16 +62,16 @@ WhereOfSaved (bodies.OfFile b) P = ⊤
 -- What was made of what is asked, over files that a shelf may have. Behind it the shelf tells so of the
 -- content and the size of its files.
 pub record IsMade {F : Type 0} (told : Told) (content : F → Option (List ℕ)) (size_of : F → ℕ) (a : Asked) (Fault : Type 0) (p : Prepared F) : Type 0 where
-  pub text : WhereText p (λ kind text. (kind ≢ Dods) × MayGive told a (Ok (text_of kind text)))
-  pub body : WhereBody p (λ b file. (bytes : List ℕ) → IsOver a.name (content file) bytes → MayGive told a (Ok (text_of Dods (text_in b bytes))))
-  pub accepted : WhereBody p (λ b file. (text : List ℕ) × MayGive told a (Ok (text_of Dods text)))
+  pub text : WhereText p (λ kind text. (kind ≢ Dods) × MayGive told a (Ok (result_text kind text)))
+  pub body : WhereBody p (λ b file. (bytes : List ℕ) → IsOver a.name (content file) bytes → MayGive told a (Ok (result_text Dods (text_in b bytes))))
+  pub accepted : WhereBody p (λ b file. (text : List ℕ) × MayGive told a (Ok (result_text Dods text)))
   pub of_file : WhereBody p (λ b file. (a.kind ≡ Dods) × IsTrue (is_some (form_of a.name)))
   pub tells : WhereBody p (λ b file. IsSome told → IsSome (content file))
   pub alone : WhereBody p (λ b file. IsTrue (is_read_first (form_of a.name)) → HasNoFile b)
   pub fits : WhereBody p (λ b file. FitsFile b (size_of file))
   pub cost : WhereBody p (λ b file. (cost : ℕ) × IsCost told a cost × (cost_in b ≤ cost))
   pub cost_at : WhereBody p (λ b file. (bytes : List ℕ) (put cost : ℕ) → content file ≡ Some bytes → MayAsk b bytes put cost → IsCostAt told a put cost)
-  pub sends : WhereSaved p (λ b. (text : List ℕ) × Sends b text × MayGive told a (Ok (text_of Dods text)))
+  pub sends : WhereSaved p (λ b. (text : List ℕ) × Sends b text × MayGive told a (Ok (result_text Dods text)))
   pub of_saved : WhereSaved p (λ b. (a.kind ≡ Dods) × (form_of a.name ≡ Some saved))
   pub joined : WhereJoined p (IsJoinedFor told content size_of a)
   pub refused : WhereRefuse p (λ cause. MayGive told a (Err cause))

@@ -17,7 +17,7 @@ use Rattle.xdr_encode.specs.declared.streamed.Streamed.{Streamed}
 use Rattle.xdr_encode.specs.declared.streamed.Streamed.TheVariants as streamed
 use Rattle.dap_server.specs.Connections.{Connection, ConnectionMayAsk, FailedBy, IsBroken, IsPut, IsServedFrom, IsTurn, MayAnswer, MayAsk, RoseFor, failures, has_failed, is_hidden, is_last_turn, leaves_open, sends_data, sends_values}
 use Rattle.dap_server.specs.Costs.{IsCost}
-use Rattle.dap_server.specs.Replies.{Request, Turn, is_last, last_reply, reply_of, request, status_of, wants}
+use Rattle.dap_server.specs.Replies.{Request, Turn, is_last, last_reply, reply_of, reply_status, request, wants}
 use Rattle.dap_server.specs.Results.{Text}
 use Rattle.dap_server.specs.declared.served.Ending.TheVariants.{Closed, WriteFault, Broken}
 use Rattle.dap_server.specs.declared.served.Served.{Served}
@@ -67,7 +67,7 @@ answered_by ends streamed.WriteFault = answered.WriteFault
 
 -- the reply of an answer is put, or some of it
 abbrev pub PutsReply : Request → Result Text Cause → Option (List ℕ) → Option (List ℕ) → Answered → Type 0
-PutsReply q answer old new (answered.Whole status last) = (status ≡ status_of answer) × (last ≡ is_last q answer) × Appends old new (reply_of q answer)
+PutsReply q answer old new (answered.Whole status last) = (status ≡ reply_status answer) × (last ≡ is_last q answer) × Appends old new (reply_of q answer)
 PutsReply q answer old new answered.Broken = (part : List ℕ) × IsBroken q answer part × Appends old new part
 PutsReply q answer old new answered.WriteFault = (part : List ℕ) × IsProperFront part (reply_of q answer) × Appends old new part
 
@@ -78,7 +78,7 @@ PutsCause q cause old new result = (final : Cause) × ((final ≡ cause) ⊎ (fi
 -- what was put of the reply of an answer, by what became of it: the reply or some of it, and any bytes
 -- where it has hidden values
 abbrev pub IsPutOf : Told → Request → Result Text Cause → List ℕ → Answered → Type 0
-IsPutOf told q answer put (answered.Whole status last) = (status ≡ status_of answer) × (last ≡ is_last q answer) × (is_hidden told q answer ≡ false → put ≡ reply_of q answer)
+IsPutOf told q answer put (answered.Whole status last) = (status ≡ reply_status answer) × (last ≡ is_last q answer) × (is_hidden told q answer ≡ false → put ≡ reply_of q answer)
 IsPutOf told q answer put answered.Broken = (part : List ℕ) × IsBroken q answer part × (is_hidden told q answer ≡ false → put ≡ part)
 IsPutOf told q answer put answered.WriteFault = (part : List ℕ) × IsProperFront part (reply_of q answer) × (is_hidden told q answer ≡ false → put ≡ part)
 
@@ -161,7 +161,7 @@ GoesOn n told kept kept' left left' a b status =
     × ((put : List ℕ) × Appends a.written b.written put × (is_hidden told (request (n + 1) t.head) t.answer ≡ false → put ≡ reply_of (request (n + 1) t.head) t.answer))
     × IsTurn told (n + 1) (kept ++ taken) t kept'
     × (is_last_turn (n + 1) t ≡ false)
-    × (status ≡ status_of t.answer)
+    × (status ≡ reply_status t.answer)
     × FailedBy (has_failed t.answer) (wants t.answer) a.faults b.faults
     × ((m : ℕ) × MayAsk told (target_of t.head.target) t.answer m × (b.asked ≤ a.asked + m))
 

@@ -3,7 +3,7 @@ use Rattle.std.specs.Io.KnownBytes.{Appends}
 use Rattle.dap_outside.specs.Causes.{Rose}
 use Rattle.dap_outside.specs.Streams.{AppendsFront}
 use Rattle.dap_server.specs.Prepared.{asked_of}
-use Rattle.dap_server.specs.Results.{text_of}
+use Rattle.dap_server.specs.Results.{result_text}
 use Rattle.dap_http.specs.declared.kind.Kind.TheVariants.{Dods}
 use Rattle.xdr_encode.specs.Bodies.{MayAsk, cost_in, text_in}
 use Rattle.std.specs.Prelude.{map}
@@ -19,7 +19,7 @@ pub returns-in-Text-clause-says : goal.returns-in-Text-clause-says
 returns-in-Text-clause-says g c =
     let Out = Appends (g.O.Sink.written c.args.out.now) (g.O.Sink.written c.put_text.new.out) in
     let Front = AppendsFront (g.O.Sink.written c.args.out.now) (g.O.Sink.written c.put_text.new.out) in
-    answering.text_says (g.S.Shelf.files c.args.shelf.now) c.args.target.now Out Front (λ line. IsSaid line (g.E.Sink.put_faults c.args.err.now) (g.E.Sink.put_faults c.args.err.now) (g.E.Sink.written c.args.err.now) (g.E.Sink.written c.args.err.now)) (text_of c.in-Text.kind c.in-Text.text)
+    answering.text_says (g.S.Shelf.files c.args.shelf.now) c.args.target.now Out Front (λ line. IsSaid line (g.E.Sink.put_faults c.args.err.now) (g.E.Sink.put_faults c.args.err.now) (g.E.Sink.written c.args.err.now) (g.E.Sink.written c.args.err.now)) (result_text c.in-Text.kind c.in-Text.text)
     (answering.may_result _ c.args.target.now (asked_of c.args.asked.now) _ c.requires.is_asked c.in-Text.ensures.text.1) c.put_text.result
     (subst (λ t. TextPut t Out Front c.put_text.result) c.bytes.ensures c.put_text.ensures.put)
 
@@ -84,7 +84,7 @@ returns-in-Saved-clause-says g c =
     let Out = Appends (g.O.Sink.written c.args.out.now) (g.O.Sink.written c.put_saved.new.out) in
     let Front = AppendsFront (g.O.Sink.written c.args.out.now) (g.O.Sink.written c.put_saved.new.out) in
     let (text, sends, may) = c.in-Saved.ensures.sends in
-    answering.text_says (g.S.Shelf.files c.args.shelf.now) c.args.target.now Out Front (λ line. IsSaid line (g.E.Sink.put_faults c.args.err.now) (g.E.Sink.put_faults c.args.err.now) (g.E.Sink.written c.args.err.now) (g.E.Sink.written c.args.err.now)) (text_of Dods text)
+    answering.text_says (g.S.Shelf.files c.args.shelf.now) c.args.target.now Out Front (λ line. IsSaid line (g.E.Sink.put_faults c.args.err.now) (g.E.Sink.put_faults c.args.err.now) (g.E.Sink.written c.args.err.now) (g.E.Sink.written c.args.err.now)) (result_text Dods text)
     (answering.may_result _ c.args.target.now (asked_of c.args.asked.now) _ c.requires.is_asked may) c.put_saved.result (c.put_saved.ensures.put text sends)
 
 pub returns-in-Saved-clause-only : goal.returns-in-Saved-clause-only

@@ -1,7 +1,7 @@
 use Rattle.std.proofs.Common.{sym, subst, Ok}
 use Rattle.dap_server.specs.inner.Serving.{request_in}
 use Rattle.dap_server.specs.Prepared.{MayGive, asked_of}
-use Rattle.dap_server.specs.Results.{text_of}
+use Rattle.dap_server.specs.Results.{result_text}
 use Rattle.dap_http.specs.declared.kind.Kind.TheVariants.{Dods}
 use Rattle.xdr_encode.specs.Bodies.{text_in}
 use Rattle.dap_server.proofs.Answered.{failed-answer, refused-answer, saved-answer, text-answer, wanted-answer, with-first}
@@ -11,12 +11,12 @@ use Rattle.dap_server.proofs.answer.answer_target.Goals as goal
 pub returns-in-Text-clause-answers : goal.returns-in-Text-clause-answers
 returns-in-Text-clause-answers g c =
     text-answer _ (request_in c.args.head.now c.args.ends) (asked_of c.args.target.now) c.in-Text.kind c.bytes.result.now _ _ _ _ _ _ c.put_text.result c.in-Text.ensures.text.0 c.requires.served c.requires.target
-    (subst (λ t. MayGive (g.S.Shelf.files c.args.shelf.now) (asked_of c.args.target.now) (Ok (text_of c.in-Text.kind t))) (sym c.bytes.ensures) c.in-Text.ensures.text.1)
+    (subst (λ t. MayGive (g.S.Shelf.files c.args.shelf.now) (asked_of c.args.target.now) (Ok (result_text c.in-Text.kind t))) (sym c.bytes.ensures) c.in-Text.ensures.text.1)
     c.in-Text.ensures.kept c.in-Text.ensures.asked c.put_text.ensures.puts
 
 pub answer_data-requires-clause-body : goal.answer_data-requires-clause-body
 answer_data-requires-clause-body g c lifetimes outlive = λ bytes is.
-    subst (λ t. MayGive t (asked_of c.args.target.now) (Ok (text_of Dods (text_in c.in-Body.body bytes)))) (sym c.in-Body.ensures.files) (c.in-Body.ensures.body bytes is)
+    subst (λ t. MayGive t (asked_of c.args.target.now) (Ok (result_text Dods (text_in c.in-Body.body bytes)))) (sym c.in-Body.ensures.files) (c.in-Body.ensures.body bytes is)
 
 pub returns-in-Body-clause-answers : goal.returns-in-Body-clause-answers
 returns-in-Body-clause-answers g c =

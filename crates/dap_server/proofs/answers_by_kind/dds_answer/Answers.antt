@@ -1,7 +1,7 @@
 use Rattle.std.proofs.Common.{rules, Err}
 use Rattle.dap_http.specs.declared.kind.Kind.TheVariants.{Dds}
 use Rattle.dap_server.proofs.Making as making
-use Rattle.dap_server.specs.Results.{DdsAnswers, text_of}
+use Rattle.dap_server.specs.Results.{DdsAnswers, result_text}
 use Rattle.dap_server.specs.inner.Opening.{WhereRefused}
 use Rattle.dap_server.specs.inner.Preparing.{MayGiveAs}
 use Rattle.dap_server.proofs.answers_by_kind.dds_answer.Goals as goal
@@ -9,7 +9,7 @@ use Rattle.dap_server.proofs.answers_by_kind.dds_answer.Goals as goal
 pub returns-clause-text : goal.returns-clause-text
 returns-clause-text g c =
     let (bytes, l, (ts, is)) = c.in_ok-opened.ensures.opened in
-    making.follows_ok _ _ _ c.args.name.now bytes ts c.in_ok-opened.opened (λ s. DdsAnswers s c.args.query.now) (text_of Dds) c.dds_of.result l is c.dds_of.ensures.text
+    making.follows_ok _ _ _ c.args.name.now bytes ts c.in_ok-opened.opened (λ s. DdsAnswers s c.args.query.now) (result_text Dds) c.dds_of.result l is c.dds_of.ensures.text
 
 pub returns-clause-refused : goal.returns-clause-refused
 returns-clause-refused g c =

@@ -2,14 +2,14 @@ use Rattle.std.proofs.Common.{rules, Err}
 use Rattle.dap_http.specs.declared.kind.Kind.TheVariants.{Dds}
 use Rattle.dap_server.proofs.JoinsGiven as given
 use Rattle.dap_server.proofs.Making as making
-use Rattle.dap_server.specs.Results.{DdsAnswers, text_of}
+use Rattle.dap_server.specs.Results.{DdsAnswers, result_text}
 use Rattle.dap_server.specs.inner.Opening.{WhereRefused}
 use Rattle.dap_server.specs.inner.Preparing.{MayGiveAs}
 use Rattle.dap_server.proofs.joined_answers_by_kind.joined_dds.Goals as goal
 
 pub returns-clause-text : goal.returns-clause-text
 returns-clause-text g c =
-    given.follows_ok _ _ _ c.args.name.now c.in_ok-joined.joined _ c.requires.form c.in_ok-joined.ensures.opened (λ s. DdsAnswers s c.args.query.now) (text_of Dds) c.joined_dds_text.result c.joined_dds_text.ensures.text
+    given.follows_ok _ _ _ c.args.name.now c.in_ok-joined.joined _ c.requires.form c.in_ok-joined.ensures.opened (λ s. DdsAnswers s c.args.query.now) (result_text Dds) c.joined_dds_text.result c.joined_dds_text.ensures.text
 
 pub returns-clause-refused : goal.returns-clause-refused
 returns-clause-refused g c =
