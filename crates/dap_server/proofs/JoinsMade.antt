@@ -2,6 +2,7 @@
 use Rattle.std.proofs.Common.{◌≡◌, ℕ, List, Option, Some, Result, Ok, Err, IfOk, IfErr, IsTrue, sym, ap, subst}
 use Rattle.std.specs.Prelude.{is_some}
 use Rattle.dap_http.specs.Targets.{Asked}
+use Rattle.dap_http.specs.declared.kind.Kind.{Kind}
 use Rattle.dap_http.specs.declared.kind.Kind.TheVariants.{Dods}
 use Rattle.dap_http.specs.declared.target.Target.{Target}
 use Rattle.dap_outside.specs.Files.{Told}
@@ -11,7 +12,9 @@ use Rattle.dap_server.specs.Files.{Form, form_of, joined}
 use Rattle.dap_server.specs.Prepared.{IsJoinedFor, MayGive, WhereJoined, WhereNoShelfFault, asked_of}
 use Rattle.dap_server.specs.Results.{result_text}
 use Rattle.dap_server.specs.inner.Opening.{StaysBut, WhereFault, WhereRefused}
-use Rattle.dap_server.specs.inner.Preparing.{IsMade, MayGiveAs, asked_as, join_prepared}
+use Rattle.dap_server.specs.inner.Preparing.{IsMade, MayGiveAs, asked_as, body_prepared, join_prepared, text_prepared}
+use Rattle.dap_server.specs.declared.data_body.DataBody.{DataBody}
+use Rattle.dap_server.specs.declared.data_body.DataBody.TheVariants as bodies
 use Rattle.dap_server.specs.declared.prepared.Prepared.{Prepared}
 use Rattle.dap_server.specs.declared.prepared.Prepared.TheVariants as prepared
 use Rattle.dap_server.specs.declared.no_answer.Stop.{Stop}
@@ -63,3 +66,23 @@ join_accepted told content size_of a prepared.Memory is = tt
 -- where the shelf tells the same files
 pub join_moved : {F : Type 0} (told told2 : Told) (content : F → Option (List ℕ)) (size_of : F → ℕ) (a : Asked) (b : JoinBody) (fs fs2 : List F) → told2 ≡ told → fs2 ≡ fs → IsJoinedFor told content size_of a b fs → IsJoinedFor told2 content size_of a b fs2
 join_moved told told2 content size_of a b fs fs2 same same_files is = subst (λ t. IsJoinedFor t content size_of a b fs2) (sym same) (subst (λ l. IsJoinedFor told content size_of a b l) (sym same_files) is)
+
+-- what is said of the files that a list joins, and of none where there is no list
+pub join_files : {F : Type 0} (P : List F → Type 0) (r : Result (JoinBody × List F) Stop) (p : Prepared F) → p ≡ join_prepared r → IfOk r (λ q. P q.1) → WhereJoined p (λ b files. P files)
+join_files P (Ok (b, files)) p is holds = rw is holds
+join_files P (Err (Refused why)) p is holds = rw is tt
+join_files P (Err ShelfFault) p is holds = rw is tt
+join_files P (Err Memory) p is holds = rw is tt
+
+pub body_no_files : {F : Type 0} (P : JoinBody → List F → Type 0) (r : Result (DataBody × F) Stop) (p : Prepared F) → p ≡ body_prepared r → WhereJoined p P
+body_no_files P (Ok (bodies.OfFile b, file)) p is = rw is tt
+body_no_files P (Ok (bodies.Saved b, file)) p is = rw is tt
+body_no_files P (Err (Refused why)) p is = rw is tt
+body_no_files P (Err ShelfFault) p is = rw is tt
+body_no_files P (Err Memory) p is = rw is tt
+
+pub text_no_files : {F : Type 0} (P : JoinBody → List F → Type 0) (k : Kind) (r : Result (List ℕ) Stop) (p : Prepared F) → p ≡ text_prepared k r → WhereJoined p P
+text_no_files P k (Ok text) p is = rw is tt
+text_no_files P k (Err (Refused why)) p is = rw is tt
+text_no_files P k (Err ShelfFault) p is = rw is tt
+text_no_files P k (Err Memory) p is = rw is tt

@@ -1,6 +1,6 @@
 -- From what a shelf said of a list and of the files that it names to what the list has.
 use Rattle.std.proofs.Common.{◌≡◌, ◌≢◌, ℕ, ◌+◌, ◌*◌, ◌≤◌, ◌<◌, Bool, true, false, cond, List, [], ◌∷◌, length, Option, Some, None, Result, Ok, Err, refl, sym, ap, ◌∙◌, subst, inl, inr, arith}
-use Rattle.std.specs.Prelude.{nat_lt, option_map, replicate}
+use Rattle.std.specs.Prelude.{min, nat_lt, option_map, replicate}
 use Rattle.std.specs.Option.{option_and_then, option_map_or}
 use Rattle.std.proofs.lemmas.Bool.Decides.{nat_tests}
 use Rattle.std.proofs.lemmas.List.{length-replicate}
@@ -20,7 +20,8 @@ use Rattle.join_source.specs.declared.refusal.ListRefusal.{ListRefusal}
 use Rattle.join_source.specs.declared.refusal.ListRefusal.TheVariants as lists
 use Rattle.dap_server.proofs.ListNames.{GoodNames, good-names}
 use Rattle.dap_server.proofs.Lying.{same_bytes}
-use Rattle.dap_server.specs.Costs.{most_first, most_of_file, most_of_form, most_of_lines}
+use Rattle.dap_types.specs.Limits.{most_header}
+use Rattle.dap_server.specs.Costs.{most_first, most_of_file, most_of_form, most_of_joined, most_of_lines, most_of_names}
 use Rattle.dap_server.specs.Files.{Files, Form, MayHave, Stored, form_of, joined}
 use Rattle.dap_server.specs.Joins.{AreJoined, IsJoined, Lists, Member, Members, contents_in, join_cause, list_cause}
 use Rattle.dap_server.specs.Results.{File, OpensAmong}
@@ -161,6 +162,12 @@ headers_long [] (m ∷ ms) are = absurd are
 headers_long (h ∷ headers) [] are = absurd are
 headers_long (h ∷ headers) (m ∷ ms) (own, others) = omega (arith, headers_long headers ms others)
 
+files_long : {F : Type 0} (told : Told) (content : F → Option (List ℕ)) (size_of : F → ℕ) (fs : List F) (ms : List Member) → AreFilesOf told content size_of fs ms → length fs ≡ length ms
+files_long told content size_of [] [] are = refl
+files_long told content size_of [] (m ∷ ms) are = absurd are
+files_long told content size_of (f ∷ fs) [] are = absurd are
+files_long told content size_of (f ∷ fs) (m ∷ ms) (own, others) = omega (arith, files_long told content size_of fs ms others)
+
 pub list_names : (content : Option (List ℕ)) (names : List (List ℕ)) → (bytes : List ℕ) × IsRead content bytes × (list_of bytes ≡ Ok names) → GoodNames names
 list_names content names (bytes, is_read, l) = good-names bytes names l
 
@@ -226,6 +233,25 @@ lines_first None told2 name_of content name file size names form finds has (byte
 lines_first (Some files) told2 name_of content name file size names form (b, there, named, holds) has (bytes, is_read, l) same =
     let is : list_of b ≡ Ok names = subst (λ t. list_of t ≡ Ok names) (same_bytes (content file) bytes b holds is_read) l in
     omega (arith, ap most_of_size (size_is content file size b has holds), told_first files name b form there, ap (most_of_lines files) is, ap (λ t. most_in_lines t names) same)
+
+-- of each line no more than the front of its file
+name_within : (o : Option (List ℕ)) (rest count : ℕ) → rest ≤ count * 1048576 → option_map_or (λ file. min (length file) most_header + rest) o 0 ≤ (count + 1) * 1048576
+name_within None rest count is = omega arith
+name_within (Some file) rest count is = omega (arith, is)
+
+names_within : (files : Files) (names : List (List ℕ)) → most_of_names files names ≤ length names * 1048576
+names_within files [] = omega arith
+names_within files (name ∷ names) = omega (arith, name_within (files name) (most_of_names files names) (length names) (names_within files names))
+
+lines_within : (told : Told) (names : List (List ℕ)) → most_in_lines told names ≤ length names * 1048576
+lines_within None names = omega arith
+lines_within (Some files) names = names_within files names
+
+-- the list itself, and the front of each file that it joins
+pub joined_within : {F : Type 0} (told : Told) (content : F → Option (List ℕ)) (size_of : F → ℕ) (names : List (List ℕ)) (headers : List FileHeader) (fs : List F) (size : ℕ) → Lines told content size_of names headers fs
+    → most_of_size size + most_in_lines told names ≤ most_of_joined (length fs)
+joined_within told content size_of names headers fs size (ms, members, are, files) =
+    omega (arith, of_any size, lines_within told names, members_long told 1 names ms members, files_long told content size_of fs ms files)
 
 -- ---- The stops of refusals.
 

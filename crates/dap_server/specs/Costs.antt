@@ -36,13 +36,17 @@ is_of_file Dods = true
 abbrev pub asks_shelf : Asked → Bool
 asks_shelf a = is_of_file a.kind && is_some (form_of a.name)
 
+-- of so many files that are joined: their list, and the front of each
+abbrev pub most_of_joined : ℕ → ℕ
+most_of_joined count = most_piece + count * most_header
+
 -- the most that is read before an answer: the front of a netCDF file, another file whole, or a list and the
 -- front of each file that it names
 abbrev pub most_of_form : Option Form → ℕ
 most_of_form (Some netcdf) = most_header
 most_of_form (Some table) = most_table
 most_of_form (Some saved) = most_saved
-most_of_form (Some joined) = most_piece + most_lines * most_header
+most_of_form (Some joined) = most_of_joined most_lines
 most_of_form None = 0
 
 -- of the files of some names in turn, up to the first name that no file has

@@ -1,8 +1,8 @@
 //! What the list of a name and a query are answered with, kind by kind.
 
-ghost use Rattle.std.specs.Prelude.{◌≡◌, ◌+◌, ◌≤◌, ℕ, List, IfOk, IfErr, Ok, Err, Some};
+ghost use Rattle.std.specs.Prelude.{◌≡◌, ◌+◌, ◌≤◌, ℕ, List, length, IfOk, IfErr, Ok, Err, Some};
 ghost use Rattle.dap_outside.specs.Causes.{Rose};
-ghost use Rattle.dap_server.specs.Costs.{most_first};
+ghost use Rattle.dap_server.specs.Costs.{most_first, most_of_joined};
 ghost use Rattle.dap_server.specs.Files.{form_of, joined};
 ghost use Rattle.dap_server.specs.Prepared.{IsJoinedFor};
 ghost use Rattle.dap_server.specs.Results.{result_text};
@@ -68,6 +68,7 @@ pub fn joined_dods<S: Shelf>(
     ensures stays { StaysBut result (S.faults shelf.old) (S.faults shelf.new) }
     ensures files { S.files shelf.new ≡ S.files shelf.old }
     ensures asked { S.asked shelf.new ≤ S.asked shelf.old + most_first (S.files shelf.old) name.now }
+    ensures asked_lines { IfOk result (λ p. S.asked shelf.new ≤ S.asked shelf.old + most_of_joined (length p.1)) }
 {
     let (joined, files) = open_joined(alloc, shelf, name)?;
     let body = join_body(alloc, &joined, query)?;

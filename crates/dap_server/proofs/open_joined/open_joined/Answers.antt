@@ -91,3 +91,11 @@ returns-clause-asked g c =
 
 pub returns-in_err-list-clause-asked : goal.returns-in_err-list-clause-asked
 returns-in_err-list-clause-asked g c = omega (arith, c.in_err-list.ensures.asked)
+
+pub returns-clause-asked_lines : goal.returns-clause-asked_lines
+returns-clause-asked_lines g c =
+    let most = opening.joined_within (g.S.Shelf.files c.open_list.new.shelf) (g.S.Shelf.content c.open_members.new.shelf) (g.S.Shelf.size_of c.open_members.new.shelf) c.in_ok-names.names c.in_ok-members.members.headers c.in_ok-members.members.files
+    (g.S.Shelf.size_of c.find.new.shelf c.in_ok-list.list)
+    (subst (λ ns. opening.Lines (g.S.Shelf.files c.open_list.new.shelf) (g.S.Shelf.content c.open_members.new.shelf) (g.S.Shelf.size_of c.open_members.new.shelf) ns c.in_ok-members.members.headers c.in_ok-members.members.files) c.items.ensures c.in_ok-members.ensures.members) in
+    let lines = ap (most_in_lines (g.S.Shelf.files c.open_list.new.shelf)) c.items.ensures in
+    omega (arith, most, lines, c.in_ok-members.ensures.asked, c.in_ok-names.ensures.asked, c.in_ok-list.ensures.asked)

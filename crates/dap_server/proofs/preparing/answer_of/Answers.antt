@@ -1,6 +1,6 @@
 use Rattle.dap_http.specs.declared.kind.Kind.TheVariants.{Das, Dds, Dods, Ver}
 use Rattle.std.proofs.Common.{refl}
-use Rattle.dap_server.proofs.JoinsMade.{made_for}
+use Rattle.dap_server.proofs.JoinsMade.{made_for, text_no_files}
 use Rattle.dap_server.proofs.Making as making
 use Rattle.dap_server.proofs.preparing.answer_of.Goals as goal
 
@@ -46,3 +46,15 @@ returns-in-Das-clause-kept g c = making.text_stays Das c.das_by_form.result c.te
 
 pub returns-in-Dds-clause-kept : goal.returns-in-Dds-clause-kept
 returns-in-Dds-clause-kept g c = making.text_stays Dds c.dds_by_form.result c.text_prepared-in-Dds.result _ _ c.text_prepared-in-Dds.ensures c.dds_by_form.ensures.stays
+
+pub returns-in-Ver-clause-asked_lines : goal.returns-in-Ver-clause-asked_lines
+returns-in-Ver-clause-asked_lines g c = text_no_files _ Ver c.version_answer.result c.text_prepared.result c.text_prepared.ensures
+
+pub returns-in-Das-clause-asked_lines : goal.returns-in-Das-clause-asked_lines
+returns-in-Das-clause-asked_lines g c = text_no_files _ Das c.das_by_form.result c.text_prepared-in-Das.result c.text_prepared-in-Das.ensures
+
+pub returns-in-Dds-clause-asked_lines : goal.returns-in-Dds-clause-asked_lines
+returns-in-Dds-clause-asked_lines g c = text_no_files _ Dds c.dds_by_form.result c.text_prepared-in-Dds.result c.text_prepared-in-Dds.ensures
+
+pub returns-in-Dods-clause-asked_lines : goal.returns-in-Dods-clause-asked_lines
+returns-in-Dods-clause-asked_lines g c = c.data_answer.ensures.asked_lines

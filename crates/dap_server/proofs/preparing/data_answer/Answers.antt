@@ -1,7 +1,8 @@
-use Rattle.std.proofs.Common.{sym, ◌∙◌}
-use Rattle.dap_server.proofs.JoinsMade.{join_made, join_stays, with_form}
+use Rattle.std.proofs.Common.{◌∙◌, ◌+◌, ◌≤◌, length, sym}
+use Rattle.dap_server.proofs.JoinsMade.{body_no_files, join_files, join_made, join_stays, with_form}
 use Rattle.dap_server.proofs.ListForms.{list_form, no_list_form, not_formless}
 use Rattle.dap_server.proofs.Making as making
+use Rattle.dap_server.specs.Costs.{most_of_joined}
 use Rattle.dap_server.specs.Files.{form_of}
 use Rattle.dap_server.proofs.preparing.data_answer.Goals as goal
 
@@ -30,3 +31,10 @@ returns-clause-made g c =
 
 pub returns-clause-kept : goal.returns-clause-kept
 returns-clause-kept g c = making.body_stays c.dods_answer.result c.body_prepared.result _ _ c.body_prepared.ensures c.dods_answer.ensures.stays
+
+pub returns-then-is_list-clause-asked_lines : goal.returns-then-is_list-clause-asked_lines
+returns-then-is_list-clause-asked_lines g c =
+    join_files (λ files. g.S.Shelf.asked c.joined_dods.new.shelf ≤ g.S.Shelf.asked c.args.shelf.now + most_of_joined (length files)) c.joined_dods.result c.join_prepared.result c.join_prepared.ensures c.joined_dods.ensures.asked_lines
+
+pub returns-clause-asked_lines : goal.returns-clause-asked_lines
+returns-clause-asked_lines g c = body_no_files _ c.dods_answer.result c.body_prepared.result c.body_prepared.ensures

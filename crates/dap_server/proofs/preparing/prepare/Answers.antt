@@ -51,3 +51,6 @@ returns-clause-refused g c = c.answer_of.ensures.made.refused
 
 pub returns-clause-shelf_fault : goal.returns-clause-shelf_fault
 returns-clause-shelf_fault g c = c.answer_of.ensures.made.shelf_fault
+
+pub returns-clause-asked_lines : goal.returns-clause-asked_lines
+returns-clause-asked_lines g c = c.answer_of.ensures.asked_lines
