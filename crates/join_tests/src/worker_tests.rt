@@ -1,6 +1,8 @@
 //! Workers of a body of joined files: as many come as are asked for, each once for each file, and two of
 //! them at once.
 
+ghost use Rattle.std.specs.Prelude.{◌≤◌};
+
 use crate::testing::{body_of, file_of, joined, put_of, r};
 use slab_fill::Gate;
 use std::alloc::Global;
