@@ -173,12 +173,20 @@ fn large_of(front: Outcome) -> Stored
     }
 }
 
+/// What the first bytes of a body are, so many of them, whatever follows.
+fn judged_front(alloc: Global, body: &[u8], most: usize) -> Outcome
+    requires { most ≤ length body.now }
+    ensures { IsShown (take most body.now) result }
+{
+    judged(alloc, &body[..most])
+}
+
 /// The outcome of a body of more bytes than are saved, whose first bytes alone decide.
 fn save_large(alloc: Global, body: &[u8]) -> Stored
     requires { 16777216 < length body.now }
     ensures { IsOfLarge body.now result }
 {
-    large_of(judged(alloc, &body[..MOST_BODY]))
+    large_of(judged_front(alloc, body, MOST_BODY))
 }
 
 /// Saves a body.
