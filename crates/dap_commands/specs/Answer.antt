@@ -6,9 +6,9 @@ use Rattle.dap_errors.specs.Causes.{message_text}
 use Rattle.dap_errors.specs.declared.cause.Cause.{Cause}
 use Rattle.dap_errors.specs.declared.cause.Cause.TheVariants as causes
 use Rattle.dap_errors.specs.declared.file_cause.FileCause.{FileCause}
+use Rattle.dap_http.specs.Sent.{is_data}
 use Rattle.dap_http.specs.Targets.{Asked, target_of}
-use Rattle.dap_http.specs.declared.kind.Kind.{Kind}
-use Rattle.dap_http.specs.declared.kind.Kind.TheVariants.{Dds, Das, Dods, Ver}
+use Rattle.dap_http.specs.declared.kind.Kind.TheVariants.{Dods}
 use Rattle.dap_outside.specs.Files.{Told}
 use Rattle.dap_server.specs.Costs.{IsCost, IsCostAt, asks_shelf, most_first}
 use Rattle.dap_server.specs.Files.{Files, Form, MayHave, form_of, joined, netcdf, saved, table}
@@ -62,14 +62,7 @@ status_for (Err cause) = status_of cause
 abbrev pub looks_up : List ℕ → Bool
 looks_up target = option_map_or asks_shelf (target_of target) false
 
--- the values of netCDF files are read as they are put, all else before
-abbrev pub is_data : Kind → Bool
-is_data Dods = true
-is_data Dds = false
-is_data Das = false
-is_data Ver = false
-
--- of one, or of those that a list names
+-- a netCDF file, or those that a list names
 abbrev pub has_netcdf : Option Form → Bool
 has_netcdf (Some netcdf) = true
 has_netcdf (Some table) = false
@@ -77,6 +70,7 @@ has_netcdf (Some saved) = false
 has_netcdf (Some joined) = true
 has_netcdf None = false
 
+-- the values of netCDF files are read as they are put, all else before
 abbrev pub is_read_late : List ℕ → Bool
 is_read_late target = option_map_or (λ a. is_data a.kind && has_netcdf (form_of a.name)) (target_of target) false
 
