@@ -1,5 +1,5 @@
 -- What a connection answers GET for a target.
-use Rattle.std.proofs.Common.{◌≡◌, ℕ, ◌+◌, inl, inr, Bool, true, false, List, ◌∷◌, ◌++◌, length, Some, MatchBool, Result, ap, ◌∙◌, sym, subst, arith, append_assoc}
+use Rattle.std.proofs.Common.{◌≡◌, ℕ, ◌+◌, inl, inr, Bool, true, false, List, ◌++◌, length, Some, MatchBool, Result, ap, ◌∙◌, subst, arith, append_assoc}
 use Rattle.dap_errors.specs.declared.cause.Cause.{Cause}
 use Rattle.dap_http.specs.Frames.{IsProperFront}
 use Rattle.dap_server.specs.Connections.{AreTurns, Behind, IsClosed, MayAnswer, Stops, behind_text, ends_after, part_of_reply}

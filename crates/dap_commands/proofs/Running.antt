@@ -1,5 +1,5 @@
 -- The headline, of a run of a command.
-use Rattle.std.proofs.Common.{◌≡◌, ◌≢◌, ℕ, ◌⊎◌, List, inl, inr, Option, Some, Result, refl, sym, ◌∙◌, subst}
+use Rattle.std.proofs.Common.{◌≡◌, ◌≢◌, ℕ, ◌⊎◌, List, inl, inr, Some, Result, refl, sym, ◌∙◌, subst}
 use Rattle.std.specs.Io.KnownBytes.{Appends}
 use Rattle.dap_errors.specs.declared.cause.Cause.{Cause}
 use Rattle.dap_errors.specs.declared.cause.Cause.TheVariants as causes
@@ -9,7 +9,6 @@ use Rattle.dap_outside.specs.Files.{Told}
 use Rattle.dap_outside.specs.Streams.{AppendsFront}
 use Rattle.dap_server.specs.Files.{Files, Stored}
 use Rattle.dap_server.specs.Results.{Text, error_object}
-use Rattle.dap_client.specs.Verdict.{IsVerdict}
 use Rattle.dap_commands.proofs.Headlines.{headline}
 use Rattle.dap_commands.proofs.ShownWhole.{shown-alone, shown-whole}
 use Rattle.dap_commands.specs.Answer.{AnswerSays, MustResult, status_for, status_of}

@@ -1,9 +1,9 @@
 -- What a target is answered with of all of a netCDF file, saved, is the dataset and the values of that file.
-use Rattle.std.proofs.Common.{◌≡◌, ℕ, ◌<◌, ◌≤◌, Bool, true, false, ◌&&◌, List, [], ◌∷◌, length, map, filter, take, inl, inr, Option, Some, None, option_map, Result, Ok, Err, refl, ap, sym, subst, ◌∙◌, arith, length-take, if◌then◌else◌}
+use Rattle.std.proofs.Common.{◌≡◌, ℕ, ◌<◌, ◌≤◌, Bool, true, false, ◌&&◌, List, [], ◌∷◌, length, map, filter, take, inl, inr, Option, Some, option_map, Result, Ok, refl, ap, sym, subst, ◌∙◌, arith, length-take, if◌then◌else◌}
 use Rattle.std.specs.Io.KnownBytes.{Appends}
 use Rattle.std.specs.Option.{option_and_then}
 use Rattle.dap_types.specs.Limits.{body_limit}
-use Rattle.dap_types.specs.Model.{Member, scalar, array, grid, Dataset, Tree, members_of}
+use Rattle.dap_types.specs.Model.{scalar, array, grid, Dataset, Tree, members_of}
 use Rattle.dap_types.specs.Names.{file_id}
 use Rattle.dap_types.specs.WellFormed.{IsWellFormed}
 use Rattle.dap_model.proofs.Whole.{all_trees_whole, filtered_all_whole}
@@ -13,7 +13,7 @@ use Rattle.dap_errors.specs.declared.cause.Cause.{Cause}
 use Rattle.dap_errors.specs.declared.cause.Cause.TheVariants.{NoFile}
 use Rattle.file_names.specs.Names.{dataset_name}
 use Rattle.constraint_parse.proofs.Answer.{one_constraint}
-use Rattle.constraint_parse.specs.Language.{ConstraintTree, no_items}
+use Rattle.constraint_parse.specs.Language.{no_items}
 use Rattle.constraint_parse.specs.Values.{Spells}
 use Rattle.constraint_parse.specs.declared.constraint.Constraint.{Constraint}
 use Rattle.grid_projection.specs.Marks.{marks}
@@ -31,7 +31,7 @@ use Rattle.dap_server.specs.Results.{File, Opens, file_named, left_of}
 use Rattle.dap_server.specs.Steps.{found_or}
 use Rattle.dap_client.proofs.Bodies.{good_is_body}
 use Rattle.dap_client.proofs.OneVerdict.{one_verdict}
-use Rattle.dap_client.specs.Verdict.{IsVerdict, Verdict, dods_form, good}
+use Rattle.dap_client.specs.Verdict.{IsVerdict, dods_form, good}
 use Rattle.netcdf_writer.proofs.Bodies.{small_body}
 use Rattle.netcdf_writer.proofs.ReadsSame.{reads_same}
 use Rattle.netcdf_writer.specs.File.{cdf}

@@ -11,7 +11,7 @@ use Rattle.dap_client.specs.declared.body_outcome.BodyOutcome.{BodyOutcome}
 use Rattle.dap_client.specs.declared.body_outcome.BodyOutcome.TheVariants as outcomes
 use Rattle.dap_gateway.specs.Backed.{AreBacked, Exchange, history}
 use Rattle.dap_gateway.specs.Steady.{EachBrought, EachTells, IsSteady, WasAsked}
-use Rattle.dap_gateway.specs.Turns.{ComesTo, IsTurn, IsUnrelayed, Turn, early, hit, miss, no_memory, reply_of, status_in}
+use Rattle.dap_gateway.specs.Turns.{ComesTo, IsTurn, IsUnrelayed, Turn, hit, miss, no_memory, reply_of, status_in}
 use Rattle.dap_gateway.specs.Turns as turns
 use Rattle.dap_gateway.specs.declared.relayed.Relayed.{Relayed}
 use Rattle.dap_gateway.specs.declared.relayed.Relayed.TheVariants as endings

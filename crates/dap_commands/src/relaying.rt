@@ -7,7 +7,7 @@ ghost use Rattle.dap_outside.specs.Streams.{AppendsFront};
 ghost use Rattle.dap_http.specs.Urls.{is_host};
 ghost use Rattle.dap_gateway.specs.Backed.{AreBacked};
 ghost use Rattle.dap_gateway.specs.Pairs.{pairs, room_of};
-ghost use Rattle.dap_commands.specs.Relay.{Gateway, IsRelayed, RelayedLink, Relays, RelaysFrom, TellsWritten, ending_name, history_of, relay_line, source_name};
+ghost use Rattle.dap_commands.specs.Relay.{IsRelayed, RelayedLink, Relays, RelaysFrom, TellsWritten, ending_name, history_of, relay_line, source_name};
 
 use crate::lines::put_each;
 use crate::status::Status;

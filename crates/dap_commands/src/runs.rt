@@ -1,9 +1,8 @@
 //! Runs of `answer`, `show` and `fetch` as the headline speaks of them: what `run` says of each is what the
 //! headline asks, and so the headline holds of it.
 
-ghost use Rattle.std.specs.Prelude.{◌≡◌, ◌≢◌, ◌<◌, ℕ, List, Some, length};
+ghost use Rattle.std.specs.Prelude.{◌≡◌, ◌≢◌, ◌<◌, ℕ, List, Some};
 ghost use Rattle.std.specs.Io.KnownBytes.{Appends};
-ghost use Rattle.dap_types.specs.Limits.{body_limit};
 ghost use Rattle.constraint_parse.specs.declared.constraint.Constraint.{Constraint};
 ghost use Rattle.dap_errors.specs.declared.cause.Cause.{Cause};
 ghost use Rattle.dap_http.specs.Urls.{UrlParts};
@@ -12,7 +11,7 @@ ghost use Rattle.dap_outside.specs.Causes.{Rose};
 ghost use Rattle.dap_server.specs.Files.{Files, Stored};
 ghost use Rattle.dap_server.specs.Results.{error_object};
 ghost use Rattle.dap_commands.specs.Answer.{status_of};
-ghost use Rattle.dap_commands.specs.ClientHalf.{AreReplies, FetchesData, HasRead, IsFetched, IsResponse, IsShown, Response, Shows, text_of, text_of_all};
+ghost use Rattle.dap_commands.specs.ClientHalf.{FetchesData, IsResponse, Response, Shows, text_of};
 ghost use Rattle.dap_commands.specs.ServerHalf.{Asks, IsAccepted, IsFirstCause, Says, served_body};
 ghost use Rattle.dap_commands.specs.Words.{AreAnswer, AreFetch, IsShow};
 

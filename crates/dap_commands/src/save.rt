@@ -1,6 +1,6 @@
 //! Data responses that come in or are fetched, saved as netCDF classic files.
 
-ghost use Rattle.std.specs.Prelude.{◌≡◌, ◌≢◌, ◌≤◌, ◌↔◌, IsTrue, Some, None};
+ghost use Rattle.std.specs.Prelude.{◌≡◌, ◌≢◌, ◌↔◌, IsTrue, Some, None};
 ghost use Rattle.std.specs.Fmt.{decimal, signed_decimal};
 ghost use Rattle.dap_outside.specs.Causes.{Rose};
 ghost use Rattle.dap_http.specs.Urls.{UrlParts, url_of};
