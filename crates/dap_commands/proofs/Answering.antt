@@ -14,9 +14,9 @@ use Rattle.dap_server.specs.Files.{Form, form_of, is_read_first, joined, netcdf,
 use Rattle.dap_server.specs.Prepared.{IsOver, MayGive, MustGive}
 use Rattle.dap_server.specs.Results.{AnswersAmong, Text, error_object, result_text}
 use Rattle.dap_server.specs.Steps.{found_or}
-use Rattle.dap_commands.specs.Answer.{AnswerSays, HasNoText, MayAskAs, MayAskFor, MayHaveAsked, MayResult, MustResult, WhereKnown, has_netcdf, is_read_late, looks_up, most_before, status_of}
+use Rattle.dap_commands.specs.Answer.{AnswerSays, HasNoText, MayAskAs, MayAskFor, MayHaveAsked, MayResult, MustResult, WhereKnown, is_read_late, looks_up, most_before, status_of}
 use Rattle.dap_commands.specs.inner.Puts.{BodyPut, IsPut, RefusalPut, TextPut, start_of}
-use Rattle.dap_commands.specs.Lines.{cause_line, damaged_line, line_of}
+use Rattle.dap_commands.specs.Lines.{cause_line, damaged_line, line_of, refused_line}
 use Rattle.dap_commands.specs.Words.{AreAnswer}
 use Rattle.dap_outside.specs.Causes.{Rose}
 use Rattle.xdr_encode.specs.Streamed.{Stops}
@@ -348,17 +348,17 @@ same_target words t u v w (inl p) (inr (word, q, n)) = ap (λ ws. get_or ws 1 t)
 same_target words t u v w (inr (word, p, n)) (inl q) = ap (λ ws. get_or ws 1 t) (sym p ∙ q.0)
 same_target words t u v w (inr (word, p, n)) (inr (other, q, m)) = ap (λ ws. get_or ws 1 t) (sym p ∙ q)
 
--- the statuses that have a line of their own say no cause
-pub another_line : (told : Told) (target : List ℕ) (Out Front Line Other : List ℕ → Type 0) (status : Status) (l : List ℕ) → Some l ≡ line_of status
+-- the line of a cause on another one, where the status has no line of its own
+pub another_line : (told : Told) (target : List ℕ) (Out Front Line Other : List ℕ → Type 0) (status : Status) → (line_of status ≡ None → (l : List ℕ) → Line l → Other l)
     → AnswerSays told target Out Front Line status → AnswerSays told target Out Front Other status
-another_line told target Out Front Line Other Complete l is says = says
-another_line told target Out Front Line Other Refused l is says = cc is
-another_line told target Out Front Line Other Damaged l is says = cc is
-another_line told target Out Front Line Other ReadFault l is says = says
-another_line told target Out Front Line Other WriteFault l is says = says
-another_line told target Out Front Line Other Memory l is says = says
-another_line told target Out Front Line Other Words l is says = says
-another_line told target Out Front Line Other Unsaved l is says = says
-another_line told target Out Front Line Other BadReply l is says = says
-another_line told target Out Front Line Other ServerError l is says = says
-another_line told target Out Front Line Other LinkFault l is says = says
+another_line told target Out Front Line Other Complete pass says = says
+another_line told target Out Front Line Other Refused pass (cause, may, is, out, line) = (cause, may, is, out, pass refl (refused_line (message_text cause)) line)
+another_line told target Out Front Line Other Damaged pass (why, may, out, line) = (why, may, out, pass refl (damaged_line (message_text (causes.Damaged why))) line)
+another_line told target Out Front Line Other ReadFault pass says = says
+another_line told target Out Front Line Other WriteFault pass says = says
+another_line told target Out Front Line Other Memory pass says = says
+another_line told target Out Front Line Other Words pass says = says
+another_line told target Out Front Line Other Unsaved pass says = says
+another_line told target Out Front Line Other BadReply pass says = says
+another_line told target Out Front Line Other ServerError pass says = says
+another_line told target Out Front Line Other LinkFault pass says = says

@@ -157,19 +157,16 @@ no-command words url kind ces form none (inr (inr (inr (inr (inr (inr (inl (host
 no-command words url kind ces form none (inr (inr (inr (inr (inr (inr (inr (inl is)))))))) = no-save words url kind ces is form
 no-command words url kind ces form none (inr (inr (inr (inr (inr (inr (inr (inr (u, ce, (other, is, known)))))))))) = no-save-url words other ce url kind ces is form
 
--- what is said on another line, where the status has a line of its own
-why-other : (o : Outcome) (status : Status) (l : List ℕ) (Line Other : List ℕ → Type 0) → status ≡ status_of o → Some l ≡ line_of status → SaysWhy o Line → SaysWhy o Other
-why-other (outcomes.ServerError code message) status l Line Other is said why = let clash : Some l ≡ None = said ∙ ap line_of is in cc clash
-why-other (outcomes.BadReply field) status l Line Other is said why = let clash : Some l ≡ None = said ∙ ap line_of is in cc clash
-why-other (outcomes.Complete bytes) status l Line Other is said why = tt
-why-other outcomes.ReadFault status l Line Other is said why = tt
-why-other outcomes.WriteFault status l Line Other is said why = tt
-why-other outcomes.LinkFault status l Line Other is said why = tt
-why-other outcomes.Memory status l Line Other is said why = tt
+-- what is said on another line, where the status has no line of its own
+why-other : (o : Outcome) (status : Status) (Line Other : List ℕ → Type 0) → status ≡ status_of o → (line_of status ≡ None → (l : List ℕ) → Line l → Other l) → SaysWhy o Line → SaysWhy o Other
+why-other (outcomes.ServerError code message) status Line Other is pass why = pass (ap line_of is) _ why
+why-other (outcomes.BadReply field) status Line Other is pass why = pass (ap line_of is) _ why
+why-other (outcomes.Complete bytes) status Line Other is pass why = tt
+why-other outcomes.ReadFault status Line Other is pass why = tt
+why-other outcomes.WriteFault status Line Other is pass why = tt
+why-other outcomes.LinkFault status Line Other is pass why = tt
+why-other outcomes.Memory status Line Other is pass why = tt
 
-pub another-fetch-line : {W : Type 0} (state : W → LinkState) (u : UrlParts) (kind : Kind) (ces : List (List ℕ)) (a b : DialState W) (before now : SinkState) (Line Other : List ℕ → Type 0) (status : Status) (l : List ℕ)
-    → Some l ≡ line_of status → FetchSays state u kind ces a b before now Line status → FetchSays state u kind ces a b before now Other status
-another-fetch-line state u kind ces a b before now Line Other status l said (fetched, fetches, is, why) = (fetched, fetches, is, why-other fetched.last status l Line Other is said why)
-
-pub show-no-fetch : (words : List (List ℕ)) → IsShow words → ¬ (IsFetch words)
-show-no-fetch words are (u, kind, ces, (url, form, is)) = no-show words url kind ces are form
+pub another-fetch-line : {W : Type 0} (state : W → LinkState) (u : UrlParts) (kind : Kind) (ces : List (List ℕ)) (a b : DialState W) (before now : SinkState) (Line Other : List ℕ → Type 0) (status : Status)
+    → (line_of status ≡ None → (l : List ℕ) → Line l → Other l) → FetchSays state u kind ces a b before now Line status → FetchSays state u kind ces a b before now Other status
+another-fetch-line state u kind ces a b before now Line Other status pass (fetched, fetches, is, why) = (fetched, fetches, is, why-other fetched.last status Line Other is pass why)

@@ -1,5 +1,5 @@
 -- Pieces that are put one after the other.
-use Rattle.std.proofs.Common.{Bor, ◌≡◌, ℕ, ◌<◌, List, [], ◌++◌, length, take, drop, get_or, suc, Option, Result, OnErr, OnOk, Ok, Err, inl, inr, codes, sym, ap, ◌∙◌, subst, append_assoc, append-nil, drop-cons, take-append-drop, IfSome, Some}
+use Rattle.std.proofs.Common.{Bor, ◌≡◌, ℕ, ◌<◌, List, [], ◌++◌, length, take, drop, get_or, suc, Option, None, Result, OnErr, OnOk, Ok, Err, inl, inr, codes, refl, sym, ap, ◌∙◌, subst, append_assoc, append-nil, drop-cons, take-append-drop, IfSome, Some}
 use Rattle.std.proofs.lemmas.Grind.{flat_map-append}
 use Rattle.std.specs.Fmt.{decimal}
 use Rattle.std.specs.Io.KnownBytes.{Appends}
@@ -59,3 +59,13 @@ pub one-said : (o : Option (List ℕ)) (line bytes : List ℕ) (before now : ℕ
     → IfSome o (λ l. IsSaid l before now old new)
 one-said o line bytes before now old new p q said =
     subst (λ x. IfSome x (λ l. IsSaid l before now old new)) p (subst (λ l. IsSaid l before now old new) (append-nil bytes ∙ q) said)
+
+-- what was said is said where standard error is as it was then
+pub still-said : {E : Type 0} (faults : E → ℕ) (written : E → Option (List ℕ)) (a b c : E) → c ≡ b → (l : List ℕ) → IsSaid l (faults a) (faults b) (written a) (written b) → IsSaid l (faults a) (faults c) (written a) (written c)
+still-said faults written a b c same l said = subst (λ e. IsSaid l (faults a) (faults e) (written a) (written e)) (sym same) said
+
+-- and a line where nothing was said before it
+pub first-said : {E : Type 0} (faults : E → ℕ) (written : E → Option (List ℕ)) (a b c : E) (o : Option (List ℕ)) → ((l : List ℕ) → Some l ≡ o → b ≡ a)
+    → IfSome o (λ l. IsSaid l (faults b) (faults c) (written b) (written c)) → IfSome o (λ l. IsSaid l (faults a) (faults c) (written a) (written c))
+first-said faults written a b c None same said = tt
+first-said faults written a b c (Some l) same said = subst (λ e. IsSaid l (faults e) (faults c) (written e) (written c)) (same l refl) said

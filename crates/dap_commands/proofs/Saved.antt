@@ -1,8 +1,7 @@
 -- What is said of a data response that is saved, and of the words of `save`.
-use Rattle.std.proofs.Common.{◌≡◌, ◌≢◌, ℕ, List, [], ◌∷◌, inl, inr, get_or, codes, Option, Some, None, refl, sym, ap, ◌∙◌, subst, arith, ◌⊎◌}
+use Rattle.std.proofs.Common.{◌≡◌, ◌≢◌, ℕ, List, [], ◌∷◌, inl, inr, get_or, codes, Some, None, refl, sym, ap, ◌∙◌, subst, arith, ◌⊎◌}
 use Rattle.dap_outside.specs.Links.{LinkState}
 use Rattle.dap_http.specs.Urls.{UrlParts, url_of}
-use Rattle.dap_http.specs.declared.kind.Kind.{Kind}
 use Rattle.dap_client.specs.Fetched.{DialState, SinkState}
 use Rattle.netcdf_writer.specs.Fetching.{SavesUrl}
 use Rattle.netcdf_writer.specs.Outcomes.{OnLinkFault, OnReadFault, OnWriteFault}
@@ -11,9 +10,9 @@ use Rattle.netcdf_writer.specs.declared.stored.Stored.TheVariants as stored
 use Rattle.dap_commands.proofs.Fetching.{answer-named, no-save, no-save-url, no-words, soak-named, some-or-none}
 use Rattle.dap_commands.specs.Lines.{line_of}
 use Rattle.dap_commands.specs.Save.{SaveSays, SaysWhy, status_of}
-use Rattle.dap_commands.specs.Words.{AreAnswer, AreSaveUrl, AreSoak, HaveSaveForm, IsCommand, IsFetch, IsSave, IsSaveUrl, IsShow}
+use Rattle.dap_commands.specs.Words.{AreAnswer, AreSaveUrl, AreSoak, HaveSaveForm, IsCommand, IsFetch, IsSave, IsSaveUrl}
 use Rattle.dap_commands.specs.declared.status.Status.{Status}
-use Rattle.dap_commands.specs.declared.status.Status.TheVariants.{Complete, Unsaved, BadReply, ServerError, ReadFault, WriteFault, LinkFault, Memory}
+use Rattle.dap_commands.specs.declared.status.Status.TheVariants.{BadReply, ServerError, ReadFault, WriteFault, LinkFault, Memory}
 
 -- ---- a status and its answer
 
@@ -84,22 +83,22 @@ memory-saves state u ce a before Line = (stored.Memory, inl (record { back = ref
 pub saves-as : {W : Type 0} (state : W → LinkState) (u : UrlParts) (ce heard : List ℕ) (a b : DialState W) (before now : SinkState) (s : Stored) → heard ≡ ce → SavesUrl state u heard a b before now s → SavesUrl state u ce a b before now s
 saves-as state u ce heard a b before now s same says = subst (λ (l : List ℕ). SavesUrl state u l a b before now s) same says
 
--- ---- another line, where the status has a line of its own
+-- ---- another line, where the status has no line of its own
 
-why-other : (s : Stored) (status : Status) (l : List ℕ) (Line Other : List ℕ → Type 0) → status ≡ status_of s → Some l ≡ line_of status → SaysWhy s Line → SaysWhy s Other
-why-other (stored.Unsavable member why) status l Line Other is said says = let clash : Some l ≡ None = said ∙ ap line_of is in cc clash
-why-other stored.BodyTooLarge status l Line Other is said says = let clash : Some l ≡ None = said ∙ ap line_of is in cc clash
-why-other stored.HeaderTooLong status l Line Other is said says = let clash : Some l ≡ None = said ∙ ap line_of is in cc clash
-why-other (stored.ServerError code message) status l Line Other is said says = let clash : Some l ≡ None = said ∙ ap line_of is in cc clash
-why-other (stored.BadReply field) status l Line Other is said says = let clash : Some l ≡ None = said ∙ ap line_of is in cc clash
-why-other (stored.Written bytes) status l Line Other is said says = tt
-why-other stored.ReadFault status l Line Other is said says = tt
-why-other stored.WriteFault status l Line Other is said says = tt
-why-other stored.LinkFault status l Line Other is said says = tt
-why-other stored.Memory status l Line Other is said says = tt
+why-other : (s : Stored) (status : Status) (Line Other : List ℕ → Type 0) → status ≡ status_of s → (line_of status ≡ None → (l : List ℕ) → Line l → Other l) → SaysWhy s Line → SaysWhy s Other
+why-other (stored.Unsavable member why) status Line Other is pass says = pass (ap line_of is) _ says
+why-other stored.BodyTooLarge status Line Other is pass says = pass (ap line_of is) _ says
+why-other stored.HeaderTooLong status Line Other is pass says = pass (ap line_of is) _ says
+why-other (stored.ServerError code message) status Line Other is pass says = pass (ap line_of is) _ says
+why-other (stored.BadReply field) status Line Other is pass says = pass (ap line_of is) _ says
+why-other (stored.Written bytes) status Line Other is pass says = tt
+why-other stored.ReadFault status Line Other is pass says = tt
+why-other stored.WriteFault status Line Other is pass says = tt
+why-other stored.LinkFault status Line Other is pass says = tt
+why-other stored.Memory status Line Other is pass says = tt
 
-pub another-save-line : (Saves : Stored → Type 0) (Line Other : List ℕ → Type 0) (status : Status) (l : List ℕ) → Some l ≡ line_of status → SaveSays Saves Line status → SaveSays Saves Other status
-another-save-line Saves Line Other status l said (s, saves, is, why) = (s, saves, is, why-other s status l Line Other is said why)
+pub another-save-line : (Saves : Stored → Type 0) (Line Other : List ℕ → Type 0) (status : Status) → (line_of status ≡ None → (l : List ℕ) → Line l → Other l) → SaveSays Saves Line status → SaveSays Saves Other status
+another-save-line Saves Line Other status pass (s, saves, is, why) = (s, saves, is, why-other s status Line Other is pass why)
 
 -- ---- words of one command
 
@@ -120,9 +119,6 @@ save-no-fetch words url ce s (u, kind, ces, (other, form, is)) = no-save-url wor
 
 pub input-no-fetch : (words : List (List ℕ)) → IsSave words → ¬ (IsFetch words)
 input-no-fetch words s (u, kind, ces, (other, form, is)) = no-save words other kind ces s form
-
-pub show-no-save : (words : List (List ℕ)) → IsShow words → ¬ (IsSaveUrl words)
-show-no-save words s (u, ce, (url, form, is)) = let clash : codes "show" ∷ [] ≡ codes "save" ∷ url ∷ ce ∷ [] = sym s ∙ form in cc clash
 
 pub input-no-save : (words : List (List ℕ)) → IsSave words → ¬ (IsSaveUrl words)
 input-no-save words s (u, ce, (url, form, is)) = let clash : codes "save" ∷ [] ≡ codes "save" ∷ url ∷ ce ∷ [] = sym s ∙ form in cc clash

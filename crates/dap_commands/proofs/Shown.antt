@@ -1,5 +1,5 @@
 -- What `show` says, by its outcome.
-use Rattle.std.proofs.Common.{◌≡◌, ◌≢◌, ℕ, ℤ, List, length, take, Option, Some, refl, sym, subst}
+use Rattle.std.proofs.Common.{◌≡◌, ◌≢◌, ℕ, ℤ, List, length, take, Option, None, refl, sym, subst}
 use Rattle.std.specs.Fmt.{signed_decimal}
 use Rattle.std.specs.Io.KnownBytes.{Appends}
 use Rattle.dap_types.specs.Model.{Dataset, Tree}
@@ -51,20 +51,21 @@ for_bad_reply n field (server_error e) is = cc is
 for_bad_reply n field (bad kind place) is = refl
 
 -- ---- in the run
--- the line of the status is none of these
-pub another_show_line : (left now : Option (List ℕ)) (Ended AtEnd : Type 0) (old new : Option (List ℕ)) (Line Other : List ℕ → Type 0) (status : Status) (l : List ℕ) → Some l ≡ line_of status
+-- the line on another one, where the status has no line of its own
+pub another_show_line : (left now : Option (List ℕ)) (Ended AtEnd : Type 0) (old new : Option (List ℕ)) (Line Other : List ℕ → Type 0) (status : Status) → (line_of status ≡ None → (l : List ℕ) → Line l → Other l)
     → ShowSays left now Ended AtEnd old new Line status → ShowSays left now Ended AtEnd old new Other status
-another_show_line left now Ended AtEnd old new Line Other Complete l is says = says
-another_show_line left now Ended AtEnd old new Line Other ServerError l is says = cc is
-another_show_line left now Ended AtEnd old new Line Other BadReply l is says = cc is
-another_show_line left now Ended AtEnd old new Line Other ReadFault l is says = says
-another_show_line left now Ended AtEnd old new Line Other WriteFault l is says = says
-another_show_line left now Ended AtEnd old new Line Other Memory l is says = says
-another_show_line left now Ended AtEnd old new Line Other Words l is says = says
-another_show_line left now Ended AtEnd old new Line Other Unsaved l is says = says
-another_show_line left now Ended AtEnd old new Line Other Refused l is says = says
-another_show_line left now Ended AtEnd old new Line Other Damaged l is says = says
-another_show_line left now Ended AtEnd old new Line Other LinkFault l is says = says
+another_show_line left now Ended AtEnd old new Line Other Complete pass says = says
+another_show_line left now Ended AtEnd old new Line Other ServerError pass (ended, at, same, (body, took, (e, v, line))) =
+    (ended, at, same, (body, took, (e, v, pass refl (server_error_line (signed_decimal e.code) e.message) line)))
+another_show_line left now Ended AtEnd old new Line Other BadReply pass (taken, took, (field, wrong, gains, line)) = (taken, took, (field, wrong, gains, pass refl (bad_reply_line field) line))
+another_show_line left now Ended AtEnd old new Line Other ReadFault pass says = says
+another_show_line left now Ended AtEnd old new Line Other WriteFault pass says = says
+another_show_line left now Ended AtEnd old new Line Other Memory pass says = says
+another_show_line left now Ended AtEnd old new Line Other Words pass says = says
+another_show_line left now Ended AtEnd old new Line Other Unsaved pass says = says
+another_show_line left now Ended AtEnd old new Line Other Refused pass says = says
+another_show_line left now Ended AtEnd old new Line Other Damaged pass says = says
+another_show_line left now Ended AtEnd old new Line Other LinkFault pass says = says
 
 -- no fault, and memory was had
 pub told_status : (v : Verdict) (status : Status) (Read Write : Type 0) → (status ≡ ReadFault → Read) → (status ≡ WriteFault → Write) → ¬ Read → ¬ Write → status ≢ Memory → IsFor v status → status ≡ status_for v

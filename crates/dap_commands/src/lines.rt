@@ -1,11 +1,12 @@
-ghost use Rattle.std.specs.Prelude.{◌≡◌, OnErr, OnOk};
+ghost use Rattle.std.specs.Prelude.{◌≡◌, IfSome, None, OnErr, OnOk};
 ghost use Rattle.std.specs.Io.KnownBytes.{Appends};
 ghost use Rattle.std.specs.List.{flat_map};
 ghost use Rattle.dap_outside.specs.Causes.{HasCause};
 ghost use Rattle.dap_outside.specs.Streams.{AppendsFront};
-ghost use Rattle.dap_commands.specs.Lines.{IsSaid, bad_reply_line, cause_line, server_error_line};
+ghost use Rattle.dap_commands.specs.Lines.{IsSaid, bad_reply_line, cause_line, line_of, server_error_line};
 ghost use Rattle.dap_commands.specs.Save.{member_line, reason_line, unsaved_line, why_text};
 
+use crate::status::Status;
 use dap_outside::{Failed, Sink, put_all};
 use netcdf_writer::Why;
 use xdr_decode::{BadField, put_shown_text};
@@ -30,6 +31,17 @@ pub fn say<E: Sink>(err: &mut E, pieces: &[&[u8]])
     ensures beside { E.beside_writing err.new ≡ E.beside_writing err.old }
 {
     let _ = put_each(err, pieces);
+}
+
+/// Says the line of a status, if it has one.
+pub fn say_line<E: Sink>(err: &mut E, status: Status)
+    ensures said { IfSome (line_of status) (λ line. IsSaid line (E.put_faults err.old) (E.put_faults err.new) (E.written err.old) (E.written err.new)) }
+    ensures silent { line_of status ≡ None → err.new ≡ err.old }
+    ensures beside { E.beside_writing err.new ≡ E.beside_writing err.old }
+{
+    if let Some(line) = status.line() {
+        say(err, &[line.as_bytes()]);
+    }
 }
 
 /// Says what is wrong with a data response.
