@@ -1,3 +1,4 @@
 pub mod Giving
 pub mod Judging
 pub mod Places
+pub mod Stopping

@@ -1,4 +1,5 @@
 pub mod Cases
+pub mod Endings
 pub mod Files
 pub mod Prefixed
 pub mod Reports

@@ -1,4 +1,4 @@
-ghost use Rattle.std.specs.Prelude.{◌≡◌, ◌≢◌, ℕ, List, Option, Some, Err, IfOk, map, string_bytes};
+ghost use Rattle.std.specs.Prelude.{◌≡◌, ◌≢◌, ℕ, List, Option, Some, Err, IfOk, OnErr, map, string_bytes};
 ghost use Rattle.std.specs.Io.KnownBytes.{Appends};
 ghost use Rattle.dap_outside.specs.Causes.{Rose};
 ghost use Rattle.dap_cases.specs.Files.{AreListed, folder_named};
@@ -85,6 +85,7 @@ pub fn run_cases<R: Threads + Sync, S: Shelf, O: Sink>(
     ensures listed { IfOk result (λ outcomes. (files : List ℕ → Option (List ℕ)) → S.files shelf.old ≡ Some files → AreListed files (map (λ outcome. outcome.name) outcomes)) }
     ensures put { IfOk result (λ outcomes. Appends (O.written out.old) (O.written out.new) (report_of outcomes)) }
     ensures write_fault { result ≡ Err Stop.WriteFault → Rose (O.put_faults out.old) (O.put_faults out.new) }
+    ensures nothing_put { OnErr result (result ≢ Err Stop.WriteFault → out.new ≡ out.old) }
 {
     let names = read_list(alloc, shelf)?;
     let outcomes = run_each(rt, alloc, shelf, names.items())?;

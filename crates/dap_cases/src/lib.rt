@@ -1,25 +1,26 @@
 //! Cases of the commands as data: a list of folders on a shelf, each with words, files and what must come of them. Each
-//! case is run, and what came is put beside what must come. A line for each and their count go out.
+//! case is run, and what came is put beside what must come. A line for each, their count and the number of how that ended
+//! go out.
 #![tactic(auto)]
 
 mod below;
 mod case;
 mod cases;
 mod differences;
+mod ending;
 mod files;
 mod lines;
 mod outcome;
 mod running;
 mod said;
-mod start;
 mod stop;
 mod texts;
 mod verdict;
 
 pub use cases::run_cases;
+pub use ending::ended;
 pub use lines::{all_agree, report};
 pub use outcome::Outcome;
 pub use said::Said;
-pub use start::ended;
 pub use stop::Stop;
 pub use verdict::{Verdict, judge};

@@ -1,3 +1,6 @@
+ghost use Rattle.std.specs.Prelude.{◌≡◌};
+ghost use Rattle.dap_cases.specs.Endings.{stop_line, stop_number};
+
 use dap_types::Memory as WantOfMemory;
 use std::alloc::AllocError;
 
@@ -10,6 +13,30 @@ pub enum Stop {
     WriteFault,
     /// Memory was wanted.
     Memory,
+}
+
+impl Stop {
+    /// The number with which the cases end.
+    pub fn number(self) -> u8
+        ensures { result ≡ stop_number self }
+    {
+        match self {
+            Stop::Unread => 7,
+            Stop::WriteFault => 8,
+            Stop::Memory => 10,
+        }
+    }
+
+    /// The line for standard error.
+    pub fn line(self) -> &'static str
+        ensures { result.now ≡ stop_line self }
+    {
+        match self {
+            Stop::Unread => "dap2_cases: no list here that can be read\n",
+            Stop::WriteFault => "dap2_cases: write fault\n",
+            Stop::Memory => "dap2_cases: out of memory\n",
+        }
+    }
 }
 
 impl From<WantOfMemory> for Stop {
