@@ -6,4 +6,4 @@ mod start;
 mod words;
 
 pub use start::ended;
-pub use words::words_behind;
+pub use words::{words_behind, words_of};

@@ -7,6 +7,7 @@ use crate::words::words_of;
 use dap_commands::{Status, run};
 use dap_host::{FolderShelf, StdSink, StdSource, TcpDial, TcpDoor};
 use dap_types::Memory;
+use std::env;
 use std::io::{Stderr, Stdin, Stdout};
 use std::process::ExitCode;
 use std::thread::Threads;
@@ -14,7 +15,7 @@ use std::thread::Threads;
 /// Does what the words after the program's name say, in the folder in which it was started and over
 /// the standard streams and TCP. Fails, and does nothing, where memory for the words is wanted.
 fn status_of<T: Threads + Sync>(threads: &T, rt: &HostRuntime) -> Result<Status, Memory> {
-    let words = words_of(rt)?;
+    let words = words_of(rt.alloc(), env::args(rt))?;
     let mut shelf = FolderShelf::new(rt);
     let mut input: StdSource<Stdin> = StdSource::new(rt.stdin());
     let mut out: StdSink<Stdout> = StdSink::new(rt.stdout());
