@@ -1,7 +1,7 @@
 //! The bytes of the file.
 
-ghost use Rattle.std.specs.Prelude.{◌≡◌, ◌≢◌, ◌+◌, ◌*◌, ◌/◌, ◌%◌, ◌^◌, ◌++◌, ◌≤◌, ◌<◌, ℕ, suc, List, length, IfOk, OnOk};
-ghost use Rattle.soak.specs.File.{bytes_at, header, soak_bytes, state, values};
+ghost use Rattle.std.specs.Prelude.{◌≡◌, ◌+◌, ◌*◌, ◌%◌, ◌^◌, ◌++◌, ◌≤◌, ◌<◌, IfOk, OnOk};
+ghost use Rattle.soak.specs.File.{bytes_at, header, soak_bytes, state};
 
 use dap_types::{Bytes, Memory};
 use std::alloc::Global;

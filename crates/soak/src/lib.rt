@@ -3,18 +3,18 @@
 //! come four numbers of what was read (`specs/Numbers`).
 #![tactic(auto)]
 
-mod both_ends;
 mod file;
 mod laws;
 mod numbers;
 mod reply;
 mod request;
+mod round_trip;
 #[cfg(test)]
 mod tests;
 
-pub use both_ends::soak;
 pub use file::soak_file;
 pub use laws::{bytes_are_counted, elements_are_counted, header_is_read, is_read, is_served};
 pub use numbers::Numbers;
 pub use reply::soak_reply;
 pub use request::soak_request;
+pub use round_trip::soak;

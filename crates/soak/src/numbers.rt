@@ -1,4 +1,4 @@
-ghost use Rattle.std.specs.Prelude.{◌≡◌, ◌≤◌, IfOk, ◌+◌, ◌-◌, ◌*◌, ◌/◌, ◌%◌, ◌^◌, length, sum};
+ghost use Rattle.std.specs.Prelude.{◌≡◌, ◌≤◌, IfOk, ◌+◌, ◌-◌, ◌*◌, ◌/◌, ◌%◌, ◌^◌, sum};
 
 use dap_types::{Bytes, Memory};
 use std::alloc::Global;

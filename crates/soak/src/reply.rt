@@ -1,6 +1,6 @@
 //! The file served over a link in memory.
 
-ghost use Rattle.std.specs.Prelude.{◌≡◌, ◌≤◌, ◌<◌, ◌^◌, ℕ, List, Some, IfOk, [], Option, codes};
+ghost use Rattle.std.specs.Prelude.{◌≡◌, ◌≤◌, ◌<◌, ℕ, List, Some, IfOk, [], Option, codes};
 ghost use Rattle.std.specs.Bool.{OnTrue};
 ghost use Rattle.dap_server.specs.declared.served.Ending.TheVariants.{Closed};
 ghost use Rattle.soak.specs.Asked.{request};

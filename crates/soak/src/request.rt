@@ -1,7 +1,7 @@
 //! The request for a part of each variable of the file.
 
-ghost use Rattle.std.specs.Prelude.{◌≡◌, ◌≢◌, ◌≤◌, ◌-◌, ◌++◌, ℕ, List, IfOk, codes};
-ghost use Rattle.soak.specs.Asked.{constraint_text, request, url_text};
+ghost use Rattle.std.specs.Prelude.{◌≡◌, ◌≤◌, ◌-◌, IfOk, codes};
+ghost use Rattle.soak.specs.Asked.{constraint_text, request};
 
 use dap_http::{Kind, Url, UrlRefusal, request_bytes};
 use dap_types::{Bytes, Memory};

@@ -1,7 +1,7 @@
 use Rattle.std.proofs.Common.{arith, drop, length, refl}
 use Rattle.std.proofs.lemmas.List.{drop_all}
 use Rattle.soak.proofs.Shown.{read-is}
-use Rattle.soak.proofs.both_ends.read.Goals as goal
+use Rattle.soak.proofs.round_trip.read.Goals as goal
 
 pub returns-in-Complete : goal.returns-in-Complete
 returns-in-Complete c = λ start is.

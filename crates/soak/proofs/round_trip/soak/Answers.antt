@@ -3,7 +3,7 @@ use Rattle.soak.specs.Numbers.{numbers}
 use Rattle.soak.specs.Reply.{reply}
 use Rattle.soak.specs.declared.numbers.Numbers.{Numbers}
 use Rattle.soak.proofs.Answering.{if-ok}
-use Rattle.soak.proofs.both_ends.soak.Goals as goal
+use Rattle.soak.proofs.round_trip.soak.Goals as goal
 
 pub returns : goal.returns
 returns g c =
