@@ -6,7 +6,7 @@ mod joins;
 mod samples;
 mod texts;
 
-use crate::running::{Said, numbers, run_words, said_alone};
+use crate::said::{Said, numbers, run_words, said_alone};
 use dap_commands::Status;
 use dap_host::FolderShelf;
 use dap_outside::{MemDial, MemFile, MemShelf, MemSink, MemSource, Shelf, SureShelf, SureSource};

@@ -1,6 +1,6 @@
 //! The runner of cases, over a shelf in memory.
 
-use crate::running::numbers;
+use crate::said::numbers;
 use dap_cases::{Stop, all_agree, run_cases};
 use dap_outside::{MemFile, MemShelf, MemSink};
 use dap_types::{Bytes, List, Memory, Name};

@@ -3,7 +3,7 @@
 ghost use Rattle.std.specs.Prelude.{All, IfOk};
 ghost use Rattle.dap_outside.specs.MemLinks.{IsNew};
 
-use crate::running::{Said, numbers, said_over};
+use crate::said::{Said, numbers, said_over};
 use dap_commands::Status;
 use dap_outside::{MemDial, MemLink, MemSink, SureShelf, SureSource};
 use dap_types::{Bytes, List, Memory};

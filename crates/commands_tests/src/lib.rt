@@ -12,7 +12,7 @@ mod fetch_tests;
 #[cfg(test)]
 mod relay_tests;
 #[cfg(test)]
-mod running;
+mod said;
 #[cfg(test)]
 mod save_tests;
 #[cfg(test)]

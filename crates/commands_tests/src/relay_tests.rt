@@ -3,7 +3,7 @@
 ghost use Rattle.std.specs.Prelude.{IfOk};
 ghost use Rattle.dap_outside.specs.MemLinks.{IsNew};
 
-use crate::running::{named, numbers};
+use crate::said::{named, numbers};
 use dap_commands::{Status, run};
 use dap_outside::{MemDial, MemDoor, MemLink, MemSink, SureShelf, SureSource};
 use dap_types::{Bytes, List, Memory};

@@ -4,7 +4,7 @@
 ghost use Rattle.std.specs.Prelude.{◌≡◌, ◌<◌, IfOk, IfSome, Some};
 ghost use Rattle.dap_outside.specs.MemLinks.{IsNew};
 
-use crate::running::numbers;
+use crate::said::numbers;
 use dap_commands::{Status, serve, ver};
 use dap_host::{TcpDial, TcpDoor, TcpLink};
 use dap_outside::{

@@ -1,6 +1,6 @@
 //! The word `soak`.
 
-use crate::running::{Said, numbers, said_alone};
+use crate::said::{Said, numbers, said_alone};
 use dap_commands::Status;
 use dap_outside::{MemSink, SureShelf, SureSource};
 use dap_types::{Bytes, List, Memory};

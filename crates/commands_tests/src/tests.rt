@@ -1,5 +1,5 @@
 use crate::counted::Counted;
-use crate::running::{Said, numbers, run_words, said_alone};
+use crate::said::{Said, numbers, run_words, said_alone};
 use dap_commands::Status;
 use dap_host::{StdSink, StdSource};
 use dap_outside::{MemDial, MemFile, MemShelf, MemSink, MemSource, SureShelf};

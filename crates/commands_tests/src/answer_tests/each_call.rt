@@ -6,7 +6,7 @@ use super::texts::{
 };
 use super::{Faults, SURE, answered, joins};
 use crate::counted::Counted;
-use crate::running::run_words;
+use crate::said::run_words;
 use dap_commands::Status;
 use dap_outside::{MemDial, MemFile, MemShelf, MemSink, SureSource};
 use dap_types::{Bytes, List, Memory};

@@ -3,7 +3,7 @@
 use super::samples::{alone, bytes_of, coads, file, files};
 use super::texts::{EACH_SECOND, coads_body};
 use crate::counted::Counted;
-use crate::running::numbers;
+use crate::said::numbers;
 use dap_outside::{MemLink, MemShelf};
 use dap_server::{Ending, serve_connection};
 use dap_types::{Bytes, List, Memory};

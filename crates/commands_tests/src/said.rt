@@ -1,4 +1,4 @@
-//! What the tests of the program share.
+//! What words say, which the tests of the program share: how their run ended and what it wrote.
 
 use dap_commands::{Status, run};
 use dap_outside::{MemDial, MemDoor, MemSink, Shelf, Sink, Source};
