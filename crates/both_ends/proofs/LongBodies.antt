@@ -16,7 +16,7 @@ use Rattle.dap_model.specs.Grammar.{HasWords}
 use Rattle.dap_model.specs.Tokens.{is_white}
 use Rattle.dap_model.specs.Xdr.{Spells, xdr}
 use Rattle.xdr_decode.specs.Verdict.{budget}
-use Rattle.xdr_decode.specs.declared.bad.Bad.TheVariants.{Cut, TooLong}
+use Rattle.reply_faults.specs.declared.bad.Bad.TheVariants.{Cut, TooLong}
 use Rattle.error_word.proofs.Bodies.{text_no_error}
 use Rattle.error_word.specs.Saying.{says_error}
 use Rattle.dap_client.proofs.Filling.{budget_is}

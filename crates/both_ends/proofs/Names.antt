@@ -3,29 +3,14 @@ use Rattle.std.proofs.Common.{◌≡◌, ℕ, ◌<◌, Bool, true, false, cond, 
 use Rattle.std.specs.List.{list_all, onto_first, slice_split}
 use Rattle.std.proofs.lemmas.Bool.{and_from, and_parts, eqb-true, false≢true}
 use Rattle.std.proofs.lemmas.List.Elements.{All-cons, All-nil}
-use Rattle.dap_http.specs.Targets.{Asked, asked_in, is_name, is_name_byte, is_segment, is_slash, is_target_long, kind_of, kinded_in, named_in, path_of, query_of, target_of, without_origin, without_slash, without_suffix}
+use Rattle.target_names.specs.Names.{is_name, is_name_byte, is_segment, is_slash}
+use Rattle.dap_http.specs.Targets.{Asked, asked_in, is_target_long, kind_of, kinded_in, named_in, path_of, query_of, target_of, without_origin, without_slash, without_suffix}
 use Rattle.dap_http.specs.declared.kind.Kind.{Kind}
-
-abbrev IsByte : ℕ → Type 0
-IsByte b = b < 256
+use Rattle.file_names.proofs.Words.{IsByte}
+use Rattle.target_names.proofs.NameText.{onto-plain, segments-plain}
 
 byte-small : (b : ℕ) → is_name_byte b ≡ true → b < 256
 byte-small b e = grind (arith, tests, e)
-
-segment-plain : (p : List ℕ) → is_segment p ≡ true → list_all is_name_byte p ≡ true
-segment-plain [] e = absurd (false≢true e)
-segment-plain (b ∷ bytes) e = (and_parts _ _ e).1
-
-segments-plain : (ps : List (List ℕ)) → list_all is_segment ps ≡ true → list_all (list_all is_name_byte) ps ≡ true
-segments-plain [] e = refl
-segments-plain (p ∷ ps) e = let (a, b) = and_parts _ _ e in and_from _ _ (segment-plain p a) (segments-plain ps b)
-
-onto-plain : (x : ℕ) (ps : List (List ℕ)) → list_all (list_all is_name_byte) (onto_first x ps) ≡ true → (is_name_byte x ≡ true) × (list_all (list_all is_name_byte) ps ≡ true)
-onto-plain x [] e = ((and_parts _ _ (and_parts _ _ e).0).0, refl)
-onto-plain x (p ∷ ps) e =
-    let (a, b) = and_parts _ _ e in
-    let (own, others) = and_parts _ _ a in
-    (own, and_from _ _ others b)
 
 split-plain : (x : ℕ) (xs : List ℕ) → list_all (list_all is_name_byte) (slice_split is_slash (x ∷ xs)) ≡ true → (x < 256) × (list_all (list_all is_name_byte) (slice_split is_slash xs) ≡ true)
 split-plain x xs e = go (is_slash x) refl e where

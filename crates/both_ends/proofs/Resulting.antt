@@ -52,7 +52,7 @@ use Rattle.dap_server.specs.Results.{Answers, DodsAnswers, File, Left, Opens, Te
 use Rattle.dap_server.specs.Steps.{found_or, unless}
 use Rattle.dap_client.proofs.Bodies.{body_good}
 use Rattle.dap_client.specs.Verdict.{IsVerdict, bad, dods_form, good}
-use Rattle.xdr_decode.specs.declared.bad.Bad.TheVariants.{TooLong}
+use Rattle.reply_faults.specs.declared.bad.Bad.TheVariants.{TooLong}
 use Rattle.both_ends.proofs.LongBodies.{too-long}
 use Rattle.both_ends.proofs.Names.{target-name}
 use Rattle.both_ends.specs.Ends.{HoldBytes, ResultIsGood, ResultIsTooLong}

@@ -16,6 +16,7 @@ use Rattle.dap_server.specs.declared.served.Ending.TheVariants.{Closed, Gone, Re
 use Rattle.both_ends.proofs.Replying.{reply_delivers}
 use Rattle.both_ends.proofs.Resulting.{result_is_good}
 use Rattle.both_ends.specs.Ends.{AllAreGood, HoldBytes, ServedIsGood, StandsGood, reply_behind}
+use Rattle.dap_server.proofs.WholeConnections.{heads, of-true}
 
 -- ---- one reply among others
 
@@ -34,7 +35,7 @@ record Place (before after : List Turn) (t : Turn) (tail : List ℕ) : Type 0 wh
   minor : t.head.minor ≤ 1
   last : t.head.minor ≡ 0 → (after ≡ []) × (tail ≡ [])
 
-no-head : (q : Request) → q.method ≡ codes "GET" → is_head q ≡ false
+pub no-head : (q : Request) → q.method ≡ codes "GET" → is_head q ≡ false
 no-head q e = rw e refl
 
 delivered : (before after : List Turn) (t : Turn) (tail text : List ℕ) → Place before after t tail → t.head.method ≡ codes "GET" → t.answer ≡ Ok (result_text Dods text)
@@ -88,7 +89,7 @@ minor-of bytes rest h first = first.0.0.0.minor
 
 -- ---- in every run
 
-is-get : (q : Request) → q.method ≡ codes "GET" → is_other q.method ≡ false
+pub is-get : (q : Request) → q.method ≡ codes "GET" → is_other q.method ≡ false
 is-get q e = rw e refl
 
 answered : (files : Files) (q : Request) (answer : Result Text Cause) → q.method ≡ codes "GET" → IsRequestAnswered files q answer → Results q.target files answer
@@ -144,10 +145,6 @@ closed-nothing ReadFault behind is = absurd is
 closed-nothing WriteFault behind is = absurd is
 closed-nothing Broken behind is = absurd is
 
-of-true : (b : Bool) (P Q : Type 0) → b ≡ true → MatchBool b P Q → P
-of-true true P Q is p = p
-of-true false P Q is p = cc is
-
 pub served_is_good : ServedIsGood
 served_is_good files taken ended c served hold s before after t text parts get is short =
     let j : ℕ = length before + 1 in
@@ -175,9 +172,6 @@ record ReachedAll (files : Files) (j : ℕ) (after : List Turn) (t : Turn) : Typ
   first : FirstRequest bytes t.head rest
   answers : IsRequestAnswered files (request j t.head) t.answer
   ends : ends_connection j t.head ≡ true → after ≡ []
-
-abbrev heads : List Turn → List RequestHead
-heads turns = map (λ (t : Turn). t.head) turns
 
 no-heads : (turns : List Turn) → heads turns ≡ [] → turns ≡ []
 no-heads [] e = refl

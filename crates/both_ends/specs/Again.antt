@@ -1,13 +1,13 @@
 -- What a data response that was saved is served as (DAP 2.0, DODS), over all targets and files.
 use Rattle.std.specs.Prelude.{◌≡◌, ℕ, ◌≤◌, true, List, [], length, Some, None, Ok}
-use Rattle.dap_types.specs.Limits.{most_text}
+use Rattle.dap_types.specs.Limits.{most_saved, most_text}
 use Rattle.dap_types.specs.Model.{Dataset, Tree}
 use Rattle.dap_model.specs.Body.{body}
 use Rattle.dap_model.specs.Dds.{dds}
 use Rattle.dap_model.specs.Filter.{all_leaves_everywhere}
 use Rattle.dap_http.specs.Targets.{target_of}
 use Rattle.dap_http.specs.declared.kind.Kind.TheVariants.{Dods}
-use Rattle.saved_source.specs.Responses.{IsSaved, first_repeated, most_saved, saved_dataset}
+use Rattle.saved_source.specs.Responses.{IsSaved, first_repeated, saved_dataset}
 use Rattle.dap_server.specs.Files.{Files, form_of, saved}
 use Rattle.dap_server.specs.Results.{Results, left_of, result_text}
 use Rattle.both_ends.specs.Ends.{IsGoodResult}

@@ -17,7 +17,7 @@ use Rattle.dap_server.specs.Whole.{AnswersAll}
 use Rattle.dap_server.specs.declared.served.Served.{Served}
 use Rattle.dap_client.specs.Replies.{IsReplyVerdict}
 use Rattle.dap_client.specs.Verdict.{Verdict, IsVerdict, bad, dods_form, good}
-use Rattle.xdr_decode.specs.declared.bad.Bad.TheVariants.{TooLong}
+use Rattle.reply_faults.specs.declared.bad.Bad.TheVariants.{TooLong}
 
 -- each of these files holds bytes
 abbrev pub HoldBytes : Files → Type 0

@@ -6,7 +6,7 @@ use Rattle.viable.specs.inner.Standing.{SameHead}
 use Rattle.viable.proofs.Standing.{moves}
 use Rattle.constraint_parse.specs.Language.{is_blank, is_name_byte, Token, name, argument, comma, ampersand, dot, open_bracket, ConstraintTree, ItemTree, path, call, StepTree, SlabTree, no_items, some_items}
 use Rattle.constraint_parse.specs.inner.Machine.{State, Start, Naming, Stepped, Called, Clausal, step, finish, read, step_of, with_last}
-use Rattle.constraint_parse.specs.inner.Standing.{Rest, StandsAt, IsPlace, Lacks, StandsAfter, MayCall}
+use Rattle.constraint_parse.specs.inner.Standing.{Rest, StandsAt, IsPlace, Lacks, StandsBehindItem, MayCall}
 use Rattle.constraint_parse.proofs.Bytes.{Opens, opened}
 use Rattle.constraint_parse.proofs.Places.{steps_of, next_byte, at_end, nothing_read}
 use Rattle.constraint_parse.proofs.Moves.{shut_by, stepped_comma, called_comma}
@@ -101,10 +101,10 @@ called_clausal {text} {at} {items} {n} {a} st place c = becomes st (Clausal (som
     on h ampersand o e k = e
     on h _ o e k = cc
 
-pub after_comma : {text : List ℕ} {at : ℕ} (items : List ItemTree) (t : ItemTree) → StandsAfter text at items t → at < length text → get_or text at 0 ≡ 44 → StandsAt text (at + 1) (Naming (with_last items t) [])
+pub after_comma : {text : List ℕ} {at : ℕ} (items : List ItemTree) (t : ItemTree) → StandsBehindItem text at items t → at < length text → get_or text at 0 ≡ 44 → StandsAt text (at + 1) (Naming (with_last items t) [])
 after_comma items (path front last) after h b = stepped_comma after.0 h b
 after_comma items (call n a) after h b = called_comma after h b
 
-pub after_clausal : {text : List ℕ} {at : ℕ} (items : List ItemTree) (t : ItemTree) → StandsAfter text at items t → IsPlace text at → Lacks text at 44 → StandsAt text at (Clausal (some_items items t) [])
+pub after_clausal : {text : List ℕ} {at : ℕ} (items : List ItemTree) (t : ItemTree) → StandsBehindItem text at items t → IsPlace text at → Lacks text at 44 → StandsAt text at (Clausal (some_items items t) [])
 after_clausal items (path front last) after place c = stepped_clausal after.0 place after.1 after.2 c after.3
 after_clausal items (call n a) after place c = called_clausal after place c

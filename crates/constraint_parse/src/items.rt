@@ -4,7 +4,7 @@ ghost use Rattle.std.specs.Prelude.{◌≡◌, ℕ, ◌+◌, ◌<◌, ◌≤◌,
 ghost use Rattle.dap_types.specs.Names.{constraint_id};
 ghost use Rattle.constraint_parse.specs.Language.{SlabTree, StepTree, ItemTree, call, ItemsTree, name, number, argument};
 ghost use Rattle.constraint_parse.specs.inner.Machine.{State, Naming, Stepped, Opened, Clausal, Start, with_last, step};
-ghost use Rattle.constraint_parse.specs.inner.Standing.{StandsAt, IsPlace, Lacks, ReadsName, ReadsNumber, StandsBehind, StandsAfter, MayCall, ReadsCall};
+ghost use Rattle.constraint_parse.specs.inner.Standing.{StandsAt, IsPlace, Lacks, ReadsName, ReadsNumber, StandsBehind, StandsBehindItem, MayCall, ReadsCall};
 ghost use Rattle.constraint_parse.specs.Values.{number_value, slab_value, step_value, item_value, items_value};
 ghost use Rattle.constraint_parse.specs.Refusals.{Refuses};
 
@@ -173,7 +173,7 @@ fn item(alloc: Global, text: &[u8], at: usize) -> Result<(Item, usize), ParseRef
     requires { IsPlace text.now at }
     ensures onward { IfOk result (λ r. (at < r.1) × IsPlace text.now r.1) }
     ensures spelled { (items : Items ItemTree) → StandsAt text.now at (Naming items []) →
-        MatchResult result (λ r. (t : ItemTree) × (r.0 ≡ item_value t) × StandsAfter text.now r.1 items t) (Refuses text.now) }
+        MatchResult result (λ r. (t : ItemTree) × (r.0 ≡ item_value t) × StandsBehindItem text.now r.1 items t) (Refuses text.now) }
 {
     let (first, at) = path_step(alloc, text, at)?;
     if is_call(&first, text, at) {
@@ -190,7 +190,7 @@ fn item_list(alloc: Global, text: &[u8], from: usize) -> Result<(List<Item>, usi
     ensures onward { IfOk result (λ r. IsPlace text.now r.1) }
     ensures no_item { IfOk result (λ r. Lacks text.now r.1 44) }
     ensures spelled { StandsAt text.now from (Naming [] []) →
-        MatchResult result (λ r. (front : Items ItemTree) × (last : ItemTree) × (r.0 ≡ map item_value (with_last front last)) × StandsAfter text.now r.1 front last) (Refuses text.now) }
+        MatchResult result (λ r. (front : Items ItemTree) × (last : ItemTree) × (r.0 ≡ map item_value (with_last front last)) × StandsBehindItem text.now r.1 front last) (Refuses text.now) }
 {
     let (first, behind_first) = item(alloc, text, from)?;
     let mut at = behind_first;

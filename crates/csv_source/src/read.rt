@@ -14,11 +14,11 @@ use crate::records::{next_record, open};
 use crate::width::is_too_wide;
 use crate::{Table, TableRefusal};
 use csv::{ByteRecord, Reader};
-use dap_types::{Bytes, Column};
+use dap_types::{Bytes, Column, limits};
 use std::alloc::Global;
 
 /// The most bytes of a file.
-const MOST_BYTES: usize = 67_108_864;
+const MOST_BYTES: usize = limits::MOST_TABLE;
 
 /// The table of the bytes of a file, as `table_of` has it: the first record names the columns, the
 /// others are the rows (RFC 4180; the typed header and the limits are this project's).

@@ -6,8 +6,10 @@ ghost use Rattle.csv.specs.Reading.{strip_bom};
 ghost use Rattle.csv_source.specs.Csv.{csv_records};
 ghost use Rattle.csv_source.specs.inner.Width.{IsStep, TellsWidth, state_of};
 
+use dap_types::limits;
+
 /// The most columns of a table.
-const MOST_COLUMNS: u32 = 1_024;
+const MOST_COLUMNS: u32 = limits::MOST_COLUMNS;
 
 /// Where the bytes of a record end so far (RFC 4180).
 #[derive(Clone, Copy, Drop)]

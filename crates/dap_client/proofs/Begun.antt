@@ -22,8 +22,7 @@ use Rattle.dap_errors.proofs.Live.{machine}
 use Rattle.dap_errors.specs.Object.{IsObject, signs}
 use Rattle.dap_errors.specs.Reading.{IsBad, IsUnended, front, limit}
 use Rattle.dap_errors.specs.inner.Machine.{Ended, IsOpenState, Start, step}
-use Rattle.xdr_decode.specs.declared.bad.Bad.TheVariants.{BadError}
-use Rattle.dap_client.proofs.Objects.{white_same}
+use Rattle.reply_faults.specs.declared.bad.Bad.TheVariants.{BadError}
 use Rattle.dap_client.specs.Shows.{HasFewValues}
 use Rattle.error_word.proofs.Bodies.{text_no_error}
 use Rattle.error_word.specs.Saying.{says_error}
@@ -31,7 +30,8 @@ use Rattle.dap_client.specs.declared.object.Object.{Object}
 use Rattle.dap_client.specs.declared.object.Object.TheVariants.{Front, Behind, Bad}
 use Rattle.error_word.specs.inner.FirstWords.{HasLetters, IsError}
 use Rattle.dap_client.specs.inner.Objects.{IsObjectOf, IsShort}
-use Rattle.dap_client.specs.inner.Stages.{IsRefused}
+use Rattle.dap_client.specs.inner.Stages.{IsDataRefused}
+use Rattle.das_text.proofs.SameTokens.{white_same}
 
 -- ---- no data response
 error_no_text : (bytes text rest : List ℕ) (d : Dataset) → IsError bytes → DdsOf text d → bytes ≡ text ++ rest → ⊥
@@ -49,7 +49,7 @@ error_no_head bytes good rest error parts (head, values, d, is, h) =
 pub error_few : (bytes : List ℕ) (most : ℕ) → IsError bytes → HasFewValues most bytes
 error_few bytes most error d head values (h, is) = absurd (error_no_head bytes bytes [] error (sym (append-nil bytes)) (head, values, d, is, h))
 
-pub error_refused : (bytes : List ℕ) (place : ℕ) → IsError bytes → ((more : List ℕ) → IsBad (bytes ++ more) place) → IsRefused (record { kind = BadError; place = place }) bytes []
+pub error_refused : (bytes : List ℕ) (place : ℕ) → IsError bytes → ((more : List ℕ) → IsBad (bytes ++ more) place) → IsDataRefused (record { kind = BadError; place = place }) bytes []
 error_refused bytes place error bad = record {
   stays = λ more. inl (error more, inl (bad more, refl));
   is_fault = refl;

@@ -5,7 +5,7 @@ use Rattle.dap_types.specs.Model.{Dataset, Tree}
 use Rattle.dap_model.specs.Body.{IsBody}
 use Rattle.xdr_decode.proofs.OneVerdict.{good_body}
 use Rattle.xdr_decode.specs.Verdict.{budget}
-use Rattle.xdr_decode.specs.declared.bad.Bad.TheVariants.{TooLong}
+use Rattle.reply_faults.specs.declared.bad.Bad.TheVariants.{TooLong}
 use Rattle.dap_client.proofs.Filling.{budget_is}
 use Rattle.error_word.proofs.Bodies.{body_no_error}
 use Rattle.dap_client.specs.Verdict.{IsVerdict, bad, dods_form, good, is_final}

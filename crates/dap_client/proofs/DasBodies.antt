@@ -4,14 +4,15 @@ use Rattle.std.proofs.lemmas.Grind.{common_steps}
 use Rattle.std.proofs.lemmas.List.{drop-append-le, take-append-le}
 use Rattle.std.proofs.lemmas.List.Folds.{list_all-append}
 use Rattle.std.specs.List.{AllPass, list_all}
+use Rattle.dap_client.proofs.Objects.{behind_more}
 use Rattle.dap_model.specs.Tokens as dds
 use Rattle.text_tokens.specs.Languages.{BadToken, Breaks, SpellsTo}
 use Rattle.text_tokens.specs.Tokens.{Placed, Reads, Token, TokenAt, is_token, is_white, quoted, sign, token_bytes, word}
 use Rattle.das_text.specs.Grammar.{IsDas, signs}
 use Rattle.das_text.specs.Model.{Attributes}
-use Rattle.das_text.specs.Reading.{DasOf, EndsAt, IsBad, IsTrailing, front, limit}
+use Rattle.das_text.specs.Reading.{DasOf, DasEndsAt, IsBad, IsTrailing, front, limit}
 use Rattle.dap_client.proofs.Begun.{whites}
-use Rattle.dap_client.proofs.Objects.{white_same}
+use Rattle.das_text.proofs.SameTokens.{white_same}
 
 front_more : (bytes more : List ℕ) → limit ≤ length bytes → front (bytes ++ more) ≡ front bytes
 front_more bytes more long = take-append-le limit bytes more long
@@ -32,16 +33,13 @@ reads_within : (marks text : List ℕ) (at : ℕ) (ts : List Placed) (to : ℕ) 
 reads_within marks text at [] to is le = subst (λ n. n ≤ length text) (sym is) le
 reads_within marks text at (t ∷ ts) to (behind, next, rest) le = reads_within marks text behind ts to rest (token_within marks text t.place behind t.token next.token_at)
 
-ends_within : (bytes : List ℕ) (at : ℕ) (a : Attributes) → limit ≤ length bytes → EndsAt bytes at a → at ≤ length bytes
+ends_within : (bytes : List ℕ) (at : ℕ) (a : Attributes) → limit ≤ length bytes → DasEndsAt bytes at a → at ≤ length bytes
 ends_within bytes at a long is =
     let within : at ≤ length (front bytes) = reads_within signs (front bytes) 0 is.tokens at is.read (omega arith) in
     omega (arith, within, long, length-take-le limit bytes long)
 
-ends_more : (bytes more : List ℕ) (at : ℕ) (a : Attributes) → limit ≤ length bytes → EndsAt bytes at a → EndsAt (bytes ++ more) at a
+ends_more : (bytes more : List ℕ) (at : ℕ) (a : Attributes) → limit ≤ length bytes → DasEndsAt bytes at a → DasEndsAt (bytes ++ more) at a
 ends_more bytes more at a long is = subst (λ z. SpellsTo signs IsDas z at a) (sym (front_more bytes more long)) is
-
-behind_more : (bytes : List ℕ) (at : ℕ) (more : List ℕ) → at ≤ length bytes → drop at (bytes ++ more) ≡ drop at bytes ++ more
-behind_more bytes at more le = drop-append-le at bytes more le
 
 pub bad_stays : (bytes : List ℕ) (place : ℕ) → limit ≤ length bytes → IsBad bytes place → (more : List ℕ) → IsBad (bytes ++ more) place
 bad_stays bytes place long (inl b) more = inl (subst (λ z. BadToken signs IsDas z place) (sym (front_more bytes more long)) b)

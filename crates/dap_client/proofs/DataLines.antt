@@ -7,12 +7,7 @@ use Rattle.std.specs.List.{AllPass}
 use Rattle.dap_model.specs.Tokens.{is_white}
 use Rattle.xdr_decode.specs.Verdict.{EndsInDataLine, IsBadDataLine, IsDataLine}
 use Rattle.dap_client.specs.inner.DataLines.{HasCome}
-
-cons_head : (x y : ℕ) (xs ys : List ℕ) → x ∷ xs ≡ y ∷ ys → x ≡ y
-cons_head x y xs ys e = cc
-
-cons_tail : (x y : ℕ) (xs ys : List ℕ) → x ∷ xs ≡ y ∷ ys → xs ≡ ys
-cons_tail x y xs ys e = cc
+use Rattle.dap_model.proofs.OneBody.{cons_head, cons_tail, white_d}
 
 pub more_blank : (bytes : List ℕ) (n b : ℕ) → HasCome n bytes → n ≡ 0 → is_white b ≡ true → HasCome n (bytes ++ b ∷ [])
 more_blank bytes n b o none w = record {
@@ -68,9 +63,6 @@ line_ends bytes n b o long is = by n refl
     by (suc (suc (suc zero))) e = absurd (omega (arith, long, e))
     by (suc (suc (suc (suc zero)))) e = absurd (omega (arith, long, e))
     by (suc (suc (suc (suc (suc (suc (suc k))))))) e = absurd (omega (arith, o.most, e))
-
-white_d : is_white 68 ≡ true → ⊥
-white_d e = cc
 
 -- behind white space stands the same
 pub same_behind : (ws vs : List ℕ) (x : ℕ) (rs ss : List ℕ) → AllPass is_white ws → AllPass is_white vs → is_white x ≡ false → ws ++ x ∷ rs ≡ vs ++ 68 ∷ ss → x ∷ rs ≡ 68 ∷ ss

@@ -11,7 +11,7 @@ use Rattle.dds_text.proofs.Readings.{open_text}
 use Rattle.dds_text.specs.Reading.{IsDone, IsUnfinished, limit}
 use Rattle.dds_text.specs.inner.States.{begun}
 use Rattle.xdr_decode.specs.Verdict.{HasText}
-use Rattle.xdr_decode.specs.declared.bad.Bad.TheVariants.{Trailing}
+use Rattle.reply_faults.specs.declared.bad.Bad.TheVariants.{Trailing}
 use Rattle.dap_client.specs.Verdict.{JudgesDds, bad, good_dds}
 
 abbrev White : ℕ → Type 0

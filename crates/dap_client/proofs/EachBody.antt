@@ -7,15 +7,15 @@ use Rattle.dap_types.specs.Model.{Dataset, Tree}
 use Rattle.dap_model.proofs.Values.{all_back}
 use Rattle.dap_model.specs.Body.{IsHead}
 use Rattle.dap_model.specs.Grammar.{DdsOf}
-use Rattle.dap_model.specs.Received.{EndsAt, Fault, IsBadField, IsOpen}
+use Rattle.dap_model.specs.Received.{ValuesEndAt, Fault, IsBadField, IsOpen}
 use Rattle.dap_model.specs.Tokens.{is_white}
 use Rattle.dap_model.specs.Xdr.{Spells}
 use Rattle.dds_text.proofs.EveryReading.{every_reading}
 use Rattle.dds_text.specs.Reading.{IsBadText, IsDone, IsUnfinished, limit}
 use Rattle.xdr_fields.proofs.Judged.{each_is_judged}
 use Rattle.xdr_decode.specs.Verdict.{EndsInDataLine, HasHeadOf, HasMore, HasText, IsBadDataLine, IsDataLine, IsWrong, kind_of}
-use Rattle.xdr_decode.specs.declared.bad.Bad.{Bad}
-use Rattle.xdr_decode.specs.declared.bad.Bad.TheVariants.{BadDataLine, BadDds, BadError, Cut, Trailing}
+use Rattle.reply_faults.specs.declared.bad.Bad.{Bad}
+use Rattle.reply_faults.specs.declared.bad.Bad.TheVariants.{BadDataLine, BadDds, BadError, Cut, Trailing}
 use Rattle.dap_client.proofs.DataLines.{differs, line_ends, more_blank, one_byte, unended}
 use Rattle.dap_client.proofs.EveryObject.{Answer, every_object}
 use Rattle.dap_client.proofs.Values.{more_front}
@@ -24,9 +24,7 @@ use Rattle.dap_client.specs.GoodParts.{IsGoodPart}
 use Rattle.error_word.specs.Saying.{says_error}
 use Rattle.dap_client.specs.Verdict.{JudgesDods, Verdict, bad, good, server_error}
 use Rattle.dap_client.specs.inner.DataLines.{HasCome}
-
-abbrev AreBytes : List ℕ → Type 0
-AreBytes bytes = All (λ b. b < 256) bytes
+use Rattle.xdr_decode.proofs.Pushing.{AreBytes}
 
 -- ---- the line behind a DDS
 abbrev Line : List ℕ → Type 0
@@ -65,7 +63,7 @@ every_line : (bytes : List ℕ) → Line bytes
 every_line bytes = line_from 0 [] bytes (record { white = []; parts = refl; is_white = All-nil (λ b. is_white b ≡ true); most = omega arith })
 
 -- ---- the values
-more_at : (d : Dataset) (values : List ℕ) (n : ℕ) (ts : List Tree) → EndsAt d ts values n → n < length values → HasMore d values n
+more_at : (d : Dataset) (values : List ℕ) (n : ℕ) (ts : List Tree) → ValuesEndAt d ts values n → n < length values → HasMore d values n
 more_at d values n ts at less = subst (λ l. HasMore d l n) (append-nil values) (more_front d values [] n ts at less)
 
 abbrev Values : Dataset → List ℕ → Type 0
@@ -74,11 +72,11 @@ Values d values = ((ts : List Tree) × Spells d ts values) ⊎ ((kind : Bad) × 
 every_values : (d : Dataset) (values : List ℕ) → AreBytes values → Values d values
 every_values d values all = by (each_is_judged d values all)
   where
-    ended : (ts : List Tree) (n : ℕ) → EndsAt d ts values n → (n < length values) ⊎ (length values ≤ n) → Values d values
+    ended : (ts : List Tree) (n : ℕ) → ValuesEndAt d ts values n → (n < length values) ⊎ (length values ≤ n) → Values d values
     ended ts n at (inl less) = inr (Trailing, n, inr (inl (more_at d values n ts at less, refl)))
     ended ts n at (inr all') = inl (ts, subst (Spells d ts) (take_all n values all') at.1)
 
-    by : ((ts : List Tree) × (n : ℕ) × EndsAt d ts values n) ⊎ (IsOpen d values ⊎ ((fault : Fault) × (place : ℕ) × IsBadField d values fault place)) → Values d values
+    by : ((ts : List Tree) × (n : ℕ) × ValuesEndAt d ts values n) ⊎ (IsOpen d values ⊎ ((fault : Fault) × (place : ℕ) × IsBadField d values fault place)) → Values d values
     by (inl (ts, n, at)) = ended ts n at (cases_lt n (length values))
     by (inr (inl o)) = inr (Cut, length values, inr (inr (o, refl, refl)))
     by (inr (inr (fault, place, b))) = inr (kind_of fault, place, inl (fault, b, refl))

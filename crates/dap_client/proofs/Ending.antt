@@ -15,7 +15,7 @@ use Rattle.dap_model.proofs.OneVerdict.{bad_not_open, ended_not_bad, ended_not_o
 use Rattle.dap_model.specs.Dds.{dds}
 use Rattle.dap_model.specs.Fits.{FitsAll}
 use Rattle.dap_model.specs.Partly.{ShowsLines}
-use Rattle.dap_model.specs.Received.{EndsAt, IsCut, IsFront, IsOpen, ends_element, lines, open_line}
+use Rattle.dap_model.specs.Received.{ValuesEndAt, IsCut, IsFront, IsOpen, ends_element, lines, open_line}
 use Rattle.dap_model.specs.Shown.{element_line, elements_all, shown}
 use Rattle.dap_model.specs.Xdr.{Field, count, filler, mark, number, packed, size, text, padding, fields_all, Spells, SpellsFields}
 use Rattle.xdr_fields.proofs.Walk.{Silent, all_walked}
@@ -23,9 +23,9 @@ use Rattle.xdr_decode.specs.After as decoding
 use Rattle.xdr_decode.specs.Shown.{ShowsFront}
 use Rattle.xdr_decode.specs.Verdict.{budget}
 use Rattle.dap_client.proofs.Values.{all_good}
-use Rattle.xdr_decode.specs.declared.bad.Bad.{Bad}
-use Rattle.xdr_decode.specs.declared.bad.Bad.TheVariants.{BadError, Cut}
-use Rattle.xdr_decode.specs.declared.bad.BadField.{BadField}
+use Rattle.reply_faults.specs.declared.bad.Bad.{Bad}
+use Rattle.reply_faults.specs.declared.bad.Bad.TheVariants.{BadError, Cut}
+use Rattle.reply_faults.specs.declared.bad.BadField.{BadField}
 use Rattle.xdr_decode.specs.declared.decoder.Decoder.{Decoder}
 use Rattle.error_word.proofs.InMemory.{error_here, no_error_here}
 use Rattle.dap_client.proofs.Filling.{nothing_of_error, values_lines}
@@ -35,7 +35,7 @@ use Rattle.dap_client.specs.declared.reader.Ended.{Ended}
 use Rattle.dap_client.specs.Verdict.{IsVerdict, Judges, bad, dods_form, good, is_fault}
 use Rattle.dap_client.specs.Shows.{BreaksOff}
 use Rattle.dap_client.specs.declared.outcome.Outcome.TheVariants as outcome
-use Rattle.dap_client.specs.inner.Stages.{IsInValues, IsRefused}
+use Rattle.dap_client.specs.inner.Stages.{IsInValues, IsDataRefused}
 use Rattle.dap_client.specs.declared.reader.Ended.TheVariants as ended
 
 -- ---- the lines of whole values
@@ -101,7 +101,7 @@ front_all d ts bs whole more s f = by f.rest f.in_order f.cut f.is_begun
         absurd (ended_not_open d ts bs (length bs) (omega arith, subst (Spells d ts) (sym (take_all (length bs) bs (omega arith))) s) on)
 
 -- all that is shown of values that are whole was put
-pub lines_whole : (d : Dataset) (ts : List Tree) (values lines' : List ℕ) → EndsAt d ts values (length values) → ShowsFront d values lines' → lines' ≡ flat_map element_line (elements_all [] d.members ts)
+pub lines_whole : (d : Dataset) (ts : List Tree) (values lines' : List ℕ) → ValuesEndAt d ts values (length values) → ShowsFront d values lines' → lines' ≡ flat_map element_line (elements_all [] d.members ts)
 lines_whole d ts values lines' at shows =
     let s : Spells d ts values = subst (Spells d ts) (take_all (length values) values (omega arith)) at.1 in
     let good : values ≡ shows.good = all_good d values shows.good shows.has_good (λ fault p bad. ended_not_bad d ts values (length values) fault p at bad) in
@@ -160,7 +160,7 @@ pub cut_here : (bytes : List ℕ) (taken : ℕ) → length bytes ≡ taken → l
 cut_here bytes taken long small (judged, shows) = subst (λ n. IsEnded bytes [] (ended.Bad (record { kind = Cut; place = n }))) long (inl (small, judged), shows)
 
 -- ---- what was wrong stays so
-pub refused_verdict : (field : BadField) (bytes put : List ℕ) → length bytes ≤ budget → IsRefused field bytes put → (more : List ℕ) → IsVerdict dods_form (bytes ++ more) (bad field.kind field.place)
+pub refused_verdict : (field : BadField) (bytes put : List ℕ) → length bytes ≤ budget → IsDataRefused field bytes put → (more : List ℕ) → IsVerdict dods_form (bytes ++ more) (bad field.kind field.place)
 refused_verdict field bytes put most r more = ⊎_elim
     (λ less. inl (less, r.stays more))
     (λ le.

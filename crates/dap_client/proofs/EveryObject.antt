@@ -6,25 +6,13 @@ use Rattle.text_tokens.specs.Tokens.{is_white}
 use Rattle.text_tokens.proofs.Every.{every, Verdict}
 use Rattle.dap_errors.specs.Object.{signs, IsObject}
 use Rattle.dap_errors.specs.inner.Machine.{Start, Ended, step, IsOpenState}
-use Rattle.dap_errors.specs.Reading.{front, limit, EndsAt, ErrorOf, IsBad, IsCut, IsEnd, IsStray, IsUnended}
+use Rattle.dap_errors.specs.Reading.{front, limit, ObjectEndsAt, ErrorOf, IsBad, IsCut, IsEnd, IsStray, IsUnended}
 use Rattle.dap_errors.specs.declared.object.ErrorObject.{ErrorObject}
 use Rattle.dap_errors.proofs.Live.{machine}
+use Rattle.das_text.proofs.EveryText.{Behind, behind}
 
 abbrev pub Answer : List ℕ → Type 0
 Answer text = ((e : ErrorObject) × ErrorOf text e) ⊎ ((place : ℕ) × IsBad text place) ⊎ IsCut text
-
--- only white space, or another byte behind some
-abbrev Behind : List ℕ → Type 0
-Behind l = IsTrue (list_all is_white l) ⊎ ((white : List ℕ) × (b : ℕ) × (rest : List ℕ) × (l ≡ white ++ b ∷ rest) × IsTrue (list_all is_white white) × IsTrue (not (is_white b)))
-
-behind : (l : List ℕ) → Behind l
-behind [] = inl refl
-behind (b ∷ l) = on (is_white b) refl (behind l)
-  where
-    on : (c : Bool) → is_white b ≡ c → Behind l → Behind (b ∷ l)
-    on true e (inl all) = inl (rw (e, all) refl)
-    on true e (inr (white, c, rest, is, all, other)) = inr (b ∷ white, c, rest, ap (λ (z : List ℕ). b ∷ z) is, rw (e, all) refl, other)
-    on false e more = inr ([], b, l, refl, refl, rw e refl)
 
 -- behind an object stands its end, or a first byte that may not stand there
 abbrev Ends : List ℕ → Type 0
@@ -47,7 +35,7 @@ ends_of l (inr (white, b, rest, is, all, other)) = on (b == 59) refl
     on true e = behind_semicolon l white rest (is ∙ ap (λ (z : ℕ). white ++ z ∷ rest) (eqb-true b 59 e)) all (behind rest)
     on false e = inr (length white, (white, rest, b, is, refl, other, inl (all, λ same. eqb-false b 59 e same)))
 
-ended : (text : List ℕ) (to : ℕ) (e : ErrorObject) → EndsAt text to e → Ends (drop to text) → Answer text
+ended : (text : List ℕ) (to : ℕ) (e : ErrorObject) → ObjectEndsAt text to e → Ends (drop to text) → Answer text
 ended text to e ends (inl end) = inl (e, record { behind = to; ends = ends; end = end })
 ended text to e ends (inr (n, stray)) = inr (inl (_, inr (inl (record { behind = to; error = e; count = n; ends = ends; stray = stray; place_is = refl }))))
 

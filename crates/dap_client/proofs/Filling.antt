@@ -11,7 +11,7 @@ use Rattle.dap_errors.specs.declared.object.ErrorObject.{ErrorObject}
 use Rattle.dds_text.specs.Reading.{IsBadText, IsUnfinished}
 use Rattle.xdr_decode.specs.After as decoding
 use Rattle.xdr_decode.specs.Verdict.{budget}
-use Rattle.xdr_decode.specs.declared.bad.Bad.TheVariants.{BadDds, Cut, TooLong}
+use Rattle.reply_faults.specs.declared.bad.Bad.TheVariants.{BadDds, Cut, TooLong}
 use Rattle.xdr_decode.specs.declared.decoder.Decoder.{Decoder}
 use Rattle.dap_client.proofs.Begun.{error_no_head}
 use Rattle.dap_client.proofs.DataLines.{unended}

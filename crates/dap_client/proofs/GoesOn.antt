@@ -5,12 +5,12 @@ use Rattle.dap_model.specs.Tokens.{tokens_of}
 use Rattle.dap_types.specs.View.{dataset_view}
 use Rattle.error_word.specs.Saying.{says_error}
 use Rattle.xdr_decode.specs.Verdict.{budget}
-use Rattle.xdr_decode.specs.declared.bad.Bad.{Bad}
-use Rattle.xdr_decode.specs.declared.bad.Bad.TheVariants.{Cut}
+use Rattle.reply_faults.specs.declared.bad.Bad.{Bad}
+use Rattle.reply_faults.specs.declared.bad.Bad.TheVariants.{Cut}
 use Rattle.dap_client.proofs.Filling.{in_line_cut, text_cut, values_verdict}
 use Rattle.dap_client.proofs.OneVerdict.{one_verdict}
 use Rattle.dap_client.proofs.Only.{dods_end}
-use Rattle.dap_client.specs.After.{IsPart, StandsAfter, form_in}
+use Rattle.dap_client.specs.After.{IsPart, BodyStandsAfter, form_in}
 use Rattle.dap_client.specs.Replies.{IsBadData, Spoils, form_of}
 use Rattle.dap_client.specs.Verdict.{Form, Judges, JudgesDods, Verdict, bad, das_form, dds_form, dods_form, is_fault, is_final}
 use Rattle.dap_client.specs.inner.Stages.{IsStage, is_open_stage}
@@ -52,6 +52,6 @@ part-goes-on : (form : Form) (p : Part) (bytes put : List ℕ) → IsPart form p
 part-goes-on form (part.Data reader) bytes put (same, s, on) small spoils = stage-goes-on reader.stage bytes put on small s.is_stage (subst (λ (f : Form). Spoils f bytes) same spoils)
 part-goes-on form (part.Text stage) bytes put (text, s, empty) small spoils = text-goes-on form bytes text spoils
 
-pub body-goes-on : (r : Body) (bytes put : List ℕ) → StandsAfter r bytes put → ¬ (Spoils (form_in r) bytes)
-unfolding StandsAfter
+pub body-goes-on : (r : Body) (bytes put : List ℕ) → BodyStandsAfter r bytes put → ¬ (Spoils (form_in r) bytes)
+unfolding BodyStandsAfter
 body-goes-on r bytes put (p, long, small) spoils = part-goes-on (form_of r.kind) r.part bytes put p small spoils

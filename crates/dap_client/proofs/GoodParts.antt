@@ -17,7 +17,7 @@ use Rattle.xdr_fields.specs.inner.Reached.{IsCut, IsEnded, IsSpoilt}
 use Rattle.xdr_decode.proofs.OneVerdict.{bad_head, bad_line_head, cut_head}
 use Rattle.xdr_decode.proofs.Turning.{faulty_wide}
 use Rattle.xdr_decode.specs.Verdict.{HasHeadOf, HasMore, IsWrong, kind_of}
-use Rattle.xdr_decode.specs.declared.bad.Bad.{Bad}
+use Rattle.reply_faults.specs.declared.bad.Bad.{Bad}
 use Rattle.error_word.proofs.Bodies.{text_no_error}
 use Rattle.dap_client.proofs.Lines.{empty_front}
 use Rattle.dap_client.specs.Answered.{good_part}

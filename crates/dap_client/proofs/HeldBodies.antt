@@ -4,9 +4,9 @@ use Rattle.std.specs.Prelude.{ℤ}
 use Rattle.std.proofs.Math.Seq.{take-append-add}
 use Rattle.std.proofs.lemmas.Bool.{false≢true}
 use Rattle.std.proofs.lemmas.List.{take-append-le}
-use Rattle.xdr_decode.specs.declared.bad.Bad.{Bad as BadKind}
-use Rattle.xdr_decode.specs.declared.bad.Bad.TheVariants as kind
-use Rattle.xdr_decode.specs.declared.bad.BadField.{BadField}
+use Rattle.reply_faults.specs.declared.bad.Bad.{Bad as BadKind}
+use Rattle.reply_faults.specs.declared.bad.Bad.TheVariants as kind
+use Rattle.reply_faults.specs.declared.bad.BadField.{BadField}
 use Rattle.dap_client.proofs.OneVerdict.{one_verdict}
 use Rattle.dap_client.proofs.Only.{lasting_end}
 use Rattle.dap_client.specs.After.{IsBrokenOff, IsFinished, IsStopped}

@@ -10,7 +10,7 @@ use Rattle.dap_http.specs.Delivered.{BreaksOff, Delivers, HasBadHead, HasCoding,
 use Rattle.dap_http.specs.Following.{Follows, body_coding, waiting}
 use Rattle.dap_http.specs.declared.body_parts.BodyParts.{BodyParts}
 use Rattle.dap_http.specs.declared.coding.Coding.{Coding}
-use Rattle.xdr_decode.specs.declared.bad.BadField.{BadField}
+use Rattle.reply_faults.specs.declared.bad.BadField.{BadField}
 use Rattle.dap_client.proofs.Behind.{brought-broken, brought-whole, come-now, further-come}
 use Rattle.dap_client.proofs.HeldBodies.{not-now, said-taken, says-so}
 use Rattle.dap_client.proofs.Lifted.{good-head}

@@ -5,7 +5,8 @@ use Rattle.std.specs.List.{before_first, list_all, starts_with}
 use Rattle.std.specs.Str.{IsUtf8}
 use Rattle.std.proofs.lemmas.Bool.{and_parts}
 use Rattle.std.proofs.lemmas.Str.{IsUtf8-from_ascii}
-use Rattle.dap_http.specs.Targets.{from_slash, is_slash}
+use Rattle.target_names.specs.Names.{is_slash}
+use Rattle.dap_http.specs.Targets.{from_slash}
 use Rattle.dap_http.specs.Urls.{UrlParts, from_colon, hosted, is_colon, is_host, is_host_byte, is_path, port_in, routed, url_of}
 
 hosted-host : (host : List ℕ) (port : Option ℕ) (path : List ℕ) (u : UrlParts) → hosted host port path ≡ Some u → is_host u.host ≡ true

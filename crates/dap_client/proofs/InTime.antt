@@ -18,8 +18,9 @@ use Rattle.dap_client.specs.Answered.{TakesFewValues}
 use Rattle.dap_client.specs.Replies.{Brings, Settles, Spoils, StopsInTime}
 use Rattle.dap_client.specs.Verdict.{Form, JudgesDods, bad, das_form, dds_form, dods_form}
 use Rattle.dap_client.specs.inner.Behind.{StopsBehind, TakesFewValuesBehind}
-use Rattle.dap_client.proofs.Behind.{begins, come-further, further-come}
+use Rattle.dap_client.proofs.Behind.{begins, further-come}
 use Rattle.dap_client.proofs.GoodParts.{head_more}
+use Rattle.dap_http.proofs.Further.{come-further}
 
 -- ---- behind a head
 

@@ -45,7 +45,7 @@ stands-so form bytes more rest text ended Memory is none told = cc is
 abbrev reply : List ℕ → List ℕ → List ℕ → Bool → Outcome → Reply
 reply taken text rest ended outcome = record { taken = taken; ended = ended; rest = rest; text = text; outcome = outcome }
 
-abbrev IsWhole : Reply → Type 0
+abbrev pub IsWhole : Reply → Type 0
 IsWhole r = IsTrue (is_complete r.outcome)
 
 -- what the source had left before it, and has behind it

@@ -1,6 +1,6 @@
 -- From the bytes behind the heads of a reply to the reply.
 use Rattle.std.proofs.Common.{◌≡◌, ℕ, ◌≤◌, inl, inr, Bool, List, [], length, refl, ap, sym, subst, arith, append-nil, length-append}
-use Rattle.xdr_decode.specs.declared.bad.BadField.{BadField}
+use Rattle.reply_faults.specs.declared.bad.BadField.{BadField}
 use Rattle.dap_http.proofs.Finals.{no-reply-final, one-gives}
 use Rattle.dap_http.specs.Reading.{Answers}
 use Rattle.dap_http.specs.declared.reply_reader.ReplyRead.TheVariants as read

@@ -14,11 +14,11 @@ use Rattle.xdr_fields.specs.Wants.{wants_of}
 use Rattle.xdr_decode.proofs.OneVerdict.{cut_head}
 use Rattle.xdr_decode.proofs.Turning.{faulty_wide}
 use Rattle.xdr_decode.specs.Verdict.{EndsInDataLine, EndsInHead, IsBadDataLine, IsDataLine, kind_of}
-use Rattle.xdr_decode.specs.declared.bad.Bad.TheVariants.{BadDataLine}
+use Rattle.reply_faults.specs.declared.bad.Bad.TheVariants.{BadDataLine}
 use Rattle.dap_client.specs.Shows.{HasFewValues, StopsWithin}
 use Rattle.dap_client.specs.inner.DataLines.{IsLineFront}
 use Rattle.error_word.specs.inner.FirstWords.{IsNoError}
-use Rattle.dap_client.specs.inner.Stages.{IsInLine, IsRefused}
+use Rattle.dap_client.specs.inner.Stages.{IsInLine, IsDataRefused}
 use Rattle.dap_client.specs.declared.data_line.DataLine.{DataLine}
 
 -- no values are a good front
@@ -108,7 +108,7 @@ cut_no_head bytes cut (head, values, d, parts, h) = cut_head bytes d head values
 
 -- it differs
 pub line_refused : (d : Dataset) (line : DataLine) (bytes piece : List ℕ) (place at : ℕ) (o : IsInLine d line bytes) → length bytes ≡ place → IsNoError (bytes ++ piece) → IsBadDataLine (o.rest ++ piece) (length o.rest + at)
-    → IsRefused (record { kind = BadDataLine; place = place + at }) (bytes ++ piece) []
+    → IsDataRefused (record { kind = BadDataLine; place = place + at }) (bytes ++ piece) []
 line_refused d line bytes piece place at o long none bad =
     let text : List ℕ = o.text in
     let parts : bytes ++ piece ≡ text ++ (o.rest ++ piece) = ap (λ l. l ++ piece) o.has_text.parts ∙ append_assoc text o.rest piece in

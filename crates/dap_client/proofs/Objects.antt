@@ -12,9 +12,10 @@ use Rattle.text_tokens.specs.Tokens.{Placed, Reads, Token, TokenAt, is_token, is
 use Rattle.dap_errors.proofs.Reading.{front_within}
 use Rattle.dap_errors.proofs.Single.{object_no_bad}
 use Rattle.dap_errors.specs.Object.{IsObject, signs}
-use Rattle.dap_errors.specs.Reading.{EndsAt, ErrorOf, IsBad, IsEnd, IsStray, front, limit}
+use Rattle.dap_errors.specs.Reading.{ObjectEndsAt, ErrorOf, IsBad, IsEnd, IsStray, front, limit}
 use Rattle.dap_errors.specs.declared.object.ErrorObject.{ErrorObject}
 use Rattle.dap_client.specs.inner.Objects.{IsBehind, IsTrail}
+use Rattle.das_text.proofs.SameTokens.{white_same}
 
 abbrev AllWhite : List ℕ → Type 0
 AllWhite bytes = IsTrue (list_all is_white bytes)
@@ -22,32 +23,14 @@ AllWhite bytes = IsTrue (list_all is_white bytes)
 white_more : (xs ys : List ℕ) → AllWhite xs → AllWhite ys → AllWhite (xs ++ ys)
 white_more xs ys a b = list_all-append is_white xs ys ∙ ap (λ c. c && list_all is_white ys) a ∙ b
 
-eq_swap : (b c : ℕ) → (b == c) ≡ (c == b)
-eq_swap b c = on (b == c) refl
-  where
-    on : (x : Bool) → (b == c) ≡ x → x ≡ (c == b)
-    on true e = (let same : b ≡ c = eqb-true b c e in subst (λ (z : ℕ). true ≡ (c == z)) (sym same) (let r : (c == c) ≡ true = grind (arith, nat_tests) in sym r))
-    on false e = sym (ne_eqb c b (λ h. eqb-false b c e (sym h)))
-
-or_four : (p q r s : Bool) → (p || (q || (r || (s || false)))) ≡ (((p || q) || r) || s)
-or_four true q r s = refl
-or_four false true r s = refl
-or_four false false true s = refl
-or_four false false false true = refl
-or_four false false false false = refl
-
--- white space is the same in both languages
-pub white_same : (b : ℕ) → dds.is_white b ≡ is_white b
-white_same b = rw (eq_swap 9 b, eq_swap 10 b, eq_swap 13 b, eq_swap 32 b) (or_four (b == 9) (b == 10) (b == 13) (b == 32))
-
 -- with more behind it
-behind_more : (bytes : List ℕ) (at : ℕ) (more : List ℕ) → at ≤ length bytes → drop at (bytes ++ more) ≡ drop at bytes ++ more
+pub behind_more : (bytes : List ℕ) (at : ℕ) (more : List ℕ) → at ≤ length bytes → drop at (bytes ++ more) ≡ drop at bytes ++ more
 behind_more bytes at more le = drop-append-le at bytes more le
 
 front_more : (bytes more : List ℕ) → limit ≤ length bytes → front (bytes ++ more) ≡ front bytes
 front_more bytes more long = take-append-le limit bytes more long
 
-ends_more : (bytes more : List ℕ) (at : ℕ) (e : ErrorObject) → limit ≤ length bytes → EndsAt bytes at e → EndsAt (bytes ++ more) at e
+ends_more : (bytes more : List ℕ) (at : ℕ) (e : ErrorObject) → limit ≤ length bytes → ObjectEndsAt bytes at e → ObjectEndsAt (bytes ++ more) at e
 ends_more bytes more at e long is = subst (λ z. Rattle.text_tokens.specs.Languages.SpellsTo Rattle.dap_errors.specs.Object.signs Rattle.dap_errors.specs.Object.IsObject z at e) (sym (front_more bytes more long)) is
 
 token_some : (signs : List ℕ) (t : Token) → IsTrue (is_token signs t) → 0 < length (token_bytes t)
@@ -67,7 +50,7 @@ reads_within : (marks text : List ℕ) (at : ℕ) (ts : List Placed) (to : ℕ) 
 reads_within marks text at [] to is le = subst (λ n. n ≤ length text) (sym is) le
 reads_within marks text at (t ∷ ts) to (behind, next, rest) le = reads_within marks text behind ts to rest (token_within marks text t.place behind t.token next.token_at)
 
-pub ends_within : (bytes : List ℕ) (at : ℕ) (e : ErrorObject) → EndsAt bytes at e → at ≤ length bytes
+pub ends_within : (bytes : List ℕ) (at : ℕ) (e : ErrorObject) → ObjectEndsAt bytes at e → at ≤ length bytes
 ends_within bytes at e is = front_within bytes at (reads_within signs (front bytes) 0 is.tokens at is.read (omega arith))
 
 trail_more : (s : Bool) (xs : List ℕ) (b : ℕ) → IsTrail s xs → is_white b ≡ true → IsTrail s (xs ++ b ∷ [])

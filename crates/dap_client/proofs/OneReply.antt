@@ -1,6 +1,6 @@
 -- A reply whose head tells a coding has one verdict.
 use Rattle.std.proofs.Common.{◌≡◌, ℕ, inl, inr, true, List, length, ap, ◌∙◌, sym, subst}
-use Rattle.xdr_decode.specs.declared.bad.BadField.{BadField}
+use Rattle.reply_faults.specs.declared.bad.BadField.{BadField}
 use Rattle.dap_http.proofs.Deliveries.{no-delivery-broken, one-break, one-delivery}
 use Rattle.dap_http.specs.Delivered.{HasCoding}
 use Rattle.dap_http.specs.declared.coding.Coding.{Coding}

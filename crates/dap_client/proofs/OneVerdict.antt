@@ -16,10 +16,11 @@ use Rattle.dds_text.specs.Reading.{IsDone, limit}
 use Rattle.xdr_decode.proofs.OneVerdict.{good_body, one_verdict as one_body_verdict, small_first, text_done}
 use Rattle.xdr_decode.specs.Verdict.{HasText, IsWrongIn, budget}
 use Rattle.xdr_decode.specs.Verdict as body
-use Rattle.xdr_decode.specs.declared.bad.Bad.{Bad}
-use Rattle.xdr_decode.specs.declared.bad.Bad.TheVariants.{BadHead, HeadTooLong, Coded, BadChunk, BadDds, BadDataLine, BadDas, BadError, BadCount, BadWord, BadPadding, WrongMark, Cut, Trailing, TooLong}
+use Rattle.reply_faults.specs.declared.bad.Bad.{Bad}
+use Rattle.reply_faults.specs.declared.bad.Bad.TheVariants.{BadHead, HeadTooLong, Coded, BadChunk, BadDds, BadDataLine, BadDas, BadError, BadCount, BadWord, BadPadding, WrongMark, Cut, Trailing, TooLong}
 use Rattle.error_word.specs.Saying.{says_error}
 use Rattle.dap_client.specs.Verdict.{Form, HasStray, IsVerdict, Judges, JudgesDas, JudgesDasText, JudgesDds, JudgesDods, JudgesError, JudgesForm, Verdict, bad, das_form, dds_form, dods_form, good, good_das, good_dds, is_fault, is_final, server_error}
+use Rattle.dap_model.proofs.OneBody.{cons_head, cons_tail}
 
 same_bad : (k l : Bad) (p q : ℕ) → k ≡ l → p ≡ q → bad k p ≡ bad l q
 same_bad k l p q kinds places = ap (λ x. bad x p) kinds ∙ ap (bad l) places
@@ -49,13 +50,6 @@ one_error bytes (bad k p) (good_dds d) a b = absurd b
 one_error bytes (bad k p) (good_das d) a b = absurd b
 one_error bytes (bad k p) (server_error f) a b = absurd (error_and bytes f k p b a)
 one_error bytes (bad k p) (bad l q) a b = error_bads bytes k l p q a b
-
--- ---- a DDS
-cons_head : (x y : ℕ) (xs ys : List ℕ) → x ∷ xs ≡ y ∷ ys → x ≡ y
-cons_head x y xs ys e = cc
-
-cons_tail : (x y : ℕ) (xs ys : List ℕ) → x ∷ xs ≡ y ∷ ys → xs ≡ ys
-cons_tail x y xs ys e = cc
 
 not_white : (x : ℕ) → IsTrue (not (is_white x)) → is_white x ≡ true → ⊥
 not_white x other white = false≢true (ap not (sym white) ∙ other)

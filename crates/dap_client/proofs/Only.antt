@@ -9,8 +9,8 @@ use Rattle.dap_http.specs.declared.coding.Coding.{Coding}
 use Rattle.dap_model.specs.Received.{Fault, bad_count, bad_padding, bad_word, wrong_mark}
 use Rattle.dap_model.specs.Tokens.{Token, tokens_of}
 use Rattle.xdr_decode.specs.Verdict.{HasWrongValues, budget, kind_of}
-use Rattle.xdr_decode.specs.declared.bad.Bad.TheVariants.{Cut, TooLong}
-use Rattle.xdr_decode.specs.declared.bad.BadField.{BadField}
+use Rattle.reply_faults.specs.declared.bad.Bad.TheVariants.{Cut, TooLong}
+use Rattle.reply_faults.specs.declared.bad.BadField.{BadField}
 use Rattle.dap_client.proofs.Behind.{brought-broken, brought-whole}
 use Rattle.dap_client.proofs.Lifted.{good-head}
 use Rattle.dap_client.proofs.OneReply.{one_reply}

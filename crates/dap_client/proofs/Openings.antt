@@ -4,9 +4,7 @@ use Rattle.dap_model.specs.Tokens.{Placed, Token, ended, is_plain, is_sign, is_w
 use Rattle.dds_text.specs.inner.Words.{left}
 use Rattle.dds_text.proofs.Bytes.{left-plain, left-stop, tokens-plain}
 use Rattle.error_word.proofs.FirstWords.{seam, sign_byte, some_more, stopped, white_byte, white_no_sign}
-
-abbrev bare : List Placed → List Token
-bare ps = map (λ (p : Placed). p.token) ps
+use Rattle.dap_model.proofs.OneBody.{bare}
 
 pub white_on : (bytes : List ℕ) (b : ℕ) → (tokens_of bytes ≡ []) × (left bytes ≡ []) → is_white b ≡ true → (tokens_of (bytes ++ b ∷ []) ≡ []) × (left (bytes ++ b ∷ []) ≡ [])
 white_on bytes b (none, empty) w = (

@@ -16,9 +16,9 @@ use Rattle.dap_http.specs.declared.coding.Coding.TheVariants.{Chunked, Length, T
 use Rattle.dap_model.specs.Received.{Fault, bad_count, bad_word, bad_padding, wrong_mark}
 use Rattle.dap_types.specs.Model.{Dataset}
 use Rattle.xdr_decode.specs.Verdict.{IsWrong, IsWrongIn, kind_of}
-use Rattle.xdr_decode.specs.declared.bad.Bad.{Bad}
-use Rattle.xdr_decode.specs.declared.bad.Bad.TheVariants.{BadChunk, Cut}
-use Rattle.xdr_decode.specs.declared.bad.BadField.{BadField}
+use Rattle.reply_faults.specs.declared.bad.Bad.{Bad}
+use Rattle.reply_faults.specs.declared.bad.Bad.TheVariants.{BadChunk, Cut}
+use Rattle.reply_faults.specs.declared.bad.BadField.{BadField}
 use Rattle.dap_model.specs.Tokens.{Token, tokens_of}
 use Rattle.dap_client.specs.Answered.{BringsBad, Tells}
 use Rattle.dap_client.specs.Fetched.{IsFirst, SaysVerdict}

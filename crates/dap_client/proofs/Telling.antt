@@ -5,7 +5,7 @@ use Rattle.std.proofs.lemmas.List.{take-append-le, take_all}
 use Rattle.std.proofs.Math.Seq.{take-append-add}
 use Rattle.dap_outside.specs.Causes.{Rose}
 use Rattle.xdr_decode.specs.Verdict.{budget}
-use Rattle.xdr_decode.specs.declared.bad.BadField.{BadField}
+use Rattle.reply_faults.specs.declared.bad.BadField.{BadField}
 use Rattle.dap_http.proofs.Parts.{opened}
 use Rattle.dap_http.specs.Codings.{Goes}
 use Rattle.dap_http.specs.Delivered.{IsBrokenBody, IsWholeBody}

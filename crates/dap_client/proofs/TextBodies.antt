@@ -15,13 +15,13 @@ use Rattle.dap_model.specs.Tokens.{Token, tokens_of}
 use Rattle.dap_types.specs.View.{dataset_view}
 use Rattle.dap_types.specs.declared.declarations.Dataset.{Dataset}
 use Rattle.xdr_decode.specs.Verdict.{budget}
-use Rattle.xdr_decode.specs.declared.bad.Bad.{Bad}
-use Rattle.xdr_decode.specs.declared.bad.Bad.TheVariants.{BadHead, HeadTooLong, Coded, BadChunk, BadDds, BadDataLine, BadDas, BadError, BadCount, BadWord, BadPadding, WrongMark, Cut, Trailing, TooLong}
-use Rattle.xdr_decode.specs.declared.bad.BadField.{BadField}
+use Rattle.reply_faults.specs.declared.bad.Bad.{Bad}
+use Rattle.reply_faults.specs.declared.bad.Bad.TheVariants.{BadHead, HeadTooLong, Coded, BadChunk, BadDds, BadDataLine, BadDas, BadError, BadCount, BadWord, BadPadding, WrongMark, Cut, Trailing, TooLong}
+use Rattle.reply_faults.specs.declared.bad.BadField.{BadField}
 use Rattle.dap_client.proofs.Filling.{budget_is}
 use Rattle.dap_client.proofs.Within.{judged_within, verdict_within}
 use Rattle.dap_client.specs.After.{HasNoLine, IsBrokenOff, IsFinished, IsStopped}
-use Rattle.dap_client.specs.Answered.{IsLasting, ShowsBroken, ShowsRefused, good_part, text_of}
+use Rattle.dap_client.specs.Answered.{IsLasting, ShowsBroken, ShowsRefused, good_part, text_shown}
 use Rattle.dap_client.specs.Outcomes.{outcome_of}
 use Rattle.dap_client.specs.Shows.{Gains}
 use Rattle.dap_client.specs.Replies.{first_of}
@@ -207,7 +207,7 @@ goes_behind field wrong is = sym (ap (λ c. if c then bad field.kind field.place
 
 -- ---- the text printed again
 
-pub put_finished : (form : Form) (bytes printed : List ℕ) (v : Verdict) (n : ℕ) (before now : Option (List ℕ)) (o : Outcome) → length bytes ≡ n → IsVerdict form bytes v → outcome_of n v ≡ Complete n → text_of n v ≡ printed
+pub put_finished : (form : Form) (bytes printed : List ℕ) (v : Verdict) (n : ℕ) (before now : Option (List ℕ)) (o : Outcome) → length bytes ≡ n → IsVerdict form bytes v → outcome_of n v ≡ Complete n → text_shown n v ≡ printed
     → ((k : ℕ) → ShowsBroken form bytes (take k printed)) → IsPut printed n before now o → Gains before now (λ text. IsFinished form bytes text o)
 put_finished form bytes printed v n before now (Complete m) long is told shown broken (same, sent) =
     (printed, sent, subst (λ k. IsFinished form bytes printed (Complete k)) (sym same) (v, is, ap (λ k. outcome_of k v) long ∙ told, sym shown))

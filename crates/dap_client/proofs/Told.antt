@@ -10,15 +10,15 @@ use Rattle.dap_model.specs.Received.{HasHead}
 use Rattle.dap_model.specs.Shown.{shown}
 use Rattle.dap_model.proofs.Partly.{part_is_of_lines}
 use Rattle.dap_outside.specs.Causes.{Rose}
-use Rattle.xdr_decode.specs.declared.bad.Bad.{Bad}
-use Rattle.xdr_decode.specs.declared.bad.Bad.TheVariants.{BadHead, HeadTooLong, Coded, BadChunk, BadDds, BadDataLine, BadDas, BadError, BadCount, BadWord, BadPadding, WrongMark, Cut, Trailing, TooLong}
-use Rattle.xdr_decode.specs.declared.bad.BadField.{BadField}
+use Rattle.reply_faults.specs.declared.bad.Bad.{Bad}
+use Rattle.reply_faults.specs.declared.bad.Bad.TheVariants.{BadHead, HeadTooLong, Coded, BadChunk, BadDds, BadDataLine, BadDas, BadError, BadCount, BadWord, BadPadding, WrongMark, Cut, Trailing, TooLong}
+use Rattle.reply_faults.specs.declared.bad.BadField.{BadField}
 use Rattle.dap_client.proofs.Filling.{budget_is, values_lines}
 use Rattle.dap_client.proofs.OneVerdict.{one_verdict}
 use Rattle.dap_client.specs.Outcomes.{Answers, OnBadReply, OnComplete, OnLinkFault, OnMemory, OnReadFault, OnServerError, OnWriteFault, WhereNothingPut, WhereWhole, outcome_of}
 use Rattle.dap_client.specs.Shows.{BreaksOff, Gains, HasFewValues, StopsWithin, Takes}
 use Rattle.dap_client.specs.Verdict.{Verdict, IsVerdict, bad, dods_form, good, server_error}
-use Rattle.dap_client.specs.inner.Readers.{HasFailed, IsFinished, Stands, StandsAfter, StaysBadReply, is_open, taken_of}
+use Rattle.dap_client.specs.inner.Readers.{HasFailed, IsFinished, Stands, ReaderStandsAfter, StaysBadReply, is_open, taken_of}
 use Rattle.dap_client.specs.inner.Showing.{Reads, ReadsOn}
 use Rattle.dap_client.specs.inner.Stages.{IsStage, is_open_stage}
 use Rattle.dap_client.specs.declared.outcome.Outcome.{Outcome}
@@ -63,16 +63,16 @@ stage_stops stage.Failed bytes put stops = stops
 stage_stops stage.Spent bytes put (few, none) = nothing_stops bytes put none
 
 -- nothing was taken and put
-pub none_read : (left now written : Option (List ℕ)) (reader : BodyReader) (bytes put : List ℕ) → Consumes left now [] → StandsAfter reader bytes put → ReadsOn left now written written reader bytes put
+pub none_read : (left now written : Option (List ℕ)) (reader : BodyReader) (bytes put : List ℕ) → Consumes left now [] → ReaderStandsAfter reader bytes put → ReadsOn left now written written reader bytes put
 none_read left now written reader bytes put took s =
-    ([], [], took, Appends-nil written, subst (λ l. StandsAfter reader (bytes ++ []) l) (sym (append-nil put)) (subst (λ l. StandsAfter reader l put) (sym (append-nil bytes)) s))
+    ([], [], took, Appends-nil written, subst (λ l. ReaderStandsAfter reader (bytes ++ []) l) (sym (append-nil put)) (subst (λ l. ReaderStandsAfter reader l put) (sym (append-nil bytes)) s))
 
 pub same_left : (left now : Option (List ℕ)) → now ≡ left → Consumes left now []
 same_left left now is = subst (λ w. Consumes left w []) (sym is) (Consumes-nil left)
 
 -- a piece, and what was read before it
 pub reads_on : (left mid now written between text : Option (List ℕ)) (before reader : BodyReader) → Reads left mid written between before
-    → ((bytes put : List ℕ) → StandsAfter before bytes put → ReadsOn mid now between text reader bytes put) → Reads left now written text reader
+    → ((bytes put : List ℕ) → ReaderStandsAfter before bytes put → ReadsOn mid now between text reader bytes put) → Reads left now written text reader
 reads_on left mid now written between text before reader (bytes, put, took, gained, s) on =
     let (more, further, taken, sent, stands) = on bytes put s in
     (bytes ++ more, put ++ further, Consumes-trans left mid now bytes more took taken, Appends-trans written between text put further gained sent, stands)
@@ -98,8 +98,8 @@ pub ends : (left now written mid text : Option (List ℕ)) (Closed : Type 0) (o 
 ends left now written mid text Closed o bytes put took gained (last, sent, finished) stays =
     record { bytes = bytes; before = put; last = last; took = took; gained = Appends-trans written mid text put last gained sent; finished = finished; stays = stays }
 
-pub told : (left now written mid text : Option (List ℕ)) (reader : BodyReader) (o : Outcome) → Reads left now written mid reader → ((bytes put : List ℕ) → StandsAfter reader bytes put → Gains mid text (λ last. IsFinished bytes put last o))
-    → ((bytes put : List ℕ) → StandsAfter reader bytes put → is_open reader ≡ false → StaysBadReply bytes o) → Ends left now written text (is_open reader ≡ false) o
+pub told : (left now written mid text : Option (List ℕ)) (reader : BodyReader) (o : Outcome) → Reads left now written mid reader → ((bytes put : List ℕ) → ReaderStandsAfter reader bytes put → Gains mid text (λ last. IsFinished bytes put last o))
+    → ((bytes put : List ℕ) → ReaderStandsAfter reader bytes put → is_open reader ≡ false → StaysBadReply bytes o) → Ends left now written text (is_open reader ≡ false) o
 told left now written mid text reader o (bytes, put, took, gained, s) finished stays = ends left now written mid text (is_open reader ≡ false) o bytes put took gained (finished bytes put s) (stays bytes put s)
 
 pub stopped : (left now written text : Option (List ℕ)) (reader : BodyReader) → Reads left now written text reader → Takes left now (λ taken. Gains written text (StopsWithin taken))

@@ -9,19 +9,19 @@ use Rattle.dap_model.proofs.OneVerdict.{bad_not_open, ended_not_bad, one_bad}
 use Rattle.dap_model.specs.Body.{IsHead}
 use Rattle.dap_model.specs.Dds.{dds}
 use Rattle.dap_model.specs.Partly.{MayShowPart}
-use Rattle.dap_model.specs.Received.{EndsAt, Fault, bad_count, bad_word, bad_padding, wrong_mark, IsBadField, IsCut, IsFront, IsOpen, IsPrefix, MayShow}
+use Rattle.dap_model.specs.Received.{ValuesEndAt, Fault, bad_count, bad_word, bad_padding, wrong_mark, IsBadField, IsCut, IsFront, IsOpen, IsPrefix, MayShow}
 use Rattle.dap_model.specs.Xdr.{Field, Spells, SpellsFields, fields_all}
 use Rattle.xdr_decode.specs.After as decoding
 use Rattle.xdr_decode.specs.Shown.{HasGood, ShowsFront, ShowsSome}
 use Rattle.xdr_decode.specs.Verdict.{HasHeadOf, HasMore, IsWrong, kind_of}
-use Rattle.xdr_decode.specs.declared.bad.Bad.TheVariants.{Trailing}
-use Rattle.xdr_decode.specs.declared.bad.BadField.{BadField}
+use Rattle.reply_faults.specs.declared.bad.Bad.TheVariants.{Trailing}
+use Rattle.reply_faults.specs.declared.bad.BadField.{BadField}
 use Rattle.xdr_decode.specs.declared.decoder.Decoder.{Decoder}
 use Rattle.xdr_decode.specs.declared.decoder.State.TheVariants as state
 use Rattle.dap_client.specs.Shows.{StopsWithin}
 use Rattle.dap_client.specs.Verdict.{is_fault}
 use Rattle.error_word.specs.inner.FirstWords.{IsNoError}
-use Rattle.dap_client.specs.inner.Stages.{HasValues, IsInValues, IsRefused, IsStage, Moves}
+use Rattle.dap_client.specs.inner.Stages.{HasValues, IsInValues, IsDataRefused, IsStage, Moves}
 use Rattle.dap_client.specs.declared.stage.Stage.{Stage}
 
 -- a good front is not ended, or it is whole
@@ -64,7 +64,7 @@ bad_more d bs more fault place b = record {
   is_place = b.is_place;
 }
 
-pub more_front : (d : Dataset) (bs more : List ℕ) (n : ℕ) (ts : List Tree) → EndsAt d ts bs n → n < length bs → HasMore d (bs ++ more) n
+pub more_front : (d : Dataset) (bs more : List ℕ) (n : ℕ) (ts : List Tree) → ValuesEndAt d ts bs n → n < length bs → HasMore d (bs ++ more) n
 more_front d bs more n ts at less = by (drop n bs) (take-append-drop n bs) (length-drop n bs)
   where
     by : (rest : List ℕ) → take n bs ++ rest ≡ bs → length rest ≡ length bs - n → HasMore d (bs ++ more) n
@@ -136,7 +136,7 @@ piece_head d bytes piece head values (h, is) = (h, ap (λ l. l ++ piece) is ∙ 
 -- what is wrong with the values is wrong with the bytes, and stays so
 refused_at : (d : Dataset) (bytes head values lines put good whole more : List ℕ) (field : BadField) (place : ℕ) → HasHeadOf bytes d head values → IsNoError bytes
     → ((further : List ℕ) → IsWrong d (values ++ further) field.kind place) → is_fault field.kind ≡ true → field.place ≡ length head + place
-    → good ≡ take place values → IsFront d good whole more → IsPrefix whole lines → IsPrefix lines (whole ++ more) → put ≡ dds d ++ lines → IsRefused field bytes put
+    → good ≡ take place values → IsFront d good whole more → IsPrefix whole lines → IsPrefix lines (whole ++ more) → put ≡ dds d ++ lines → IsDataRefused field bytes put
 refused_at d bytes head values lines put good whole more field place (h, is) none wrong fault place_is good_is front begins within is_put =
     let parts : take field.place bytes ≡ head ++ good =
     ap (λ n. take n bytes) place_is ∙ ap (take (length head + place)) is ∙ take-append-add head values place ∙ ap (λ l. head ++ l) (sym good_is) in
@@ -154,18 +154,18 @@ kind_faulty wrong_mark = refl
 
 -- the decoder met a bad field
 pub values_refused : (d : Dataset) (bytes head values lines put : List ℕ) (start : ℕ) (field : BadField) → HasHeadOf bytes d head values → IsNoError bytes → start ≡ length head
-    → decoding.IsFirstBad d start values field → ShowsFront d values lines → put ≡ dds d ++ lines → IsRefused field bytes put
+    → decoding.IsFirstBad d start values field → ShowsFront d values lines → put ≡ dds d ++ lines → IsDataRefused field bytes put
 values_refused d bytes head values lines put start field has none starts (fault, place, bad, is) shows is_put =
-    subst (λ f. IsRefused f bytes put) (sym is)
+    subst (λ f. IsDataRefused f bytes put) (sym is)
     (refused_at d bytes head values lines put shows.good shows.whole shows.more (record { kind = kind_of fault; place = start + place }) place has none
     (λ further. inl (fault, bad_more d values further fault place bad, refl)) (kind_faulty fault) (ap (λ n. n + place) starts)
     (good_before d values shows.good shows.whole shows.more fault place shows.has_good shows.is_front bad) shows.is_front shows.begins shows.within is_put)
 
 -- further bytes follow the values, which ended at a place
 pub values_trailing : (d : Dataset) (bytes head values lines put : List ℕ) (place n : ℕ) → HasHeadOf bytes d head values → IsNoError bytes
-    → decoding.EndsBehind d values n → n < length values → place ≡ length head + n → ShowsFront d (take n values) lines → put ≡ dds d ++ lines → IsRefused (record { kind = Trailing; place = place }) bytes put
+    → decoding.EndsBehind d values n → n < length values → place ≡ length head + n → ShowsFront d (take n values) lines → put ≡ dds d ++ lines → IsDataRefused (record { kind = Trailing; place = place }) bytes put
 values_trailing d bytes head values lines put place n has none (ts, at) less place_is shows is_put =
-    let here : EndsAt d ts (take n values) n = (omega (arith, at.0, long_take), subst (Spells d ts) (sym (take_all n (take n values) (omega (arith, long_take)))) at.1) in
+    let here : ValuesEndAt d ts (take n values) n = (omega (arith, at.0, long_take), subst (Spells d ts) (sym (take_all n (take n values) (omega (arith, long_take)))) at.1) in
     refused_at d bytes head values lines put shows.good shows.whole shows.more (record { kind = Trailing; place = place }) n has none
     (λ further. inr (inl (more_front d values further n ts at less, refl))) refl place_is
     (sym (all_good d (take n values) shows.good shows.has_good (λ fault p bad. ended_not_bad d ts (take n values) n fault p here bad))) shows.is_front shows.begins shows.within is_put
@@ -174,7 +174,7 @@ values_trailing d bytes head values lines put place n has none (ts, at) less pla
     long_take = length-take-le n values (omega (arith, at.0))
 
 -- nothing is wrong
-pub values_on : (decoder : Decoder) (d : Dataset) (bytes head values lines put : List ℕ) → decoding.dataset_of decoder ≡ d → HasHeadOf bytes d head values → decoding.StandsAfter decoder values lines → decoding.start_of decoder ≡ length head
+pub values_on : (decoder : Decoder) (d : Dataset) (bytes head values lines put : List ℕ) → decoding.dataset_of decoder ≡ d → HasHeadOf bytes d head values → decoding.DecoderStandsAfter decoder values lines → decoding.start_of decoder ≡ length head
     → decoding.place_of decoder ≤ length bytes → put ≡ dds d ++ lines → IsOpen d values ⊎ decoding.EndsBehind d values (length values) → ShowsFront d values lines → IsInValues decoder bytes put
 values_on decoder d bytes head values lines put same has stands starts room is_put good shows = record {
   begun = record {
@@ -202,8 +202,8 @@ values_fault d bytes head values lines put (h, is) some is_put =
     )
 
 -- ---- by what a decoder says of a piece
-not_failed : (r : Decoder) (bytes put : List ℕ) → decoding.StandsAfter r bytes put → decoding.HasFailed r → ⊥
-unfolding Rattle.xdr_decode.specs.After.StandsAfter Rattle.xdr_decode.specs.After.HasFailed
+not_failed : (r : Decoder) (bytes put : List ℕ) → decoding.DecoderStandsAfter r bytes put → decoding.HasFailed r → ⊥
+unfolding Rattle.xdr_decode.specs.After.DecoderStandsAfter Rattle.xdr_decode.specs.After.HasFailed
 not_failed r bytes put stands failed = let none : decoding.Stands r state.Failed bytes put = subst (λ s. decoding.Stands r s bytes put) failed stands in none
 
 pub rose_here : (r : Decoder) (bytes put : List ℕ) (Rises : Type 0) → HasValues r bytes put → decoding.HasFailed r ⊎ Rises → Rises
@@ -216,7 +216,7 @@ room_more : (a b c n k : ℕ) → a ≤ b + k → b ≤ n → c ≡ n + k → a 
 room_more a b c n k one two is = omega (arith, one, two, is)
 
 pub on_piece : (decoder next : Decoder) (bytes piece put gained : List ℕ) (o : HasValues decoder bytes put) → decoding.dataset_of next ≡ decoding.dataset_of decoder → decoding.start_of next ≡ decoding.start_of decoder
-    → decoding.place_of next ≤ decoding.place_of decoder + length piece → decoding.StandsAfter next (o.values ++ piece) (o.lines ++ gained) → ShowsFront (decoding.dataset_of decoder) (o.values ++ piece) (o.lines ++ gained)
+    → decoding.place_of next ≤ decoding.place_of decoder + length piece → decoding.DecoderStandsAfter next (o.values ++ piece) (o.lines ++ gained) → ShowsFront (decoding.dataset_of decoder) (o.values ++ piece) (o.lines ++ gained)
     → IsOpen (decoding.dataset_of decoder) (o.values ++ piece) ⊎ decoding.EndsBehind (decoding.dataset_of decoder) (o.values ++ piece) (length (o.values ++ piece)) → IsInValues next (bytes ++ piece) (put ++ gained)
 on_piece decoder next bytes piece put gained o same start place stands shows good =
     let d = decoding.dataset_of decoder in
@@ -225,17 +225,17 @@ on_piece decoder next bytes piece put gained o same start place stands shows goo
 
 pub on_end : (decoder next : Decoder) (bytes piece put gained : List ℕ) (used : ℕ) (o : HasValues decoder bytes put) → decoding.dataset_of next ≡ decoding.dataset_of decoder → decoding.start_of next ≡ decoding.start_of decoder
     → decoding.place_of next ≤ decoding.place_of decoder + length piece → used ≤ length piece → length piece ≤ used → decoding.EndsBehind (decoding.dataset_of decoder) (o.values ++ piece) (length o.values + used)
-    → decoding.StandsAfter next (o.values ++ take used piece) (o.lines ++ gained) → ShowsFront (decoding.dataset_of decoder) (o.values ++ take used piece) (o.lines ++ gained) → IsInValues next (bytes ++ piece) (put ++ gained)
+    → decoding.DecoderStandsAfter next (o.values ++ take used piece) (o.lines ++ gained) → ShowsFront (decoding.dataset_of decoder) (o.values ++ take used piece) (o.lines ++ gained) → IsInValues next (bytes ++ piece) (put ++ gained)
 on_end decoder next bytes piece put gained used o same start place le ge ends stands shows =
     let d = decoding.dataset_of decoder in
     let all : take used piece ≡ piece = take_all used piece ge in
     let long : length o.values + used ≡ length (o.values ++ piece) = omega (arith, le, ge, length-append o.values piece) in
-    on_piece decoder next bytes piece put gained o same start place (subst (λ l. decoding.StandsAfter next (o.values ++ l) (o.lines ++ gained)) all stands) (subst (λ l. ShowsFront d (o.values ++ l) (o.lines ++ gained)) all shows)
+    on_piece decoder next bytes piece put gained o same start place (subst (λ l. decoding.DecoderStandsAfter next (o.values ++ l) (o.lines ++ gained)) all stands) (subst (λ l. ShowsFront d (o.values ++ l) (o.lines ++ gained)) all shows)
     (inr (subst (decoding.EndsBehind d (o.values ++ piece)) long ends))
 
 pub trailing_piece : (decoder : Decoder) (bytes piece put gained : List ℕ) (place used : ℕ) (o : HasValues decoder bytes put) → length bytes ≡ place → IsNoError (bytes ++ piece) → used < length piece
     → decoding.EndsBehind (decoding.dataset_of decoder) (o.values ++ piece) (length o.values + used) → ShowsFront (decoding.dataset_of decoder) (o.values ++ take used piece) (o.lines ++ gained)
-    → IsRefused (record { kind = Trailing; place = place + used }) (bytes ++ piece) (put ++ gained)
+    → IsDataRefused (record { kind = Trailing; place = place + used }) (bytes ++ piece) (put ++ gained)
 trailing_piece decoder bytes piece put gained place used o long none less ends shows =
     let d = decoding.dataset_of decoder in
     let spot : place + used ≡ length o.head + (length o.values + used) = omega (arith, long, ap length (o.has_head.1), length-append o.head o.values) in
@@ -243,7 +243,7 @@ trailing_piece decoder bytes piece put gained place used o long none less ends s
     (omega (arith, less, length-append o.values piece)) spot (subst (λ l. ShowsFront d l (o.lines ++ gained)) (sym (take-append-add o.values piece used)) shows) (put_more decoder bytes put gained o)
 
 pub refused_piece : (decoder : Decoder) (bytes piece put gained : List ℕ) (field : BadField) (o : HasValues decoder bytes put) → IsNoError (bytes ++ piece)
-    → decoding.IsFirstBad (decoding.dataset_of decoder) (decoding.start_of decoder) (o.values ++ piece) field → ShowsFront (decoding.dataset_of decoder) (o.values ++ piece) (o.lines ++ gained) → IsRefused field (bytes ++ piece) (put ++ gained)
+    → decoding.IsFirstBad (decoding.dataset_of decoder) (decoding.start_of decoder) (o.values ++ piece) field → ShowsFront (decoding.dataset_of decoder) (o.values ++ piece) (o.lines ++ gained) → IsDataRefused field (bytes ++ piece) (put ++ gained)
 refused_piece decoder bytes piece put gained field o none bad shows =
     let d = decoding.dataset_of decoder in
     values_refused d (bytes ++ piece) o.head (o.values ++ piece) (o.lines ++ gained) (put ++ gained) (decoding.start_of decoder) field (piece_head d bytes piece o.head o.values o.has_head) none o.starts bad shows (put_more decoder bytes put gained o)
@@ -254,7 +254,7 @@ fault_piece decoder bytes piece put gained o some =
     values_fault d (bytes ++ piece) o.head (o.values ++ piece) (o.lines ++ gained) (put ++ gained) (piece_head d bytes piece o.head o.values o.has_head) some (put_more decoder bytes put gained o)
 
 -- ---- before the first piece
-pub first_values : (decoder : Decoder) (d : Dataset) (bytes put : List ℕ) (place : ℕ) → decoding.dataset_of decoder ≡ d → decoding.StandsAfter decoder [] [] → decoding.start_of decoder ≡ place → decoding.place_of decoder ≡ place
+pub first_values : (decoder : Decoder) (d : Dataset) (bytes put : List ℕ) (place : ℕ) → decoding.dataset_of decoder ≡ d → decoding.DecoderStandsAfter decoder [] [] → decoding.start_of decoder ≡ place → decoding.place_of decoder ≡ place
     → length bytes ≡ place → IsHead bytes d → put ≡ dds d → HasValues decoder bytes put
 first_values decoder d bytes put place same stands start at long h is_put = record {
   head = bytes;

@@ -36,7 +36,7 @@ pub keep_short : (bytes front piece : List ℕ) → length piece < 65536 - lengt
 keep_short bytes front piece short is = ap (λ l. front ++ l) (sym (take_all (65536 - length front) piece (omega (arith, short)))) ∙ keep_full bytes front piece is
 
 -- the reader of the DDS had all
-pub first_on : (r : DdsReader) (s : DdsStep) (word : FirstWord) (front bytes piece : List ℕ) → IsOpenWord word (bytes ++ piece) → front ≡ take limit (bytes ++ piece) → reading.StandsAfter r (bytes ++ reading.used_of s piece)
+pub first_on : (r : DdsReader) (s : DdsStep) (word : FirstWord) (front bytes piece : List ℕ) → IsOpenWord word (bytes ++ piece) → front ≡ take limit (bytes ++ piece) → reading.DdsStandsAfter r (bytes ++ reading.used_of s piece)
     → reading.WhereDone (λ used. (used ≤ length piece) × ((d : Dataset) × IsDone (bytes ++ piece) (length bytes + used) d)) s → reading.start_of r ≡ 0 → IsFirst word front r (bytes ++ piece)
 first_on r step.More word front bytes piece o kept stands done start = record { is_word = o; kept = kept; had = (stands, start) }
 first_on r (step.Bad place) word front bytes piece o kept stands done start = record { is_word = o; kept = kept; had = (stands, start) }

@@ -13,7 +13,7 @@ use Rattle.das_text.specs.Reading as das
 use Rattle.dap_model.specs.Tokens.{Placed, Token, ended, is_sign, is_white, sign, sign_at, tokens_from, tokens_of, whole_tokens}
 use Rattle.dds_text.specs.Reading.{IsBadText, limit}
 use Rattle.xdr_decode.specs.Verdict.{HasWrongValues, IsBadLine, budget}
-use Rattle.xdr_decode.specs.declared.bad.Bad.{Bad}
+use Rattle.reply_faults.specs.declared.bad.Bad.{Bad}
 use Rattle.dap_client.specs.Verdict.{Form, HasStray, IsVerdict, Judges, JudgesDas, JudgesDasText, JudgesDds, JudgesDods, JudgesError, bad, das_form, dds_form, dods_form}
 
 -- ---- the tokens of a DDS

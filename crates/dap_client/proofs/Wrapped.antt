@@ -9,7 +9,7 @@ use Rattle.dap_model.specs.Partly.{ShowsLines}
 use Rattle.dap_model.specs.Received.{HasHead}
 use Rattle.xdr_decode.specs.After as decoding
 use Rattle.xdr_decode.specs.Verdict.{budget}
-use Rattle.xdr_decode.specs.declared.bad.BadField.{BadField}
+use Rattle.reply_faults.specs.declared.bad.BadField.{BadField}
 use Rattle.dap_client.proofs.Begun.{error_no_head}
 use Rattle.dap_client.proofs.DataLines.{unended}
 use Rattle.dap_client.proofs.Ending.{refused_verdict}
@@ -27,7 +27,7 @@ use Rattle.dap_client.specs.inner.TextBodies.{IsText}
 use Rattle.dap_client.specs.declared.part.Part.{Part}
 use Rattle.dap_client.specs.declared.part.Part.TheVariants as part
 use Rattle.dap_client.specs.inner.Readers as readers
-use Rattle.dap_client.specs.inner.Stages.{IsFull, IsRefused, IsStage, is_open_stage}
+use Rattle.dap_client.specs.inner.Stages.{IsFull, IsDataRefused, IsStage, is_open_stage}
 use Rattle.dap_client.specs.declared.outcome.Outcome.{Outcome}
 use Rattle.dap_client.specs.declared.outcome.Outcome.TheVariants.{Complete, ServerError, BadReply, ReadFault, WriteFault, LinkFault, Memory}
 use Rattle.dap_client.specs.declared.reader.BodyReader.{BodyReader}
@@ -74,7 +74,7 @@ stops_within bytes put shows = (bytes, [], sym (append-nil bytes), (part_is_of_l
 
 -- ---- a stage that looks at no further bytes
 
-pub refused_stopped : (field : BadField) (before bytes put : List ℕ) → length bytes ≤ budget → IsRefused field bytes put → IsStopped dods_form before bytes put (BadReply field)
+pub refused_stopped : (field : BadField) (before bytes put : List ℕ) → length bytes ≤ budget → IsDataRefused field bytes put → IsStopped dods_form before bytes put (BadReply field)
 refused_stopped field before bytes put most r =
     let lasting : IsLasting dods_form bytes field = refused_verdict field bytes put most r in
     (verdict_within dods_form bytes field.kind field.place (subst (λ l. IsVerdict dods_form l (bad field.kind field.place)) (append-nil bytes) (lasting [])), lasting, r.shows)
@@ -88,12 +88,12 @@ none_before [] text is = refl
 none_before (b ∷ put) text is = cc
 
 -- where nothing was put, no `Data:` line had come before
-pub no_head_before : (r : BodyReader) (bytes put text : List ℕ) → readers.is_open r ≡ true → readers.StandsAfter r bytes put → put ++ text ≡ [] → ¬ (HasHead bytes)
+pub no_head_before : (r : BodyReader) (bytes put text : List ℕ) → readers.is_open r ≡ true → readers.ReaderStandsAfter r bytes put → put ++ text ≡ [] → ¬ (HasHead bytes)
 no_head_before r bytes put text on s none = no_head r.stage bytes on (subst (IsStage r.stage bytes) (none_before put text none) s.is_stage)
 
 -- ---- the body ends
 
-pub data_finished : (r : BodyReader) (bytes put text : List ℕ) (o : Outcome) → readers.is_open r ≡ true → readers.StandsAfter r bytes put → readers.IsFinished bytes put text o → IsFinished dods_form bytes (put ++ text) o
+pub data_finished : (r : BodyReader) (bytes put text : List ℕ) (o : Outcome) → readers.is_open r ≡ true → readers.ReaderStandsAfter r bytes put → readers.IsFinished bytes put text o → IsFinished dods_form bytes (put ++ text) o
 data_finished r bytes put text (Complete n) on s (long, (d, ts, v, is)) = (good d ts, v, ap Complete (sym long), sym is)
 data_finished r bytes put text (ServerError code message) on s ((v, none), empty) = (v, ap (λ l. l ++ text) none ∙ empty)
 data_finished r bytes put text (BadReply field) on s ((v, shows), empty) = (v, subst (λ l. ShowsLines (take field.place bytes) l) (sym (append-nil put) ∙ ap (λ l. put ++ l) (sym empty)) shows)

@@ -2,8 +2,8 @@
 use Rattle.std.specs.Prelude.{◌≡◌, ℕ, ◌<◌, ◌≤◌, true, List, [], length, take, Option, Some, None, Result, Ok, Err}
 use Rattle.dap_model.specs.Received.{HasHead}
 use Rattle.xdr_decode.specs.Verdict.{budget}
-use Rattle.xdr_decode.specs.declared.bad.BadField.{BadField}
-use Rattle.dap_client.specs.Answered.{IsLasting, ShowsBroken, ShowsRefused, good_part, text_of}
+use Rattle.reply_faults.specs.declared.bad.BadField.{BadField}
+use Rattle.dap_client.specs.Answered.{IsLasting, ShowsBroken, ShowsRefused, good_part, text_shown}
 use Rattle.dap_client.specs.Outcomes.{outcome_of}
 use Rattle.dap_client.specs.Replies.{first_of, form_of}
 use Rattle.dap_client.specs.Shows.{BreaksOff}
@@ -22,16 +22,16 @@ form_in b = form_of b.kind
 
 -- a data response is shown as it comes; of a DDS and a DAS nothing was put yet
 abbrev pub IsPart : Form → Part → List ℕ → List ℕ → Type 0
-IsPart form (part.Data reader) bytes put = (form ≡ dods_form) × readers.StandsAfter reader bytes put × (readers.is_open reader ≡ true)
+IsPart form (part.Data reader) bytes put = (form ≡ dods_form) × readers.ReaderStandsAfter reader bytes put × (readers.is_open reader ≡ true)
 IsPart form (part.Text stage) bytes put = IsText form × IsTextStage form stage bytes × (put ≡ [])
 
 -- the reader was given these bytes, and has put this text
-unfoldable pub StandsAfter : Body → List ℕ → List ℕ → Type 0
-StandsAfter b bytes put = IsPart (form_of b.kind) b.part bytes put × (b.taken ≡ length bytes) × (length bytes < budget)
+unfoldable pub BodyStandsAfter : Body → List ℕ → List ℕ → Type 0
+BodyStandsAfter b bytes put = IsPart (form_of b.kind) b.part bytes put × (b.taken ≡ length bytes) × (length bytes < budget)
 
 -- some bytes
 abbrev pub Stands : Body → Type 0
-Stands b = (bytes : List ℕ) × (put : List ℕ) × StandsAfter b bytes put
+Stands b = (bytes : List ℕ) × (put : List ℕ) × BodyStandsAfter b bytes put
 
 -- no `Data:` line of a data response has come
 abbrev pub HasNoLine : Form → List ℕ → Type 0
@@ -46,7 +46,7 @@ IsStopped form before bytes text Memory = (text ≡ []) × HasNoLine form before
 IsStopped form before bytes text outcome = ⊥
 
 abbrev pub IsPushed : Body → Form → List ℕ → List ℕ → List ℕ → Option Outcome → Type 0
-IsPushed b form before bytes text None = StandsAfter b bytes text
+IsPushed b form before bytes text None = BodyStandsAfter b bytes text
 IsPushed b form before bytes text (Some outcome) = IsStopped form before bytes text outcome
 
 -- the same, before the body's own reader is put back
@@ -56,7 +56,7 @@ IsRead form before bytes text (Err outcome) = IsStopped form before bytes text o
 
 -- What it answers to the end of the body, by all bytes and all that was put.
 abbrev pub IsFinished : Form → List ℕ → List ℕ → Outcome → Type 0
-IsFinished form bytes text (Complete n) = (v : Verdict) × IsVerdict form bytes v × (outcome_of (length bytes) v ≡ Complete n) × (text ≡ text_of n v)
+IsFinished form bytes text (Complete n) = (v : Verdict) × IsVerdict form bytes v × (outcome_of (length bytes) v ≡ Complete n) × (text ≡ text_shown n v)
 IsFinished form bytes text (ServerError code message) = IsVerdict form bytes (server_error (record { code = code; message = message })) × (text ≡ [])
 IsFinished form bytes text (BadReply field) = IsVerdict form bytes (bad field.kind field.place) × ShowsRefused form (take field.place bytes) text
 IsFinished form bytes text WriteFault = ShowsBroken form bytes text

@@ -9,7 +9,7 @@ use Rattle.dap_model.specs.Partly.{ShowsLines}
 use Rattle.dap_model.specs.Received.{HasHead, IsPrefix}
 use Rattle.dap_model.specs.Shown.{shown}
 use Rattle.xdr_decode.specs.Verdict.{budget}
-use Rattle.xdr_decode.specs.declared.bad.BadField.{BadField}
+use Rattle.reply_faults.specs.declared.bad.BadField.{BadField}
 use Rattle.dap_http.specs.Delivered.{BreaksOff, Delivers, HasCoding, HasCome}
 use Rattle.dap_http.specs.declared.coding.Coding.{Coding}
 use Rattle.dap_client.specs.Outcomes.{outcome_of}
@@ -21,11 +21,11 @@ use Rattle.dap_client.specs.declared.outcome.Outcome.{Outcome}
 use Rattle.dap_client.specs.declared.outcome.Outcome.TheVariants.{Complete, ServerError, BadReply, ReadFault, WriteFault, LinkFault, Memory}
 
 -- what is put of a good body of so many bytes: a DDS and a DAS are printed again
-abbrev pub text_of : ℕ → Verdict → List ℕ
-text_of n (good d ts) = shown d ts n
-text_of n (good_dds d) = dds d
-text_of n (good_das a) = das a
-text_of n v = []
+abbrev pub text_shown : ℕ → Verdict → List ℕ
+text_shown n (good d ts) = shown d ts n
+text_shown n (good_dds d) = dds d
+text_shown n (good_das a) = das a
+text_shown n v = []
 
 -- the bytes before what is wrong
 abbrev pub good_part : Verdict → List ℕ → List ℕ
@@ -107,7 +107,7 @@ pub record BreaksBad (form : Form) (reply : List ℕ) (ended : Bool) (field : Ba
 -- text that was put.
 abbrev pub Tells : Form → List ℕ → Bool → List ℕ → List ℕ → Outcome → Type 0
 Tells form reply ended rest text (Complete n) =
-    (body : List ℕ) × (v : Verdict) × Delivers reply ended body rest × IsVerdict form body v × (outcome_of (length body) v ≡ Complete n) × (text ≡ text_of n v)
+    (body : List ℕ) × (v : Verdict) × Delivers reply ended body rest × IsVerdict form body v × (outcome_of (length body) v ≡ Complete n) × (text ≡ text_shown n v)
 Tells form reply ended rest text (ServerError code message) =
     (body : List ℕ) × Delivers reply ended body rest × IsVerdict form body (server_error (record { code = code; message = message })) × (text ≡ [])
 Tells form reply ended rest text (BadReply field) =

@@ -1,6 +1,6 @@
 -- A body that is read into memory, up to a limit on its bytes, and what is told of it. The limit is this project's.
 use Rattle.std.specs.Prelude.{◌≡◌, ℕ, ◌<◌, ◌≤◌, ◌⊎◌, ⊤, Bool, false, List, ◌++◌, length, take}
-use Rattle.xdr_decode.specs.declared.bad.BadField.{BadField}
+use Rattle.reply_faults.specs.declared.bad.BadField.{BadField}
 use Rattle.dap_http.specs.Delivered.{BreaksOff, Delivers}
 use Rattle.dap_client.specs.Answered.{IsLasting}
 use Rattle.dap_client.specs.Replies.{BringsFirst, first_of}

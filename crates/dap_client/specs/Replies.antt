@@ -4,7 +4,7 @@ use Rattle.std.specs.Prelude.{◌≡◌, ℕ, ◌≤◌, ◌⊎◌, true, false,
 use Rattle.dap_types.specs.Limits.{body_limit, most_piece, most_reply_heads}
 use Rattle.dap_model.specs.Tokens.{tokens_of}
 use Rattle.error_word.specs.Saying.{says_error}
-use Rattle.xdr_decode.specs.declared.bad.BadField.{BadField}
+use Rattle.reply_faults.specs.declared.bad.BadField.{BadField}
 use Rattle.dap_http.specs.Codings.{Ends, Fails}
 use Rattle.dap_http.specs.Delivered.{BreaksOff, Delivers, HasCoding, HasCome}
 use Rattle.dap_http.specs.declared.coding.Coding.{Coding}

@@ -13,8 +13,8 @@ use Rattle.das_text.specs.Reading as das
 use Rattle.dds_text.specs.Reading.{IsBadText, IsUnfinished}
 use Rattle.error_word.specs.Saying.{says_error}
 use Rattle.xdr_decode.specs.Verdict.{budget}
-use Rattle.xdr_decode.specs.declared.bad.Bad.{Bad}
-use Rattle.xdr_decode.specs.declared.bad.Bad.TheVariants.{BadDds, BadDas, BadError, Cut, Trailing, TooLong}
+use Rattle.reply_faults.specs.declared.bad.Bad.{Bad}
+use Rattle.reply_faults.specs.declared.bad.Bad.TheVariants.{BadDds, BadDas, BadError, Cut, Trailing, TooLong}
 use Rattle.xdr_decode.specs.Verdict.{HasText, IsGood, IsWrongIn}
 
 -- what a body was asked for: a data response, a DDS or a DAS

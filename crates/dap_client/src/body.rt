@@ -28,14 +28,14 @@ pub struct Body {
 }
 
 impl Body {
-    ghost use Rattle.dap_client.specs.After.{IsBrokenOff, IsFinished, IsPushed, Stands, StandsAfter, form_in};
+    ghost use Rattle.dap_client.specs.After.{IsBrokenOff, IsFinished, IsPushed, Stands, BodyStandsAfter, form_in};
     ghost use Rattle.dap_client.specs.Answered.{ShowsStopped};
     ghost use Rattle.dap_client.specs.Shows.{Gains};
 
     /// A reader of a body of this kind that has had no bytes.
     pub fn new(alloc: Global, kind: Kind) -> Body
         requires { kind ≢ Ver }
-        ensures stands { StandsAfter result [] [] }
+        ensures stands { BodyStandsAfter result [] [] }
         ensures kind { result.kind ≡ kind }
         ensures taken { result.taken ≡ 0 }
     {
@@ -64,7 +64,7 @@ impl Body {
         requires stands { Stands self.old }
         requires within { self.old.taken + length piece.now ≤ 2 ^ 40 }
         requires few { length piece.now ≤ 65536 }
-        ensures pushed { (bytes put : List ℕ) → StandsAfter self.old bytes put → Gains (O.written out.old) (O.written out.new)
+        ensures pushed { (bytes put : List ℕ) → BodyStandsAfter self.old bytes put → Gains (O.written out.old) (O.written out.new)
             (λ text. IsPushed self.new (form_in self.old) bytes (bytes ++ piece.now) (put ++ text) result) }
         ensures kind { self.new.kind ≡ self.old.kind }
         ensures taken { self.new.taken ≡ self.old.taken + length piece.now }
@@ -89,7 +89,7 @@ impl Body {
     /// The outcome for a body that ends here. Of a DDS and a DAS the text is put, printed again.
     pub fn finish<O: Sink>(self, out: &mut O) -> Outcome
         requires { Stands self }
-        ensures finished { (bytes put : List ℕ) → StandsAfter self bytes put → Gains (O.written out.old) (O.written out.new)
+        ensures finished { (bytes put : List ℕ) → BodyStandsAfter self bytes put → Gains (O.written out.old) (O.written out.new)
             (λ text. IsFinished (form_in self) bytes (put ++ text) result) }
         ensures fault { result ≡ Outcome.WriteFault → Rose (O.put_faults out.old) (O.put_faults out.new) }
         ensures later { O.put_faults out.old ≤ O.put_faults out.new }
@@ -109,7 +109,7 @@ impl Body {
     /// that is more than that they end, goes first.
     pub fn break_off(self, wrong: BadField) -> Outcome
         requires { Stands self }
-        ensures { (bytes put : List ℕ) → StandsAfter self bytes put → IsBrokenOff (form_in self) bytes put wrong result }
+        ensures { (bytes put : List ℕ) → BodyStandsAfter self bytes put → IsBrokenOff (form_in self) bytes put wrong result }
     {
         let Body {
             alloc,
@@ -123,7 +123,7 @@ impl Body {
     /// Lets the reader go where no more could be read.
     pub fn leave(self) -> Outcome
         ensures fault { result ≡ Outcome.ReadFault }
-        ensures shows { (bytes put : List ℕ) → StandsAfter self bytes put → ShowsStopped (form_in self) bytes put }
+        ensures shows { (bytes put : List ℕ) → BodyStandsAfter self bytes put → ShowsStopped (form_in self) bytes put }
     {
         Outcome::ReadFault
     }

@@ -8,13 +8,13 @@ ghost use Rattle.dap_client.specs.Verdict.{JudgesDasText, bad, good_das};
 ghost use Rattle.dap_client.specs.inner.DasBodies.{IsDasBody, IsShortDas, WhereRefused};
 
 use crate::dds_body::first_other;
-use dap_types::Memory;
+use dap_types::{Memory, limits};
 use das_text::{Attributes, DasRefusal, read};
 use std::alloc::Global;
 use xdr_decode::{AllRefusal, Bad, BadField};
 
 /// Within so many bytes a DAS has to end.
-pub const LIMIT: usize = 16777216;
+pub const LIMIT: usize = limits::MOST_TEXT;
 
 /// What was read of the body of a DAS that is no Error object.
 #[derive(Drop)]

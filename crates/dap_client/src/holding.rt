@@ -12,12 +12,12 @@ use crate::body_outcome::BodyOutcome;
 use crate::nowhere::Nowhere;
 use crate::outcome::Outcome;
 use dap_http::Kind;
-use dap_types::Bytes;
+use dap_types::{Bytes, limits};
 use std::alloc::Global;
 use xdr_decode::{Bad, BadField};
 
 /// How many bytes are judged at once.
-const PIECE: usize = 65_536;
+const PIECE: usize = limits::MOST_PIECE;
 
 /// What is held of a body.
 #[derive(Drop)]

@@ -3,6 +3,7 @@
 //! them, or what the verdict of `specs/Verdict` says is wrong.
 #![tactic(auto)]
 
+mod beginning;
 mod body;
 mod body_outcome;
 mod das_body;

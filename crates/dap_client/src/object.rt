@@ -6,12 +6,12 @@ ghost use Rattle.dap_errors.specs.declared.object.ErrorObject.{ErrorObject as Er
 ghost use Rattle.dap_client.specs.inner.Objects.{IsBehind, IsObjectOf, IsShort};
 
 use dap_errors::{ErrorObject, ErrorRefusal, read_error};
-use dap_types::Memory;
+use dap_types::{Memory, limits};
 use error_word::is_white;
 use std::alloc::Global;
 
 /// Within so many bytes an object has to end.
-pub const LIMIT: usize = 65536;
+pub const LIMIT: usize = limits::MOST_ERROR;
 
 /// What was read of an Error object.
 #[derive(Drop)]

@@ -48,7 +48,7 @@ fn first_wrong(field: BadField, wrong: BadField) -> BadField
 /// The outcome of a reader of a data response that looks at no further bytes.
 fn closed(reader: BodyReader) -> Outcome
     requires { readers.is_open reader ≡ false }
-    ensures stopped { (before piece put : List ℕ) → readers.StandsAfter reader (before ++ piece) put → (put ≡ [] → ¬ (HasHead before)) → IsStopped dods_form before (before ++ piece) put result }
+    ensures stopped { (before piece put : List ℕ) → readers.ReaderStandsAfter reader (before ++ piece) put → (put ≡ [] → ¬ (HasHead before)) → IsStopped dods_form before (before ++ piece) put result }
     ensures fault { OnWriteFault (readers.HasFailed reader) result }
     ensures failed { readers.HasFailed reader → result ≡ Outcome.WriteFault }
 {
@@ -72,7 +72,7 @@ fn read_data<O: Sink>(reader: BodyReader, piece: &[u8], out: &mut O) -> Result<P
     requires still_open { readers.is_open reader ≡ true }
     requires within { readers.taken_of reader + length piece.now ≤ 2 ^ 40 }
     requires few { length piece.now ≤ 65536 }
-    ensures read { (bytes put : List ℕ) → readers.StandsAfter reader bytes put → Gains (O.written out.old) (O.written out.new)
+    ensures read { (bytes put : List ℕ) → readers.ReaderStandsAfter reader bytes put → Gains (O.written out.old) (O.written out.new)
         (λ text. IsRead dods_form bytes (bytes ++ piece.now) (put ++ text) result) }
     ensures goes_on { OnOk result (readers.taken_of reader + length piece.now < 2 ^ 40) }
     ensures fault { result ≡ Err Outcome.WriteFault → Rose (O.put_faults out.old) (O.put_faults out.new) }

@@ -9,7 +9,7 @@ ghost use Rattle.dap_client.specs.Outcomes.{OnWriteFault, WhereNothingPut};
 ghost use Rattle.dap_client.specs.Shows.{Gains};
 ghost use Rattle.error_word.specs.inner.FirstWords.{IsError, IsNoError, IsOpenWord};
 ghost use Rattle.dap_client.specs.inner.Objects.{IsObjectOf};
-ghost use Rattle.dap_client.specs.inner.Readers.{HasFailed, HasPutNothing, IsEnded, IsFinished, Stands, StandsAfter, StaysBad, StaysBadReply, WhereNothing, WhereWriteFault, completed, is_open, taken_of};
+ghost use Rattle.dap_client.specs.inner.Readers.{HasFailed, HasPutNothing, IsEnded, IsFinished, Stands, ReaderStandsAfter, StaysBad, StaysBadReply, WhereNothing, WhereWriteFault, completed, is_open, taken_of};
 ghost use Rattle.dap_client.specs.inner.Stages.{HadAll, IsInValues, IsQuiet, IsStage, WhereFailed, WhereQuiet, is_open_stage};
 ghost use Rattle.xdr_decode.specs.Verdict.{budget};
 
@@ -161,7 +161,7 @@ fn put_complete<O: Sink>(out: &mut O, bytes: u64) -> Result<(), Failed>
 impl BodyReader {
     /// A reader that has had no bytes.
     pub fn new(alloc: Global) -> BodyReader
-        ensures stands { StandsAfter result [] [] }
+        ensures stands { ReaderStandsAfter result [] [] }
         ensures quiet { HasPutNothing result }
         ensures still_open { is_open result ≡ true }
     {
@@ -193,8 +193,8 @@ impl BodyReader {
         requires still_open { is_open self.old ≡ true }
         requires within { taken_of self.old + length piece.now ≤ 2 ^ 40 }
         requires few { length piece.now ≤ 65536 }
-        ensures stands { (bytes put : List ℕ) → StandsAfter self.old bytes put →
-            Gains (O.written out.old) (O.written out.new) (λ text. StandsAfter self.new (bytes ++ piece.now) (put ++ text)) }
+        ensures stands { (bytes put : List ℕ) → ReaderStandsAfter self.old bytes put →
+            Gains (O.written out.old) (O.written out.new) (λ text. ReaderStandsAfter self.new (bytes ++ piece.now) (put ++ text)) }
         ensures taken { taken_of self.new ≡ taken_of self.old + length piece.now }
         ensures quiet { HasPutNothing self.new → HasPutNothing self.old × (O.written out.new ≡ O.written out.old) }
         ensures cause { HasFailed self.new → Rose (O.put_faults out.old) (O.put_faults out.new) }
@@ -210,8 +210,8 @@ impl BodyReader {
 
     /// What the bytes are, where they end here. Nothing is put.
     pub fn ended(self) -> Ended
-        ensures ended { (bytes put : List ℕ) → StandsAfter self bytes put → IsEnded bytes put result }
-        ensures stays { (bytes put : List ℕ) → StandsAfter self bytes put → is_open self ≡ false → StaysBad bytes result }
+        ensures ended { (bytes put : List ℕ) → ReaderStandsAfter self bytes put → IsEnded bytes put result }
+        ensures stays { (bytes put : List ℕ) → ReaderStandsAfter self bytes put → is_open self ≡ false → StaysBad bytes result }
         ensures quiet { WhereNothing (HasPutNothing self) result }
         ensures failed { WhereWriteFault (HasFailed self) result }
         ensures has_failed { HasFailed self → result ≡ Ended.WriteFault }
@@ -236,9 +236,9 @@ impl BodyReader {
 
     /// The same as an outcome, and where the body is a whole data response the line `complete N` is put.
     pub fn finish<O: Sink>(self, out: &mut O) -> Outcome
-        ensures stands { (bytes put : List ℕ) → StandsAfter self bytes put →
+        ensures stands { (bytes put : List ℕ) → ReaderStandsAfter self bytes put →
             Gains (O.written out.old) (O.written out.new) (λ text. IsFinished bytes put text result) }
-        ensures stays { (bytes put : List ℕ) → StandsAfter self bytes put → is_open self ≡ false → StaysBadReply bytes result }
+        ensures stays { (bytes put : List ℕ) → ReaderStandsAfter self bytes put → is_open self ≡ false → StaysBadReply bytes result }
         ensures quiet { WhereNothingPut (HasPutNothing self × (O.written out.new ≡ O.written out.old)) result }
         ensures cause { OnWriteFault (HasFailed self ⊎ Rose (O.put_faults out.old) (O.put_faults out.new)) result }
         ensures counts { O.put_faults out.old ≤ O.put_faults out.new }

@@ -14,7 +14,7 @@ ghost use Rattle.dap_client.specs.Shows.{Takes};
 ghost use Rattle.dap_client.specs.Verdict.{Form, Verdict, IsVerdict};
 ghost use Rattle.dap_client.specs.inner.Behind.{StopsBehind};
 ghost use Rattle.dap_client.specs.inner.Holding.{IsHolding, SaysBehind};
-ghost use Rattle.xdr_decode.specs.declared.bad.BadField.{BadField as BadFieldValue};
+ghost use Rattle.reply_faults.specs.declared.bad.BadField.{BadField as BadFieldValue};
 
 use crate::body_outcome::BodyOutcome;
 use crate::holding::Holding;

@@ -8,7 +8,7 @@ ghost use Rattle.dap_http.specs.Following.{Follows, IsInTime, body_coding};
 ghost use Rattle.dap_http.specs.Reading.{rest_of};
 ghost use Rattle.dap_http.specs.declared.coding.Coding.{Coding as CodingValue};
 ghost use Rattle.dap_http.specs.declared.kind.Kind.TheVariants.{Ver};
-ghost use Rattle.dap_client.specs.After.{StandsAfter, form_in};
+ghost use Rattle.dap_client.specs.After.{BodyStandsAfter, form_in};
 ghost use Rattle.dap_client.specs.Answered.{Tells};
 ghost use Rattle.dap_client.specs.Outcomes.{Answers};
 ghost use Rattle.dap_client.specs.Replies.{IsReplyVerdict, StopsInTime, form_of};
@@ -30,7 +30,7 @@ fn read_parts<I: Source, O: Sink>(
     out: &mut O,
 ) -> Outcome
     requires new { reader.taken ≡ 0 }
-    requires stands { StandsAfter reader [] [] }
+    requires stands { BodyStandsAfter reader [] [] }
     requires follows { (bytes : List ℕ) × Follows parts.old bytes [] }
     ensures tells { (taken : List ℕ) × (text : List ℕ) × Consumes (I.left source.old) (I.left source.new) taken × Appends (O.written out.old) (O.written out.new) text
         × ((bytes : List ℕ) → Follows parts.old bytes [] → IsInTime (body_coding parts.old) bytes [] →

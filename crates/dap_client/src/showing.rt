@@ -8,7 +8,7 @@ ghost use Rattle.dap_types.specs.Model.{Dataset, Tree};
 ghost use Rattle.dap_errors.specs.declared.object.ErrorObject.{ErrorObject};
 ghost use Rattle.dap_client.specs.Outcomes.{Answers, OnBadReply, OnComplete, OnLinkFault, OnMemory, OnReadFault, OnServerError, OnWriteFault, WhereNothingPut, WhereWhole};
 ghost use Rattle.dap_client.specs.Shows.{BreaksOff, Gains, HasFewValues, StopsWithin, Takes};
-ghost use Rattle.dap_client.specs.inner.Readers.{HasFailed, HasPutNothing, Stands, StandsAfter, is_open, taken_of};
+ghost use Rattle.dap_client.specs.inner.Readers.{HasFailed, HasPutNothing, Stands, ReaderStandsAfter, is_open, taken_of};
 ghost use Rattle.dap_client.specs.inner.Showing.{EndsReading, Reads, ReadsOn};
 ghost use Rattle.dap_client.specs.Verdict.{Verdict, IsVerdict, bad, dods_form, good, server_error};
 
@@ -16,11 +16,11 @@ use crate::Outcome;
 use crate::reader::BodyReader;
 use crate::stage::BUDGET;
 use dap_outside::{Failed, Sink, Source};
-use dap_types::Memory;
+use dap_types::{Memory, limits};
 use std::alloc::Global;
 
 /// How many bytes are taken at once.
-const PIECE: usize = 65536;
+const PIECE: usize = limits::MOST_PIECE;
 
 /// Room for a piece.
 fn piece_room(alloc: Global) -> Result<Vec<u8>, Memory>
@@ -55,7 +55,7 @@ fn read_piece<I: Source, O: Sink>(
     requires room { length room.old ≡ 65536 }
     requires stands { Stands reader.old }
     requires still_open { is_open reader.old ≡ true }
-    ensures reads { (bytes put : List ℕ) → StandsAfter reader.old bytes put →
+    ensures reads { (bytes put : List ℕ) → ReaderStandsAfter reader.old bytes put →
         ReadsOn (I.left source.old) (I.left source.new) (O.written out.old) (O.written out.new) reader.new bytes put }
     ensures further { IfOk result (λ more. more ≡ true → taken_of reader.old < taken_of reader.new) }
     ensures end { IfOk result (λ more. more ≡ false → IsTrue (I.ended source.new) × IsAtEnd (I.left source.new)) }
@@ -86,7 +86,7 @@ fn read_body<I: Source, O: Sink>(
     out: &mut O,
 ) -> Result<(), Failed>
     requires room { length room.old ≡ 65536 }
-    requires begins { StandsAfter reader.old [] [] }
+    requires begins { ReaderStandsAfter reader.old [] [] }
     ensures reads { Reads (I.left source.old) (I.left source.new) (O.written out.old) (O.written out.new) reader.new }
     ensures end { IfOk result (λ _. EndsReading reader.new (IsTrue (I.ended source.new) × IsAtEnd (I.left source.new))) }
     ensures quiet { HasPutNothing reader.new → O.written out.new ≡ O.written out.old }

@@ -1,7 +1,7 @@
 //! The stages of a data response (DAP 2.0, DODS): its DDS, its `Data:` line, its values; or an Error
 //! object in its place. Each takes a piece and says which stage stands behind it.
 
-ghost use Rattle.std.specs.Prelude.{◌≡◌, ℕ, ◌+◌, ◌^◌, ◌<◌, ◌≤◌, List, [], ◌++◌, length, take, true, false, IfOk};
+ghost use Rattle.std.specs.Prelude.{◌≡◌, ℕ, ◌+◌, ◌^◌, ◌<◌, ◌≤◌, List, [], ◌++◌, length, take, true, false};
 ghost use Rattle.dap_types.specs.View.{dataset_view};
 ghost use Rattle.dap_types.specs.WellFormed.{IsWellFormed};
 ghost use Rattle.dap_outside.specs.Causes.{Rose};
@@ -10,20 +10,22 @@ ghost use Rattle.dap_model.specs.Body.{IsHead};
 ghost use Rattle.dap_model.specs.Received.{HasHead};
 ghost use Rattle.xdr_decode.specs.Verdict.{budget};
 ghost use Rattle.error_word.specs.inner.FirstWords.{IsError, IsNoError, IsOpenWord};
+ghost use Rattle.dap_client.specs.inner.Beginnings.{IsInObject};
 ghost use Rattle.dap_client.specs.inner.Objects.{IsObjectOf};
 ghost use Rattle.dap_client.specs.inner.Stages.{EndsText, HadAll, HasValues, IsFirst, IsInLine, IsQuiet, IsStage, Moves, WhereFailed, WhereQuiet, is_open_stage};
 
+use crate::beginning::{self, Beginning, InObject};
 use crate::data_line::{DataLine, LineRead};
-use crate::object::{LIMIT, Object};
+use crate::object::Object;
 use dap_outside::{Failed, Sink, put_all};
-use dap_types::{Dataset, Memory};
+use dap_types::{Dataset, Memory, limits};
 use dds_text::{DdsReader, DdsStep, print};
-use error_word::{FirstWord, Found};
+use error_word::FirstWord;
 use std::alloc::Global;
 use xdr_decode::{Bad, BadField, Decoder, Pushed};
 
 /// Of a body no more bytes are looked at.
-pub const BUDGET: u64 = 1 << 40;
+pub const BUDGET: u64 = limits::BODY_LIMIT;
 
 /// How far the reader of a body is.
 #[derive(Drop)]
@@ -200,6 +202,18 @@ fn read_text<O: Sink>(
     }
 }
 
+/// The stage that a piece of an Error object leads to.
+fn in_object(read: InObject) -> Stage
+    ensures stage { (bytes : List ℕ) → IsInObject read bytes → IsStage result bytes [] }
+    ensures cause { WhereFailed ⊥ result }
+{
+    match read {
+        InObject::Open(object) => Stage::Error(object),
+        InObject::Bad(place) => refused(Bad::BadError, place),
+        InObject::Spent => Stage::Spent,
+    }
+}
+
 /// Reads a piece of an Error object, which begins at this place.
 fn read_object(alloc: Global, object: Object, place: u64, piece: &[u8]) -> Stage
     requires stands { (bytes : List ℕ) × (length bytes ≡ place) × IsObjectOf bytes object }
@@ -207,56 +221,18 @@ fn read_object(alloc: Global, object: Object, place: u64, piece: &[u8]) -> Stage
     ensures stage { (bytes : List ℕ) → length bytes ≡ place → IsError (bytes ++ piece.now) → IsObjectOf bytes object → IsStage result (bytes ++ piece.now) [] }
     ensures cause { WhereFailed ⊥ result }
 {
-    match object.read(alloc, place, piece) {
-        Ok(Object::Bad(place)) => refused(Bad::BadError, place),
-        Ok(object) => Stage::Error(object),
-        Err(Memory) => Stage::Spent,
-    }
+    in_object(beginning::read_object(alloc, object, place, piece))
 }
 
-/// Goes on with an Error object, of whose front this much was kept.
-fn begin_object(alloc: Global, word: FirstWord, front: Vec<u8>, place: u64, piece: &[u8]) -> Stage
-    requires stands { (bytes : List ℕ) × (length bytes ≡ place) × IsOpenWord word bytes × (front.items ≡ take limit bytes) }
-    requires small { place + length piece.now < 2 ^ 63 }
-    ensures stage { (bytes : List ℕ) → length bytes ≡ place → IsOpenWord word bytes → front.items ≡ take limit bytes → IsError (bytes ++ piece.now) →
-        IsStage result (bytes ++ piece.now) [] }
-    ensures cause { WhereFailed ⊥ result }
-{
-    if front.len() == LIMIT {
-        return refused(Bad::BadError, LIMIT as u64);
-    }
-    read_object(alloc, Object::Front(front), place, piece)
-}
-
-/// Keeps the bytes of a piece for which there is room in the front of an Error object.
-#[tactic(auto, using(crate::proofs::Waiting::keep_short, crate::proofs::Waiting::keep_full))]
-pub fn keep(front: &mut Vec<u8>, piece: &[u8]) -> Result<(), Memory>
-    requires { length front.old.items ≤ 65536 }
-    ensures { (bytes : List ℕ) → front.old.items ≡ take limit bytes → IfOk result (λ _. front.new.items ≡ take limit (bytes ++ piece.now)) }
-{
-    let room = LIMIT - front.len();
-    if piece.len() < room {
-        front.extend_from_slice(piece)?;
-        return Ok(());
-    }
-    front.extend_from_slice(&piece[..room])?;
-    Ok(())
-}
-
-/// Waits for more of the first word.
+/// Waits for more of the first word, whose piece the reader of the DDS has as well.
 fn wait(word: FirstWord, front: Vec<u8>, reader: DdsReader, piece: &[u8]) -> Stage
-    requires { length front.items ≤ 65536 }
-    ensures stage { (bytes : List ℕ) → IsOpenWord word (bytes ++ piece.now) → front.items ≡ take limit bytes → HadAll reader bytes →
+    ensures stage { (bytes : List ℕ) → IsOpenWord word (bytes ++ piece.now) → front.items ≡ take limit (bytes ++ piece.now) → HadAll reader bytes →
         IsStage result (bytes ++ piece.now) [] }
     ensures cause { WhereFailed ⊥ result }
 {
-    let mut front = front;
     let mut reader = reader;
-    match keep(&mut front, piece) {
-        Ok(()) => match reader.push(piece) {
-            Ok(_) => Stage::First(word, front, reader),
-            Err(Memory) => Stage::Spent,
-        },
+    match reader.push(piece) {
+        Ok(_) => Stage::First(word, front, reader),
         Err(Memory) => Stage::Spent,
     }
 }
@@ -282,10 +258,11 @@ fn read_first<O: Sink>(
     ensures quiet { WhereQuiet (O.written out.new ≡ O.written out.old) result }
     ensures beside { O.beside_writing out.new ≡ O.beside_writing out.old }
 {
-    match word.read(piece) {
-        Found::Open(word) => wait(word, front, reader, piece),
-        Found::Error => begin_object(alloc, word, front, place, piece),
-        Found::Other => read_text(alloc, reader, place, piece, out),
+    match beginning::read_first(alloc, word, front, place, piece) {
+        Beginning::Open(word, front) => wait(word, front, reader, piece),
+        Beginning::Error(read) => in_object(read),
+        Beginning::Other => read_text(alloc, reader, place, piece, out),
+        Beginning::Spent => Stage::Spent,
     }
 }
 

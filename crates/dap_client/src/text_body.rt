@@ -1,7 +1,7 @@
 //! The text of a body that is a DDS or a DAS, in pieces (DAP 2.0, DDS and DAS).
 
 ghost use Rattle.std.specs.Prelude.{◌≡◌, ℕ, ◌+◌, ◌^◌, ◌<◌, ◌≤◌, ◌⊎◌, ⊤, false, List, [], ◌++◌, length, IfOk, MatchOption};
-ghost use Rattle.xdr_decode.specs.declared.bad.Bad.TheVariants.{Cut};
+ghost use Rattle.reply_faults.specs.declared.bad.Bad.TheVariants.{Cut};
 ghost use Rattle.error_word.specs.Saying.{says_error};
 ghost use Rattle.das_text.specs.Reading.{limit};
 ghost use Rattle.dap_model.specs.Tokens.{tokens_of};

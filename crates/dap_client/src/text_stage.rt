@@ -5,15 +5,16 @@ ghost use Rattle.std.specs.Prelude.{◌≡◌, ℕ, ◌+◌, ◌^◌, ◌<◌, �
 ghost use Rattle.dap_errors.specs.Reading.{limit};
 ghost use Rattle.dap_client.specs.Verdict.{Form};
 ghost use Rattle.error_word.specs.inner.FirstWords.{IsError, IsNoError, IsOpenWord};
+ghost use Rattle.dap_client.specs.inner.Beginnings.{IsInObject};
 ghost use Rattle.dap_client.specs.inner.Objects.{IsObjectOf};
 ghost use Rattle.dap_client.specs.inner.TextBodies.{IsTextBody, IsTextEnded, IsTextStage};
 
-use crate::object::{LIMIT, Object};
-use crate::stage::keep;
+use crate::beginning::{self, Beginning, InObject};
+use crate::object::Object;
 use crate::text_body::{TextBody, TextEnded};
 use dap_errors::{ErrorRefusal, read_error};
 use dap_types::Memory;
-use error_word::{FirstWord, Found};
+use error_word::FirstWord;
 use std::alloc::Global;
 use xdr_decode::{Bad, BadField};
 
@@ -48,36 +49,24 @@ fn bad_error(place: u64) -> TextStage
     })
 }
 
+/// The stage that a piece of an Error object leads to.
+fn in_object(read: InObject) -> TextStage
+    ensures { (form : Form) (bytes : List ℕ) → IsInObject read bytes → IsTextStage form result bytes }
+{
+    match read {
+        InObject::Open(object) => TextStage::Error(object),
+        InObject::Bad(place) => bad_error(place),
+        InObject::Spent => TextStage::Spent,
+    }
+}
+
 /// Reads a piece of an Error object, which begins at this place.
 fn read_object(alloc: Global, object: Object, place: u64, piece: &[u8]) -> TextStage
     requires stands { (bytes : List ℕ) × (length bytes ≡ place) × IsObjectOf bytes object }
     requires small { place + length piece.now < 2 ^ 63 }
     ensures { (form : Form) (bytes : List ℕ) → length bytes ≡ place → IsError (bytes ++ piece.now) → IsObjectOf bytes object → IsTextStage form result (bytes ++ piece.now) }
 {
-    match object.read(alloc, place, piece) {
-        Ok(Object::Bad(place)) => bad_error(place),
-        Ok(object) => TextStage::Error(object),
-        Err(Memory) => TextStage::Spent,
-    }
-}
-
-/// Goes on with an Error object, of whose front this much was kept.
-fn begin_object(
-    alloc: Global,
-    word: FirstWord,
-    front: Vec<u8>,
-    place: u64,
-    piece: &[u8],
-) -> TextStage
-    requires stands { (bytes : List ℕ) × (length bytes ≡ place) × IsOpenWord word bytes × (front.items ≡ take limit bytes) }
-    requires small { place + length piece.now < 2 ^ 63 }
-    ensures { (form : Form) (bytes : List ℕ) → length bytes ≡ place → IsOpenWord word bytes → front.items ≡ take limit bytes → IsError (bytes ++ piece.now) →
-        IsTextStage form result (bytes ++ piece.now) }
-{
-    if front.len() == LIMIT {
-        return bad_error(LIMIT as u64);
-    }
-    read_object(alloc, Object::Front(front), place, piece)
+    in_object(beginning::read_object(alloc, object, place, piece))
 }
 
 /// Reads a piece of the text, which begins at this place.
@@ -95,7 +84,7 @@ fn read_text(alloc: Global, text: TextBody, place: u64, piece: &[u8]) -> TextSta
     }
 }
 
-/// Waits for more of the first word.
+/// Waits for more of the first word, whose piece the reader of the text has as well.
 fn wait(
     alloc: Global,
     word: FirstWord,
@@ -105,17 +94,12 @@ fn wait(
     piece: &[u8],
 ) -> TextStage
     requires stands { (form : Form) × (bytes : List ℕ) × (length bytes ≡ place) × IsTextBody form text bytes }
-    requires short { length front.items ≤ 65536 }
     requires small { place + length piece.now < 2 ^ 62 }
-    ensures { (form : Form) (bytes : List ℕ) → length bytes ≡ place → IsOpenWord word (bytes ++ piece.now) → front.items ≡ take limit bytes → IsTextBody form text bytes →
+    ensures { (form : Form) (bytes : List ℕ) → length bytes ≡ place → IsOpenWord word (bytes ++ piece.now) → front.items ≡ take limit (bytes ++ piece.now) → IsTextBody form text bytes →
         IsTextStage form result (bytes ++ piece.now) }
 {
-    let mut front = front;
-    match keep(&mut front, piece) {
-        Ok(()) => match text.read(alloc, place, piece) {
-            Ok(text) => TextStage::First(word, front, text),
-            Err(Memory) => TextStage::Spent,
-        },
+    match text.read(alloc, place, piece) {
+        Ok(text) => TextStage::First(word, front, text),
         Err(Memory) => TextStage::Spent,
     }
 }
@@ -134,10 +118,11 @@ fn read_first(
     ensures { (form : Form) (bytes : List ℕ) → length bytes ≡ place → IsOpenWord word bytes → front.items ≡ take limit bytes → IsTextBody form text bytes →
         IsTextStage form result (bytes ++ piece.now) }
 {
-    match word.read(piece) {
-        Found::Open(word) => wait(alloc, word, front, text, place, piece),
-        Found::Error => begin_object(alloc, word, front, place, piece),
-        Found::Other => read_text(alloc, text, place, piece),
+    match beginning::read_first(alloc, word, front, place, piece) {
+        Beginning::Open(word, front) => wait(alloc, word, front, text, place, piece),
+        Beginning::Error(read) => in_object(read),
+        Beginning::Other => read_text(alloc, text, place, piece),
+        Beginning::Spent => TextStage::Spent,
     }
 }
 

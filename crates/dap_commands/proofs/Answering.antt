@@ -337,10 +337,6 @@ joined_asked_then told target a AreThese text_over may_ask old new before mid no
       record { put = s.put; within = s.within; front = s.front; most = s.most; may = costs contents s.put s.most these s.may; few = omega (arith, s.few, first) },
     ))
 
--- a count that rose later rose
-pub rose_later : (a b c : ℕ) → a ≤ b → Rose b c → Rose a c
-rose_later a b c le rose = omega (arith, le, rose)
-
 -- words have one target
 pub same_target : (words : List (List ℕ)) (t u : List ℕ) (v w : ℕ) → AreAnswer words t v → AreAnswer words u w → t ≡ u
 same_target words t u v w (inl p) (inl q) = ap (λ ws. get_or ws 1 t) (sym p.0 ∙ q.0)

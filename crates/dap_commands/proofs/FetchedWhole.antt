@@ -12,7 +12,7 @@ use Rattle.dap_http.proofs.Deliveries.{one-delivery}
 use Rattle.dap_http.proofs.Finals.{gives-more}
 use Rattle.dap_http.specs.Delivered.{Delivers, HasCoding, IsWholeBody}
 use Rattle.dap_http.specs.declared.kind.Kind.TheVariants.{Dods}
-use Rattle.xdr_decode.specs.declared.bad.BadField.{BadField}
+use Rattle.reply_faults.specs.declared.bad.BadField.{BadField}
 use Rattle.dap_client.proofs.Bodies.{body_good, good_is_body}
 use Rattle.dap_client.specs.Answered as answered
 use Rattle.dap_client.specs.Answered.{Tells}
@@ -28,6 +28,7 @@ use Rattle.dap_commands.specs.ClientHalf.{AreReplies, FetchesData, Fetching, Has
 use Rattle.dap_commands.specs.Fetch.{status_of}
 use Rattle.dap_commands.specs.declared.status.Status.{Status}
 use Rattle.dap_commands.specs.declared.status.Status.TheVariants.{Complete, Memory}
+use Rattle.dap_client.proofs.Lasts.{IsWhole}
 
 -- ---- the verdict for a complete outcome
 
@@ -124,7 +125,7 @@ read-so : (bytes more rest text : List ℕ) (ended : Bool) (o : Outcome) → is_
 read-so bytes more rest text ended o is tells s = go (count-is o is) where
   go : (n : ℕ) × (o ≡ outcomes.Complete n) → IsRead bytes more rest text
   go (n, e) = told (subst (λ (x : Outcome). Tells dods_form bytes ended rest text x) e tells) where
-    told : (body : List ℕ) × (v : Verdict) × Delivers bytes ended body rest × IsVerdict dods_form body v × (outcome_of (length body) v ≡ outcomes.Complete n) × (text ≡ answered.text_of n v) → IsRead bytes more rest text
+    told : (body : List ℕ) × (v : Verdict) × Delivers bytes ended body rest × IsVerdict dods_form body v × (outcome_of (length body) v ≡ outcomes.Complete n) × (text ≡ answered.text_shown n v) → IsRead bytes more rest text
     told (body, v, delivers, verdict, out, put) =
         let (d, ts, v_is, count) = complete-good body v (length body) n verdict out in
         let (d2, ts2, v2_is, count2) = complete-good s.first.body s.v s.n n s.first.verdict (sym s.told ∙ e) in
@@ -134,13 +135,10 @@ read-so bytes more rest text ended o is tells s = go (count-is o is) where
           response = record { bytes = body; dataset = d; trees = ts };
           is_response = good_is_body body d ts is_good;
           delivers = subst (λ (x : List ℕ). Delivers (bytes ++ more) true x (rest ++ more)) (sym bodies) (subst (λ (x : List ℕ). Delivers (bytes ++ more) true s.first.body x) rests s.first.delivers);
-          put = put ∙ ap (λ (x : Verdict). answered.text_of n x) v_is ∙ ap (λ (m : ℕ). shown d ts m) (sym count);
+          put = put ∙ ap (λ (x : Verdict). answered.text_shown n x) v_is ∙ ap (λ (m : ℕ). shown d ts m) (sym count);
         }
 
 -- ---- the replies that were read
-
-abbrev IsWhole : Reply → Type 0
-IsWhole r = IsTrue (is_complete r.outcome)
 
 record AreShown (bytes : List ℕ) (replies : List Reply) : Type 0 where
   responses : List Response

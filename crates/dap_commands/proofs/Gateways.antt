@@ -9,6 +9,7 @@ use Rattle.std.proofs.lemmas.List.Elements.{All-cons, All-head, All-nil, All-tai
 use Rattle.std.proofs.lemmas.List.Sums.{sum_by-cons}
 use Rattle.std.specs.Fmt.{decimal}
 use Rattle.std.specs.Io.KnownBytes.{Appends, Consumes}
+use Rattle.dap_types.specs.Limits.{most_body}
 use Rattle.dap_outside.proofs.Fronts.{front_more, front_of}
 use Rattle.dap_outside.specs.Causes.{Rose}
 use Rattle.dap_outside.specs.Links.{IsNew, LinkState}
@@ -25,16 +26,14 @@ use Rattle.dap_gateway.specs.Backed as backing
 use Rattle.dap_gateway.specs.Steady.{IsSteady}
 use Rattle.dap_gateway.specs.Turns.{Asks, IsTurn, Turn, early, hit, miss, no_memory}
 use Rattle.dap_gateway.specs.Turns as turns
-use Rattle.dap_gateway.specs.Upstream.{Dials, IsAsked, IsAskedOver, IsExact, IsUnasked, most_body}
+use Rattle.dap_gateway.specs.Upstream.{Dials, IsAsked, IsAskedOver, IsExact, IsUnasked}
 use Rattle.dap_gateway.specs.declared.relayed.Relayed.{Relayed}
 use Rattle.dap_gateway.specs.declared.relayed.Relayed.TheVariants as endings
 use Rattle.dap_gateway.specs.declared.wanted.Wanted.{Wanted}
 use Rattle.dap_commands.specs.Relay.{AreCounted, CameTo, Follow, Gateway, IsAnsweredAlike, IsAsWithout, IsBacked, IsRelayed, MayHaveFailed, RelaySays, RelayedLink, Relays, RelaysFrom, Standing, TellsWritten, came_back, ending_name, failed_in, failures_in, fault_in, fault_of, faults_in, has_failed, history_of, lines_from, relay_line, source_name}
 use Rattle.dap_commands.specs.declared.status.Status.{Status}
 use Rattle.dap_commands.specs.declared.status.Status.TheVariants.{Complete, Words, Unsaved, Refused, Damaged, BadReply, ReadFault, WriteFault, LinkFault, Memory, ServerError}
-
-abbrev Pairs : Type 0
-Pairs = List (List ℕ × List ℕ)
+use Rattle.dap_gateway.proofs.Coming.{Pairs}
 
 appends-none : (o : Option (List ℕ)) → Appends o o []
 appends-none None = tt

@@ -40,6 +40,7 @@ use Rattle.dap_commands.specs.Headline.{Headline}
 use Rattle.dap_commands.specs.ServerHalf.{Asks, HasResult, IsAccepted, IsFirstCause, IsRefused, IsServed, SaysLine, served_body}
 use Rattle.dap_commands.specs.declared.status.Status.{Status}
 use Rattle.dap_commands.specs.declared.status.Status.TheVariants as status
+use Rattle.both_ends.proofs.Standing.{is-get, no-head}
 
 -- ---- one result of a target
 
@@ -57,9 +58,6 @@ one : (files : Files) (target name query : List ℕ) (r other : Result Text Caus
 one files target name query r other is bytes has given =
     let a : Asked = record { name = name; kind = Dods; query = query } in
     one_result files a other r bytes (answers files target a other is given) (answers files target a r is has)
-
-is-get : (q : Request) → q.method ≡ codes "GET" → is_other q.method ≡ false
-is-get q e = rw e refl
 
 getting : (files : Files) (k : ℕ) (head : RequestHead) (target : List ℕ) (answer : Result Text Cause) → head.method ≡ codes "GET" → head.target ≡ target → IsRequestAnswered files (request k head) answer → Results target files answer
 getting files k head target answer is_get is_target answered =
@@ -115,9 +113,6 @@ put-cause files target why has Out Front Line s (inr e) says = damaged (subst (A
         (e ∙ ap status_of same, subst (λ c. Out (error_object c)) same out)
 
 -- ---- what is carried
-
-no-head : (q : Request) → q.method ≡ codes "GET" → is_head q ≡ false
-no-head q e = rw e refl
 
 carried : (bytes : List ℕ) (k : ℕ) (head : RequestHead) → head.method ≡ codes "GET" → Carries (reply_of (request k head) (Ok (result_text Dods bytes))) bytes
 carried bytes k head is_get =

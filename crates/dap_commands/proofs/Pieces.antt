@@ -9,8 +9,8 @@ use Rattle.dap_outside.specs.Causes.{HasCause}
 use Rattle.dap_outside.specs.Streams.{AppendsFront}
 use Rattle.dap_commands.specs.Lines.{IsSaid, bad_reply_line, server_error_line}
 use Rattle.dap_model.specs.Shown.{shown_byte}
-use Rattle.xdr_decode.specs.Bads.{bad_name}
-use Rattle.xdr_decode.specs.declared.bad.BadField.{BadField}
+use Rattle.reply_faults.specs.Bads.{bad_name}
+use Rattle.reply_faults.specs.declared.bad.BadField.{BadField}
 
 -- all pieces, from the ones before a place, that one, and those behind it
 pieces-at : (pieces : List (Bor (List ℕ))) (i : ℕ) (d : Bor (List ℕ)) → i < length pieces

@@ -9,16 +9,14 @@ use Rattle.dap_server.specs.Results.{left_of}
 use Rattle.dap_client.proofs.Bodies.{good_is_body}
 use Rattle.both_ends.proofs.Names.{target-name}
 use Rattle.dap_client.specs.Verdict.{IsVerdict, bad, dods_form}
-use Rattle.xdr_decode.specs.declared.bad.Bad.TheVariants.{TooLong}
+use Rattle.reply_faults.specs.declared.bad.Bad.TheVariants.{TooLong}
 use Rattle.both_ends.proofs.Replying.{reply_delivers, reply_is_judged}
 use Rattle.both_ends.proofs.Resulting.{left-good, left-long, opened}
 use Rattle.both_ends.specs.Ends.{HoldBytes}
 use Rattle.dap_commands.proofs.ShownWhole.{shown-too-long}
 use Rattle.dap_commands.specs.Headline.{IsReadBack, IsTooLong}
 use Rattle.dap_commands.specs.ServerHalf.{Asks, IsAccepted, served_body}
-
-no-head : (q : Request) → q.method ≡ codes "GET" → is_head q ≡ false
-no-head q e = rw e refl
+use Rattle.both_ends.proofs.Standing.{no-head}
 
 pub read-back : (target query : List ℕ) (files : Files) (s : Stored) (c : Constraint) → Asks target query files s → IsAccepted query s c → HoldBytes files → length (served_body s c) < 2 ^ 40 → IsReadBack s c
 read-back target query files s c a (spells, none, small) hold short =

@@ -12,7 +12,7 @@ use Rattle.dap_outside.specs.Links.{LinkState}
 use Rattle.dap_http.specs.Delivered.{Delivers}
 use Rattle.dap_http.specs.Urls.{UrlParts}
 use Rattle.dap_http.specs.declared.kind.Kind.TheVariants.{Dods}
-use Rattle.xdr_decode.specs.declared.bad.Bad.TheVariants.{TooLong}
+use Rattle.reply_faults.specs.declared.bad.Bad.TheVariants.{TooLong}
 use Rattle.dap_client.specs.Fetched.{DialState}
 use Rattle.dap_client.specs.Verdict.{Verdict, IsVerdict, dods_form}
 use Rattle.dap_commands.specs.Fetch.{FetchSays}

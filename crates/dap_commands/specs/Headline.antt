@@ -18,7 +18,7 @@ use Rattle.dap_server.specs.Files.{Files, Stored}
 use Rattle.dap_server.specs.Replies.{reply_of, request}
 use Rattle.dap_server.specs.Results.{Opens, left_of}
 use Rattle.dap_server.specs.Results as results
-use Rattle.xdr_decode.specs.declared.bad.Bad.TheVariants.{TooLong}
+use Rattle.reply_faults.specs.declared.bad.Bad.TheVariants.{TooLong}
 use Rattle.dap_client.specs.Replies.{IsReplyVerdict}
 use Rattle.dap_client.specs.Verdict.{IsVerdict, bad, dods_form}
 use Rattle.both_ends.specs.Ends.{HoldBytes}

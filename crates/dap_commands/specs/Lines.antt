@@ -8,8 +8,8 @@ use Rattle.dap_outside.specs.Causes.{Rose}
 use Rattle.dap_outside.specs.Streams.{AppendsFront}
 use Rattle.dap_commands.specs.declared.status.Status.{Status}
 use Rattle.dap_commands.specs.declared.status.Status.TheVariants.{Complete, Words, Unsaved, Refused, Damaged, BadReply, ReadFault, WriteFault, LinkFault, Memory, ServerError}
-use Rattle.xdr_decode.specs.Bads.{bad_name}
-use Rattle.xdr_decode.specs.declared.bad.BadField.{BadField}
+use Rattle.reply_faults.specs.Bads.{bad_name}
+use Rattle.reply_faults.specs.declared.bad.BadField.{BadField}
 
 -- with which the program ends
 abbrev pub number_of : Status → ℕ

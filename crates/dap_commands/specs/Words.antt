@@ -1,6 +1,7 @@
 -- The words of a command line (this project's).
 use Rattle.std.specs.Prelude.{◌≡◌, ℕ, ◌^◌, ◌<◌, ◌≤◌, List, [], ◌∷◌, ◌⊎◌, IsTrue, codes, length, Some}
 use Rattle.std.specs.Str.Parse.{digits_value}
+use Rattle.dap_types.specs.Limits.{most_room}
 use Rattle.dap_http.specs.Urls.{UrlParts, is_host, url_of}
 use Rattle.dap_http.specs.declared.kind.Kind.{Kind}
 use Rattle.dap_http.specs.declared.kind.Kind.TheVariants as kinds
@@ -47,7 +48,7 @@ abbrev pub AreRelay : List (List ℕ) → List ℕ → ℕ → ℕ → ℕ → �
 AreRelay words host upport port room requests =
     (upport_word : List ℕ) × (port_word : List ℕ) × (room_word : List ℕ) × (requests_word : List ℕ)
     × (words ≡ codes "relay" ∷ host ∷ upport_word ∷ port_word ∷ room_word ∷ requests_word ∷ [])
-    × IsTrue (is_host host) × IsNumber 65535 upport_word upport × IsNumber 65535 port_word port × IsNumber 1024 room_word room × IsNumber 1000000000 requests_word requests
+    × IsTrue (is_host host) × IsNumber 65535 upport_word upport × IsNumber 65535 port_word port × IsNumber most_room room_word room × IsNumber 1000000000 requests_word requests
 
 -- the word of a kind that is fetched
 abbrev pub IsKindWord : List ℕ → Kind → Type 0

@@ -6,7 +6,7 @@ ghost use Rattle.dap_commands.specs.Words.{IsKindWord, Reads};
 
 use crate::numbers::{number_to, seed_of};
 use dap_http::Kind;
-use dap_types::Name;
+use dap_types::{Name, limits};
 
 /// What the words after the program's name ask for.
 #[derive(Clone, Copy)]
@@ -160,7 +160,7 @@ fn relay_of<'a>(host: &'a str, upport: &str, port: &str, room: &str, requests: &
     }
     match number_to(upport, 65_535) {
         Some(upport) => match number_to(port, 65_535) {
-            Some(port) => match number_to(room, 1_024) {
+            Some(port) => match number_to(room, limits::MOST_ROOM) {
                 Some(room) => match number_to(requests, 1_000_000_000) {
                     Some(requests) => Command::Relay {
                         host,

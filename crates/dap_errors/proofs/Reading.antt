@@ -3,13 +3,13 @@ use Rattle.std.proofs.Common.{◌≡◌, ℕ, ◌+◌, ◌≤◌, List, length, 
 use Rattle.text_tokens.proofs.Machines as machines
 use Rattle.dap_errors.specs.Object.{signs, IsObject}
 use Rattle.dap_errors.specs.inner.Machine.{Start, Ended, step, IsOpenState}
-use Rattle.dap_errors.specs.Reading.{front, limit, EndsAt, IsEnd, IsStray, IsUnended, ErrorOf, IsBad}
+use Rattle.dap_errors.specs.Reading.{front, limit, ObjectEndsAt, IsEnd, IsStray, IsUnended, ErrorOf, IsBad}
 use Rattle.dap_errors.specs.inner.Standing.{StandsAt, StopsAt}
 use Rattle.dap_errors.specs.declared.object.ErrorObject.{ErrorObject}
 use Rattle.dap_errors.specs.declared.object.Stop.TheVariants.{Bad, End}
 use Rattle.dap_errors.proofs.Live.{machine}
 
-ends_at : (text : List ℕ) (error : ErrorObject) (behind : ℕ) → StandsAt (front text) behind (Ended error) → EndsAt text behind error
+ends_at : (text : List ℕ) (error : ErrorObject) (behind : ℕ) → StandsAt (front text) behind (Ended error) → ObjectEndsAt text behind error
 ends_at text error behind st = machines.spells_of signs IsObject step Start Ended IsOpenState machine (front text) behind error st
 
 pub object_of : (text : List ℕ) (error : ErrorObject) (behind : ℕ) → StandsAt (front text) behind (Ended error) → IsEnd (drop behind text) → ErrorOf text error

@@ -5,14 +5,11 @@ use Rattle.viable.proofs.Tests.{and_parts}
 use Rattle.viable.proofs.Runs.{run_unique}
 use Rattle.text_tokens.specs.Tokens.{is_white}
 use Rattle.dap_errors.specs.Reading.{IsEnd, IsStray}
+use Rattle.text_tokens.proofs.Unique.{false_true}
 
 has_byte : (a : List ℕ) (c : ℕ) (b : List ℕ) → IsTrue (list_all is_white (a ++ c ∷ b)) → IsTrue (is_white c)
 has_byte [] c b h = (and_parts _ _ h).0
 has_byte (x ∷ a) c b h = has_byte a c b (and_parts _ _ h).1
-
-false_true : (b : Bool) → b ≡ true → not b ≡ true → ⊥
-false_true true e n = cc
-false_true false e n = cc
 
 -- white space up to a byte that is none
 head_same : (a b : List ℕ) (c d : ℕ) (x y : List ℕ) → IsTrue (list_all is_white a) → IsTrue (list_all is_white b) → IsTrue (not (is_white c)) → IsTrue (not (is_white d)) → a ++ c ∷ x ≡ b ++ d ∷ y → (a ≡ b) × (c ≡ d) × (x ≡ y)

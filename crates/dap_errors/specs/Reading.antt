@@ -28,13 +28,13 @@ IsStray bytes n = (trail rest : List ℕ) × (b : ℕ) × (bytes ≡ trail ++ b 
     ⊎ ((before after : List ℕ) × IsTrue (list_all is_white before) × IsTrue (list_all is_white after) × (trail ≡ before ++ byte ";" ∷ after)))
 
 -- an object of this code and message ends at a place
-abbrev pub EndsAt : List ℕ → ℕ → ErrorObject → Type 0
-EndsAt bytes behind error = SpellsTo signs IsObject (front bytes) behind error
+abbrev pub ObjectEndsAt : List ℕ → ℕ → ErrorObject → Type 0
+ObjectEndsAt bytes behind error = SpellsTo signs IsObject (front bytes) behind error
 
 -- the text is an Error object of this code and message
 pub record ErrorOf (bytes : List ℕ) (error : ErrorObject) : Type 0 where
   pub behind : ℕ
-  pub ends : EndsAt bytes behind error
+  pub ends : ObjectEndsAt bytes behind error
   pub end : IsEnd (drop behind bytes)
 
 -- the first byte behind an Error object that may not stand there
@@ -42,7 +42,7 @@ pub record BadEnd (bytes : List ℕ) (place : ℕ) : Type 0 where
   pub behind : ℕ
   pub error : ErrorObject
   pub count : ℕ
-  pub ends : EndsAt bytes behind error
+  pub ends : ObjectEndsAt bytes behind error
   pub stray : IsStray (drop behind bytes) count
   pub place_is : place ≡ behind + count
 

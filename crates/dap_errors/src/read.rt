@@ -9,10 +9,11 @@ use crate::fields::object;
 use crate::object::Stop;
 use crate::stray::stray;
 use crate::{ErrorObject, ErrorRefusal};
+use dap_types::limits;
 use std::alloc::Global;
 
 /// Within so many bytes an object has to end.
-const LIMIT: usize = 65536;
+const LIMIT: usize = limits::MOST_ERROR;
 
 fn front_of(text: &[u8]) -> &[u8]
     ensures { result.now ≡ front text.now }

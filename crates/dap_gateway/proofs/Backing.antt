@@ -12,10 +12,12 @@ use Rattle.std.proofs.lemmas.List.Elements.{All-append, All-cons, All-contains, 
 use Rattle.std.proofs.lemmas.Slice.Eq.{bytes_eq-Decides}
 use Rattle.lru.proofs.CallerLemmas.{Contains-promoted}
 use Rattle.lru.specs.LruCache.{promoted}
+use Rattle.target_names.specs.Names.{is_name}
+use Rattle.dap_types.specs.Limits.{most_kept}
 use Rattle.dap_outside.specs.Links.{IsNew, LinkState}
 use Rattle.dap_http.proofs.Deliveries.{delivery-more}
 use Rattle.dap_http.specs.Delivered.{Delivers}
-use Rattle.dap_http.specs.Targets.{Asked, is_name}
+use Rattle.dap_http.specs.Targets.{Asked}
 use Rattle.dap_client.proofs.Only.{left_over, nothing_over}
 use Rattle.dap_client.specs.Fetched.{DialState}
 use Rattle.dap_client.specs.Replies.{form_of}
@@ -24,7 +26,6 @@ use Rattle.dap_client.specs.declared.body_outcome.BodyOutcome.{BodyOutcome}
 use Rattle.dap_client.specs.declared.body_outcome.BodyOutcome.TheVariants.{Good, ReadFault}
 use Rattle.dap_gateway.proofs.Keys.{no-front}
 use Rattle.dap_gateway.specs.Backed.{AreBacked, Exchange, IsBacked, IsGoodReply, IsLast, all_of, exchange_of, history}
-use Rattle.dap_gateway.specs.Turns.{most_kept}
 use Rattle.dap_gateway.specs.Upstream.{Dials, IsAsked, IsAskedOver, IsUnasked, key_of}
 
 abbrev Pair : Type 0

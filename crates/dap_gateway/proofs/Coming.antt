@@ -20,7 +20,7 @@ use Rattle.dap_client.specs.Fetched.{DialState}
 use Rattle.dap_client.specs.Replies.{form_of}
 use Rattle.dap_client.specs.declared.body_outcome.BodyOutcome.{BodyOutcome}
 use Rattle.dap_client.specs.declared.body_outcome.BodyOutcome.TheVariants.{Memory}
-use Rattle.dap_gateway.specs.Given.{Given, given_for, refused, reply, status_of, text}
+use Rattle.dap_gateway.specs.Given.{Given, given_for, refused, reply, given_status, text}
 use Rattle.dap_gateway.specs.Turns.{ComesTo, IsAlone, IsEarly, MayPut, Puts, Standing, Wants, asked_of, early, hit, is_head, is_head_method, kept_with, miss, no_memory, wanted_of}
 use Rattle.dap_gateway.specs.declared.wanted.Wanted.{Wanted}
 use Rattle.dap_gateway.specs.Upstream.{Dials}
@@ -29,7 +29,7 @@ use Rattle.dap_gateway.specs.declared.relayed.Relayed.{Relayed}
 abbrev Told : Type 0
 Told = Option (List ℕ)
 
-abbrev Pairs : Type 0
+abbrev pub Pairs : Type 0
 Pairs = List (List ℕ × List ℕ)
 
 -- ---- before anything was taken
@@ -92,7 +92,7 @@ memory-comes state NotCalled host port room bytes before now a b result h alone 
 }
 
 pub early-comes : {W : Type 0} (state : W → LinkState) (NotCalled : Type 0) (host : List ℕ) (port room : ℕ) (bytes : List ℕ) (before now : Standing) (a b : DialState W) (result : Relayed) (h : Bool) (given : Given) → IsEarly bytes h given
-    → MayPut (reply h 1 given) (status_of given) h before.written now.written result → NotCalled → now.pairs ≡ before.pairs → ComesTo state NotCalled host port room bytes before now a b result
+    → MayPut (reply h 1 given) (given_status given) h before.written now.written result → NotCalled → now.pairs ≡ before.pairs → ComesTo state NotCalled host port room bytes before now a b result
 early-comes state NotCalled host port room bytes before now a b result h given is_early (inl puts) same is = record {
   turn = early h given;
   is_turn = is_early;
@@ -128,7 +128,7 @@ hit-comes {W} state NotCalled host port room bytes before now a b result w k1 k2
 
 abbrev PutsMiss : Wanted → ℕ → Standing → Standing → Relayed → BodyOutcome → List ℕ → Type 0
 PutsMiss w room before now result outcome key =
-    ((outcome ≢ Memory) × Puts (reply w.head_alone w.minor (given_for w.kind outcome)) (status_of (given_for w.kind outcome)) false before.written now.written result
+    ((outcome ≢ Memory) × Puts (reply w.head_alone w.minor (given_for w.kind outcome)) (given_status (given_for w.kind outcome)) false before.written now.written result
     × (now.pairs ≡ kept_with room key (given_for w.kind outcome) before.pairs))
     ⊎ (Puts (reply w.head_alone 1 (refused OutOfMemory)) 503 false before.written now.written result × (now.pairs ≡ before.pairs))
 

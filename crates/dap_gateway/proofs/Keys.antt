@@ -4,10 +4,12 @@ use Rattle.std.specs.Prelude.{IsTrue, codes, ◌==◌}
 use Rattle.std.specs.List.{list_all, onto_first, slice_split}
 use Rattle.std.specs.Fmt.{digit_glyph}
 use Rattle.std.proofs.lemmas.Bool.{and_from, and_parts, eqb-true, false≢true}
-use Rattle.dap_http.specs.Targets.{Asked, is_name, is_name_byte, is_segment, is_slash, suffix_of}
+use Rattle.target_names.specs.Names.{is_name, is_name_byte, is_segment, is_slash}
+use Rattle.dap_http.specs.Targets.{Asked, suffix_of}
 use Rattle.dap_http.specs.Texts.{close_line, escaped, escaped_byte, host_lines, is_plain, query_text, request_text}
 use Rattle.dap_http.specs.declared.kind.Kind.{Kind}
 use Rattle.dap_http.specs.declared.kind.Kind.TheVariants.{Dds, Das, Dods, Ver}
+use Rattle.target_names.proofs.NameText.{onto-plain, segments-plain}
 
 -- ---- bytes without a line feed
 
@@ -41,21 +43,6 @@ first-feed (x ∷ xs) ys (u ∷ us) vs a b e =
     (ap (λ y. y ∷ xs) one ∙ ap (λ ws. u ∷ ws) same, rest)
 
 -- ---- the first line of a request has none but its own
-
-segment-plain : (p : List ℕ) → is_segment p ≡ true → list_all is_name_byte p ≡ true
-segment-plain [] e = absurd (false≢true e)
-segment-plain (b ∷ bytes) e = (and_parts _ _ e).1
-
-segments-plain : (ps : List (List ℕ)) → list_all is_segment ps ≡ true → list_all (list_all is_name_byte) ps ≡ true
-segments-plain [] e = refl
-segments-plain (p ∷ ps) e = let (a, b) = and_parts _ _ e in and_from _ _ (segment-plain p a) (segments-plain ps b)
-
-onto-plain : (x : ℕ) (ps : List (List ℕ)) → list_all (list_all is_name_byte) (onto_first x ps) ≡ true → (is_name_byte x ≡ true) × (list_all (list_all is_name_byte) ps ≡ true)
-onto-plain x [] e = ((and_parts _ _ (and_parts _ _ e).0).0, refl)
-onto-plain x (p ∷ ps) e =
-    let (a, b) = and_parts _ _ e in
-    let (own, others) = and_parts _ _ a in
-    (own, and_from _ _ others b)
 
 -- each byte of a name is a slash or one of a segment
 pub record IsOfNames (p : ℕ → Bool) : Type 0 where

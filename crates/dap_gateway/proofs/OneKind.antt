@@ -4,7 +4,8 @@ use Rattle.std.specs.Prelude.{IsTrue, codes, ◌==◌}
 use Rattle.std.specs.List.{list_all}
 use Rattle.std.proofs.Math.Seq.{drop-append_seam}
 use Rattle.std.proofs.lemmas.Bool.{and_from, and_parts, false≢true}
-use Rattle.dap_http.specs.Targets.{Asked, is_name, is_name_byte, is_slash, suffix_of}
+use Rattle.target_names.specs.Names.{is_name, is_name_byte, is_slash}
+use Rattle.dap_http.specs.Targets.{Asked, suffix_of}
 use Rattle.dap_http.specs.Texts.{escaped, query_text}
 use Rattle.dap_http.specs.declared.kind.Kind.{Kind}
 use Rattle.dap_http.specs.declared.kind.Kind.TheVariants.{Dds, Das, Dods, Ver}

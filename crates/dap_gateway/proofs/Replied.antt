@@ -5,6 +5,7 @@ use Rattle.std.specs.Map.{lookup}
 use Rattle.std.specs.Str.{bytes_eq}
 use Rattle.std.proofs.lemmas.List.Elements.{All-head, All-tail, Contains-append_right}
 use Rattle.std.proofs.lemmas.Slice.Eq.{bytes_eq-Decides}
+use Rattle.dap_types.specs.Limits.{most_body, most_kept}
 use Rattle.dap_client.specs.Held.{IsLong, IsTold}
 use Rattle.dap_client.specs.Replies.{form_of}
 use Rattle.dap_client.specs.Verdict.{Form}
@@ -15,8 +16,7 @@ use Rattle.dap_gateway.proofs.OneKind.{same-kind}
 use Rattle.dap_gateway.proofs.Worth.{has-name}
 use Rattle.dap_gateway.specs.Backed.{Exchange, IsBacked, IsGoodReply, IsLast}
 use Rattle.dap_gateway.specs.Steady.{HitIsMiss, HitIsReplied, HitIsTold}
-use Rattle.dap_gateway.specs.Turns.{most_kept}
-use Rattle.dap_gateway.specs.Upstream.{IsExact, most_body}
+use Rattle.dap_gateway.specs.Upstream.{IsExact}
 use Rattle.dap_gateway.specs.declared.wanted.Wanted.{Wanted}
 
 abbrev Pair : Type 0

@@ -4,8 +4,10 @@ use Rattle.std.specs.Prelude.{IsSome, IsTrue, nat_le}
 use Rattle.std.specs.Map.{lookup}
 use Rattle.std.specs.Str.{bytes_eq}
 use Rattle.std.proofs.lemmas.Bool.{leb-true}
+use Rattle.target_names.specs.Names.{is_name}
+use Rattle.dap_types.specs.Limits.{most_kept}
 use Rattle.dap_outside.specs.Links.{IsNew, LinkState}
-use Rattle.dap_http.specs.Targets.{Asked, asked_in, is_name, is_target_long, kind_of, kinded_in, named_in, path_of, query_of, target_of, without_origin, without_slash, without_suffix}
+use Rattle.dap_http.specs.Targets.{Asked, asked_in, is_target_long, kind_of, kinded_in, named_in, path_of, query_of, target_of, without_origin, without_slash, without_suffix}
 use Rattle.dap_http.specs.declared.kind.Kind.{Kind}
 use Rattle.dap_client.specs.Fetched.{DialState}
 use Rattle.dap_client.specs.Replies.{form_of}
@@ -14,7 +16,7 @@ use Rattle.dap_client.specs.declared.body_outcome.BodyOutcome.TheVariants as out
 use Rattle.dap_gateway.proofs.Backing.{backed-dialled, backed-kept, backed-promoted}
 use Rattle.dap_gateway.specs.Backed.{AreBacked, Exchange, history}
 use Rattle.dap_gateway.specs.Given.{given_for}
-use Rattle.dap_gateway.specs.Turns.{Asks, ComesTo, IsTurn, Standing, Turn, Wants, early, hit, kept_with, miss, most_kept, no_memory, pairs_after}
+use Rattle.dap_gateway.specs.Turns.{Asks, ComesTo, IsTurn, Standing, Turn, Wants, early, hit, kept_with, miss, no_memory, pairs_after}
 use Rattle.dap_gateway.specs.declared.wanted.Wanted.{Wanted}
 use Rattle.dap_gateway.specs.Upstream.{Dials}
 use Rattle.dap_gateway.specs.declared.relayed.Relayed.{Relayed}

@@ -1,14 +1,15 @@
 -- What a cache is worth: each body that it keeps is the good body of the last reply to its request.
 use Rattle.std.specs.Prelude.{◌≡◌, ◌≢◌, ◌≤◌, ℕ, ⊤, true, List, [], ◌∷◌, ◌++◌, length, All, map, IsTrue, Option, Some, None}
 use Rattle.std.specs.Option.{option_and_then, option_map}
+use Rattle.target_names.specs.Names.{is_name}
+use Rattle.dap_types.specs.Limits.{most_kept}
 use Rattle.dap_outside.specs.Links.{LinkState}
 use Rattle.dap_http.specs.Delivered.{Delivers}
-use Rattle.dap_http.specs.Targets.{Asked, is_name}
+use Rattle.dap_http.specs.Targets.{Asked}
 use Rattle.dap_client.specs.Held.{IsToldOf}
 use Rattle.dap_client.specs.Replies.{form_of}
 use Rattle.dap_client.specs.Verdict.{Form}
 use Rattle.dap_client.specs.declared.body_outcome.BodyOutcome.TheVariants.{Good}
-use Rattle.dap_gateway.specs.Turns.{most_kept}
 use Rattle.dap_gateway.specs.Upstream.{key_of}
 
 -- a link that came back: where it went to, what was written on it, and its whole input, which is its reply's bytes

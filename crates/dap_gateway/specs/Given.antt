@@ -20,10 +20,10 @@ pub data Given : Type 0 where
   refused : Cause → Given
 
 -- the other server's Error objects go out as a bad request
-abbrev pub status_of : Given → ℕ
-status_of (text kind body) = 200
-status_of (server_error object) = 400
-status_of (refused cause) = http_status cause
+abbrev pub given_status : Given → ℕ
+given_status (text kind body) = 200
+given_status (server_error object) = 400
+given_status (refused cause) = http_status cause
 
 -- the head, to a request of this minor version
 abbrev pub head_of : ℕ → Given → List ℕ

@@ -6,6 +6,7 @@ use Rattle.std.specs.Str.{bytes_eq}
 use Rattle.std.specs.Io.KnownBytes.{Appends}
 use Rattle.httparse.specs.Grammar.{RequestHead}
 use Rattle.lru.specs.LruCache.{promoted}
+use Rattle.dap_types.specs.Limits.{most_kept}
 use Rattle.dap_errors.specs.declared.cause.Cause.TheVariants.{BadMethod, BadRequest, BadTarget, HeadTooLong, OutOfMemory}
 use Rattle.dap_outside.specs.Links.{LinkState}
 use Rattle.dap_http.specs.Frames.{IsProperFront, framed}
@@ -20,7 +21,7 @@ use Rattle.dap_client.specs.Fetched.{DialState}
 use Rattle.dap_client.specs.Replies.{form_of}
 use Rattle.dap_client.specs.declared.body_outcome.BodyOutcome.{BodyOutcome}
 use Rattle.dap_client.specs.declared.body_outcome.BodyOutcome.TheVariants.{Memory}
-use Rattle.dap_gateway.specs.Given.{Given, given_for, refused, reply, server_error, status_of, text}
+use Rattle.dap_gateway.specs.Given.{Given, given_for, refused, reply, server_error, given_status, text}
 use Rattle.dap_gateway.specs.Upstream.{Dials, key_of}
 use Rattle.dap_gateway.specs.declared.ready.Ready.{Ready}
 use Rattle.dap_gateway.specs.declared.relayed.Relayed.{Relayed}
@@ -96,18 +97,14 @@ reply_of (miss w outcome) = reply w.head_alone w.minor (given_for w.kind outcome
 reply_of (no_memory head_alone) = reply head_alone 1 (refused OutOfMemory)
 
 abbrev pub status_in : Turn → ℕ
-status_in (early head_alone given) = status_of given
+status_in (early head_alone given) = given_status given
 status_in (hit w body) = 200
-status_in (miss w outcome) = status_of (given_for w.kind outcome)
+status_in (miss w outcome) = given_status (given_for w.kind outcome)
 status_in (no_memory head_alone) = 503
 
 abbrev pub is_hit : Turn → Bool
 is_hit (hit w body) = true
 is_hit turn = false
-
--- the bytes of a body that is kept, at most
-abbrev pub most_kept : ℕ
-most_kept = 1048576
 
 -- A body that is small is put in front, where a full cache drops its last pair; on a hit the pair moves to the front; in
 -- every other case the cache is unchanged.

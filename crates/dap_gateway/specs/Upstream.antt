@@ -2,6 +2,7 @@
 use Rattle.std.specs.Prelude.{◌≡◌, ℕ, ◌⊎◌, true, List, [], ◌∷◌, ◌++◌, Some, IsTrue}
 use Rattle.std.specs.Option.{option_map}
 use Rattle.std.specs.Io.KnownBytes.{Appends, Consumes, IsAtEnd}
+use Rattle.dap_types.specs.Limits.{most_body}
 use Rattle.dap_outside.specs.Causes.{Rose}
 use Rattle.dap_outside.specs.Links.{IsNew, LinkState}
 use Rattle.dap_outside.specs.Streams.{AppendsFront}
@@ -9,7 +10,7 @@ use Rattle.dap_http.specs.Delivered.{BreaksOff, Delivers, HasCoding}
 use Rattle.dap_http.specs.Targets.{Asked}
 use Rattle.dap_http.specs.Texts.{request_text}
 use Rattle.dap_http.specs.declared.coding.Coding.{Coding}
-use Rattle.xdr_decode.specs.declared.bad.BadField.{BadField}
+use Rattle.reply_faults.specs.declared.bad.BadField.{BadField}
 use Rattle.dap_client.specs.Fetched.{DialState}
 use Rattle.dap_client.specs.Held.{IsLong, IsTold, Says, told_of}
 use Rattle.dap_client.specs.Replies.{BringsFirst, StopsInTime, first_of}
@@ -17,10 +18,6 @@ use Rattle.dap_client.specs.Shows.{Takes}
 use Rattle.dap_client.specs.Verdict.{Form, Verdict, IsVerdict}
 use Rattle.dap_client.specs.declared.body_outcome.BodyOutcome.{BodyOutcome}
 use Rattle.dap_client.specs.declared.body_outcome.BodyOutcome.TheVariants.{TooLarge, ReadFault}
-
--- the bytes of a body that are read of a reply
-abbrev pub most_body : ℕ
-most_body = 67108864
 
 -- the request for what a target asks for. Its path is `/` and the target's name
 abbrev pub key_of : List ℕ → ℕ → Asked → List ℕ

@@ -5,7 +5,7 @@ ghost use Rattle.std.specs.Map.{lookup};
 ghost use Rattle.std.specs.Str.{bytes_eq};
 ghost use Rattle.lru.specs.LruCache.{promoted};
 ghost use Rattle.dap_outside.specs.Causes.{Rose};
-ghost use Rattle.dap_gateway.specs.Given.{given_for, refused, reply, server_error, status_of, text};
+ghost use Rattle.dap_gateway.specs.Given.{given_for, refused, reply, server_error, given_status, text};
 ghost use Rattle.dap_gateway.specs.Pairs.{pairs, room_of};
 ghost use Rattle.dap_gateway.specs.Turns.{IsReady, Puts, kept_with, ready_text};
 
@@ -17,11 +17,11 @@ use crate::wanted::Wanted;
 use dap_client::BodyOutcome;
 use dap_errors::Cause;
 use dap_outside::Sink;
-use dap_types::{Bytes, Memory};
+use dap_types::{Bytes, Memory, limits};
 use std::alloc::Global;
 
 /// The bytes of a body that is kept, at most.
-const MOST_KEPT: usize = 1_048_576;
+const MOST_KEPT: usize = limits::MOST_KEPT;
 
 /// Puts a reply with the body that is kept for a request.
 fn put_kept<O: Sink>(
@@ -140,7 +140,7 @@ pub fn relay_outcome<O: Sink>(
     outcome: BodyOutcome,
 ) -> Relayed
     requires { lookup (bytes_eq wanted.now.key) (pairs cache.old) ≡ None }
-    ensures puts { ((outcome ≢ BodyOutcome.Memory) × Puts (reply wanted.now.head_alone wanted.now.minor (given_for wanted.now.kind outcome)) (status_of (given_for wanted.now.kind outcome)) false (O.written out.old) (O.written out.new) result
+    ensures puts { ((outcome ≢ BodyOutcome.Memory) × Puts (reply wanted.now.head_alone wanted.now.minor (given_for wanted.now.kind outcome)) (given_status (given_for wanted.now.kind outcome)) false (O.written out.old) (O.written out.new) result
         × (pairs cache.new ≡ kept_with (room_of cache.old) wanted.now.key (given_for wanted.now.kind outcome) (pairs cache.old)))
         ⊎ (Puts (reply wanted.now.head_alone 1 (refused Cause.OutOfMemory)) 503 false (O.written out.old) (O.written out.new) result × (pairs cache.new ≡ pairs cache.old)) }
     ensures fault { result ≡ Relayed.WriteFault → Rose (O.put_faults out.old) (O.put_faults out.new) }

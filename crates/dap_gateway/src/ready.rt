@@ -11,11 +11,11 @@ ghost use Rattle.dap_gateway.specs.Turns.{Puts, ready_text, rest_text};
 use crate::relayed::Relayed;
 use dap_http::{Framer, Kind, put_framed, reply_head};
 use dap_outside::{Failed, MemSink, Sink, put_all};
-use dap_types::{Bytes, List, Memory};
+use dap_types::{Bytes, List, Memory, limits};
 use std::alloc::Global;
 
 /// The bytes of a body that goes out in one piece with its head, at most.
-const SMALL: usize = 65_536;
+const SMALL: usize = limits::MOST_PIECE;
 /// Room for a head and such a body, framed.
 const ROOM: u32 = 131_072;
 

@@ -10,12 +10,12 @@ ghost use Rattle.dap_gateway.specs.Upstream.{Dials, IsAsked, IsUnasked, key_of};
 use dap_client::{BodyOutcome, read_body};
 use dap_http::{Kind, Target, Url, request_bytes};
 use dap_outside::{Dial, Failed, Link, put_all};
-use dap_types::{Bytes, Memory};
+use dap_types::{Bytes, Memory, limits};
 use std::alloc::Global;
 use std::str;
 
 /// How many bytes of a body are read.
-const MOST_BODY: u32 = 67_108_864;
+const MOST_BODY: u32 = limits::MOST_BODY;
 
 /// `/` and a name.
 fn path_of(alloc: Global, name: &str) -> Result<Bytes, Memory>

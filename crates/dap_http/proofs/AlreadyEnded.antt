@@ -2,7 +2,7 @@
 use Rattle.std.proofs.Common.{◌≡◌, ℕ, ◌≤◌, ◌<◌, ◌⊎◌, false, List, ◌++◌, length, take, sym, ap, ◌∙◌, arith, length-append, inl, inr, subst}
 use Rattle.std.proofs.Math.Seq.{take-append_seam}
 use Rattle.std.proofs.lemmas.Bool.{cases_lt, false≢true}
-use Rattle.dap_http.specs.After.{StandsAfter}
+use Rattle.dap_http.specs.After.{UnframerStandsAfter}
 use Rattle.dap_http.specs.Codings.{Ends, Goes}
 use Rattle.dap_http.specs.Delivered.{IsWholeBody}
 use Rattle.dap_http.specs.Following.{Follows, body_coding, waiting}
@@ -26,8 +26,8 @@ behind-used c b piece framed rest body goes ends e = go (cases_lt (length framed
       (length x, omega (arith, ap length tail, length-append x rest), is ∙ ap (λ t. b ++ t) (sym (ap (take (length x)) tail ∙ take-append_seam x rest)))
 
 pub already-ended : (p : BodyParts) (bytes body rest piece : List ℕ) (answer : Unframed) → waiting p ≡ piece → Follows p bytes body → IsWholeBody (body_coding p) bytes false body rest
-    → ((b d : List ℕ) (n : ℕ) → StandsAfter p.unframer b → Goes (body_coding p) b d → n ≤ length piece → Ends (body_coding p) (b ++ take n piece) d → answer ≡ unframed.End n)
-    → ((b d : List ℕ) → StandsAfter p.unframer b → Ends (body_coding p) b d → answer ≡ unframed.End 0) → (n : ℕ) × (answer ≡ unframed.End n)
+    → ((b d : List ℕ) (n : ℕ) → UnframerStandsAfter p.unframer b → Goes (body_coding p) b d → n ≤ length piece → Ends (body_coding p) (b ++ take n piece) d → answer ≡ unframed.End n)
+    → ((b d : List ℕ) → UnframerStandsAfter p.unframer b → Ends (body_coding p) b d → answer ≡ unframed.End 0) → (n : ℕ) × (answer ≡ unframed.End n)
 already-ended p bytes body rest piece answer is follows (inr (codes, ended, all, none)) says again = absurd (false≢true ended)
 already-ended p bytes body rest piece answer is follows (inl (framed, ends, parts)) says again = go (opened p bytes body follows) where
   go : Opened p bytes body → (n : ℕ) × (answer ≡ unframed.End n)

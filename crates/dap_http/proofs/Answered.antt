@@ -4,7 +4,7 @@ use Rattle.std.specs.Prelude.{IsTrue}
 use Rattle.std.proofs.Math.Seq.{take-add, take-length}
 use Rattle.std.proofs.lemmas.Bool.{true≢false, cases_lt}
 use Rattle.std.proofs.lemmas.List.{length-take-le, take-append-drop}
-use Rattle.dap_http.specs.After.{StandsAfter, used_of}
+use Rattle.dap_http.specs.After.{UnframerStandsAfter, used_of}
 use Rattle.dap_http.specs.inner.Tracking.{Counts, IsRight, Lands, Passes, Tracks}
 use Rattle.dap_http.specs.inner.Steps.{Known, is_open, run, start, stops}
 use Rattle.dap_http.specs.declared.chunk_step.At.{At}
@@ -76,15 +76,15 @@ landed-tracks k v piece More (tracks, same, at) = tracks
 landed-tracks k v piece (End used) (within, tracks, same, at) = tracks
 landed-tracks k v piece (Refused bad) (tracks, same, at, kind, place) = tracks
 
-pub chunked-right : (u v : Unframer) (bytes piece : List ℕ) (answer : Unframed) → u.coding ≡ Chunked → StandsAfter u bytes → ((k : Known) → Tracks u k → Lands k v piece answer)
+pub chunked-right : (u v : Unframer) (bytes piece : List ℕ) (answer : Unframed) → u.coding ≡ Chunked → UnframerStandsAfter u bytes → ((k : Known) → Tracks u k → Lands k v piece answer)
     → v.used ≡ u.used + length (used_of answer piece) → IsRight u.coding bytes piece answer
 chunked-right u v bytes piece answer is stands lands count =
     let (tracks, all) = stands-in u Chunked bytes is stands in
     subst (λ c. IsRight c bytes piece answer) (sym is)
     (right bytes piece v answer (lands (run start bytes) tracks) (omega (arith, count, all)) (omega (arith, tracks.used, all)))
 
-pub chunked-stands : (u v : Unframer) (bytes piece : List ℕ) (answer : Unframed) → u.coding ≡ Chunked → v.coding ≡ u.coding → StandsAfter u bytes → ((k : Known) → Tracks u k → Lands k v piece answer)
-    → v.used ≡ u.used + length (used_of answer piece) → StandsAfter v (bytes ++ used_of answer piece)
+pub chunked-stands : (u v : Unframer) (bytes piece : List ℕ) (answer : Unframed) → u.coding ≡ Chunked → v.coding ≡ u.coding → UnframerStandsAfter u bytes → ((k : Known) → Tracks u k → Lands k v piece answer)
+    → v.used ≡ u.used + length (used_of answer piece) → UnframerStandsAfter v (bytes ++ used_of answer piece)
 chunked-stands u v bytes piece answer is same stands lands count =
     let (tracks, all) = stands-in u Chunked bytes is stands in
     let after = landed-tracks (run start bytes) v piece answer (lands (run start bytes) tracks) in
@@ -143,13 +143,13 @@ counted-lent lent now whole piece (End used) (none, past, counted) fits =
     (omega (arith, counted, ap length front), omega (arith, counted, fits))
 counted-lent lent now whole piece (Refused bad) counts fits = absurd counts
 
-pub length-right : (u v : Unframer) (whole : ℕ) (bytes piece : List ℕ) (answer : Unframed) → u.coding ≡ Length whole → StandsAfter u bytes → Counts u.lent v.lent whole piece answer → IsRight u.coding bytes piece answer
+pub length-right : (u v : Unframer) (whole : ℕ) (bytes piece : List ℕ) (answer : Unframed) → u.coding ≡ Length whole → UnframerStandsAfter u bytes → Counts u.lent v.lent whole piece answer → IsRight u.coding bytes piece answer
 length-right u v whole bytes piece answer is stands counts =
     let (lent, used, fits) = stands-in u (Length whole) bytes is stands in
     subst (λ c. IsRight c bytes piece answer) (sym is) (counted-right u.lent v.lent whole bytes piece answer counts lent (omega (arith, lent, fits)))
 
-pub length-stands : (u v : Unframer) (whole : ℕ) (bytes piece : List ℕ) (answer : Unframed) → u.coding ≡ Length whole → v.coding ≡ u.coding → StandsAfter u bytes → Counts u.lent v.lent whole piece answer
-    → v.used ≡ u.used + length (used_of answer piece) → StandsAfter v (bytes ++ used_of answer piece)
+pub length-stands : (u v : Unframer) (whole : ℕ) (bytes piece : List ℕ) (answer : Unframed) → u.coding ≡ Length whole → v.coding ≡ u.coding → UnframerStandsAfter u bytes → Counts u.lent v.lent whole piece answer
+    → v.used ≡ u.used + length (used_of answer piece) → UnframerStandsAfter v (bytes ++ used_of answer piece)
 length-stands u v whole bytes piece answer is same stands counts count =
     let (lent, used, fits) = stands-in u (Length whole) bytes is stands in
     let (more, within) = counted-lent u.lent v.lent whole piece answer counts (omega (arith, lent, fits)) in
@@ -194,8 +194,8 @@ passed-lent lent now piece (Refused bad) passes = absurd passes
 pub end-right : (u v : Unframer) (bytes piece : List ℕ) (answer : Unframed) → u.coding ≡ ToEnd → Passes u.lent v.lent piece answer → IsRight u.coding bytes piece answer
 end-right u v bytes piece answer is passes = subst (λ c. IsRight c bytes piece answer) (sym is) (passed-right u.lent v.lent bytes piece answer passes)
 
-pub end-stands : (u v : Unframer) (bytes piece : List ℕ) (answer : Unframed) → u.coding ≡ ToEnd → v.coding ≡ u.coding → StandsAfter u bytes → Passes u.lent v.lent piece answer
-    → v.used ≡ u.used + length (used_of answer piece) → StandsAfter v (bytes ++ used_of answer piece)
+pub end-stands : (u v : Unframer) (bytes piece : List ℕ) (answer : Unframed) → u.coding ≡ ToEnd → v.coding ≡ u.coding → UnframerStandsAfter u bytes → Passes u.lent v.lent piece answer
+    → v.used ≡ u.used + length (used_of answer piece) → UnframerStandsAfter v (bytes ++ used_of answer piece)
 end-stands u v bytes piece answer is same stands passes count =
     let (lent, used) = stands-in u ToEnd bytes is stands in
     let more = passed-lent u.lent v.lent piece answer passes in
@@ -211,30 +211,30 @@ all-used n u at within stopped non = elim (cases_lt u n) [
 
 -- ---- where the source has ended
 
-pub finish-goes : (u : Unframer) (bytes body : List ℕ) → u.coding ≡ Chunked → StandsAfter u bytes → Goes u.coding bytes body → (is_open u.at ≡ true) × (u.lent ≡ length body)
+pub finish-goes : (u : Unframer) (bytes body : List ℕ) → u.coding ≡ Chunked → UnframerStandsAfter u bytes → Goes u.coding bytes body → (is_open u.at ≡ true) × (u.lent ≡ length body)
 finish-goes u bytes body is stands g =
     let (tracks, all) = stands-in u Chunked bytes is stands in
     let k = goes-known bytes body (subst (λ c. Goes c bytes body) is g) in
     (ap is_open tracks.at ∙ k.at, tracks.lent ∙ ap length k.body)
 
-pub finish-ends : (u : Unframer) (bytes body : List ℕ) → u.coding ≡ Chunked → StandsAfter u bytes → Ends u.coding bytes body → u.at ≡ Done
+pub finish-ends : (u : Unframer) (bytes body : List ℕ) → u.coding ≡ Chunked → UnframerStandsAfter u bytes → Ends u.coding bytes body → u.at ≡ Done
 finish-ends u bytes body is stands e =
     let (tracks, all) = stands-in u Chunked bytes is stands in
     tracks.at ∙ (ends-known bytes body (subst (λ c. Ends c bytes body) is e)).at
 
-pub finish-fails : (u : Unframer) (bytes body : List ℕ) (place : ℕ) → u.coding ≡ Chunked → StandsAfter u bytes → Fails u.coding bytes body place → (u.at ≡ Bad) × (u.from ≡ place)
+pub finish-fails : (u : Unframer) (bytes body : List ℕ) (place : ℕ) → u.coding ≡ Chunked → UnframerStandsAfter u bytes → Fails u.coding bytes body place → (u.at ≡ Bad) × (u.from ≡ place)
 finish-fails u bytes body place is stands f =
     let (tracks, all) = stands-in u Chunked bytes is stands in
     let k = fails-known bytes body place (subst (λ c. Fails c bytes body place) is f) in
     (tracks.at ∙ k.at, tracks.from ∙ k.from)
 
-pub counted-goes : (u : Unframer) (n : ℕ) (bytes body : List ℕ) → u.coding ≡ Length n → StandsAfter u bytes → Goes u.coding bytes body → (u.lent ≡ length body) × (u.lent < n)
+pub counted-goes : (u : Unframer) (n : ℕ) (bytes body : List ℕ) → u.coding ≡ Length n → UnframerStandsAfter u bytes → Goes u.coding bytes body → (u.lent ≡ length body) × (u.lent < n)
 counted-goes u n bytes body is stands g =
     let (lent, used, fits) = stands-in u (Length n) bytes is stands in
     let here : Goes (Length n) bytes body = subst (λ c. Goes c bytes body) is g in
     (lent ∙ sym (ap length here.0), omega (arith, lent, here.1))
 
-pub counted-ends : (u : Unframer) (n : ℕ) (bytes body : List ℕ) → u.coding ≡ Length n → StandsAfter u bytes → Ends u.coding bytes body → n ≤ u.lent
+pub counted-ends : (u : Unframer) (n : ℕ) (bytes body : List ℕ) → u.coding ≡ Length n → UnframerStandsAfter u bytes → Ends u.coding bytes body → n ≤ u.lent
 counted-ends u n bytes body is stands e =
     let (lent, used, fits) = stands-in u (Length n) bytes is stands in
     let here : Ends (Length n) bytes body = subst (λ c. Ends c bytes body) is e in

@@ -16,8 +16,8 @@ use Rattle.http.specs.StatusCode.{code_digits, reason_phrase}
 use Rattle.httparse.specs.Ascii.{crlf_bytes}
 use Rattle.httparse.specs.Grammar.{AllPass, Field, IsField, IsResponseHead, IsToken, ResponseHead, crlf, is_ows, is_token_byte, is_value_byte, print_field, print_response, print_section, skip_ows, trim_ows}
 use Rattle.httparse.proofs.TrimLemmas.{AllPass-reverse, trim_ows_space}
-use Rattle.xdr_decode.specs.declared.bad.Bad.{Bad}
-use Rattle.xdr_decode.specs.declared.bad.Bad.TheVariants as bad
+use Rattle.reply_faults.specs.declared.bad.Bad.{Bad}
+use Rattle.reply_faults.specs.declared.bad.Bad.TheVariants as bad
 use Rattle.dap_http.specs.Carried.{Carries, said}
 use Rattle.dap_http.specs.Fields.{named, value_of, values_of}
 use Rattle.dap_http.specs.Frames.{chunked, framed}
@@ -29,7 +29,7 @@ use Rattle.dap_http.proofs.FramedWhole.{framed-whole}
 
 -- ---- the fields of a head that is sent
 
-abbrev field : List ℕ → List ℕ → Field
+abbrev pub field : List ℕ → List ℕ → Field
 field name value = record { name = name; raw = 32 ∷ value; end = crlf }
 
 abbrev server_fields : List Field
@@ -132,10 +132,10 @@ head-printed status description len in_chunks close =
 
 -- ---- it is a head
 
-by-bits : (test : ℕ → Bool) (xs : List ℕ) → list_all test xs ≡ true → AllPass test xs
+pub by-bits : (test : ℕ → Bool) (xs : List ℕ) → list_all test xs ≡ true → AllPass test xs
 by-bits test xs e = AllPass-from_list_all test xs e
 
-token : (xs : List ℕ) → 0 < length xs → list_all is_token_byte xs ≡ true → IsToken xs
+pub token : (xs : List ℕ) → 0 < length xs → list_all is_token_byte xs ≡ true → IsToken xs
 token xs some e = (some, by-bits is_token_byte xs e)
 
 spaced : (value : List ℕ) → AllPass is_value_byte value → AllPass is_value_byte (32 ∷ value)

@@ -9,12 +9,12 @@ use Rattle.std.specs.Str.{bytes_eq, str_eq_ignore_ascii_case}
 use Rattle.std.specs.Str.Parse.{digits_value}
 use Rattle.std.proofs.lemmas.List.{map-append, take-append-drop}
 use Rattle.std.proofs.lemmas.Slice.Eq.{bytes_eq-Decides}
-use Rattle.xdr_decode.specs.declared.bad.Bad.TheVariants as bad
+use Rattle.reply_faults.specs.declared.bad.Bad.TheVariants as bad
 use Rattle.dap_http.specs.Replies.{coding_by, is_length, length_of}
 use Rattle.dap_http.specs.inner.ReplyJudging.{differs, is_otherwise}
 use Rattle.dap_http.specs.declared.coding.Coding.TheVariants.{Chunked, Length}
 use Rattle.dap_http.specs.declared.coding.Coding.{Coding}
-use Rattle.xdr_decode.specs.declared.bad.Bad.{Bad}
+use Rattle.reply_faults.specs.declared.bad.Bad.{Bad}
 
 or-false : (b : Bool) (c : Bool) → ((b || false) || c) ≡ (b || c)
 or-false true c = refl

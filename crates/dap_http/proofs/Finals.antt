@@ -3,7 +3,7 @@ use Rattle.std.proofs.Common.{◌≡◌, ℕ, ◌+◌, ◌<◌, ◌≤◌, ◌�
 use Rattle.std.proofs.lemmas.Bool.{cases_lt}
 use Rattle.std.specs.Prelude.{IsTrue, not}
 use Rattle.httparse.specs.Grammar.{NeverHasResponse, ReadsResponse, ResponseHead, print_response}
-use Rattle.xdr_decode.specs.declared.bad.Bad.{Bad}
+use Rattle.reply_faults.specs.declared.bad.Bad.{Bad}
 use Rattle.dap_http.specs.Reading.{GivesFinal}
 use Rattle.dap_http.specs.Replies.{AreTooLong, HasFinal, Interim, IsNoReply, ReadsReply, coding_in, is_interim}
 use Rattle.dap_http.specs.Requests.{feeds}

@@ -55,7 +55,7 @@ on-told k a b c g h body now y step = either (has_gained k a b g)
     (λ e. subst (λ (p : Option (List ℕ)). Appends p (body_told k a c h now) y) (sym (told-not k a b g body e)) tt)
 
 -- bytes that begin with others, and more
-grown : (s w z y : List ℕ) → z ≡ w ++ y → w ≡ s ++ drop (length s) w → z ≡ s ++ drop (length s) z
+pub grown : (s w z y : List ℕ) → z ≡ w ++ y → w ≡ s ++ drop (length s) w → z ≡ s ++ drop (length s) z
 grown s w z y more is =
     let all : z ≡ s ++ (drop (length s) w ++ y) = more ∙ ap (λ t. t ++ y) is ∙ append_assoc s (drop (length s) w) y in
     all ∙ ap (λ t. s ++ t) (sym (ap (drop (length s)) all ∙ drop-append_seam s (drop (length s) w ++ y)))

@@ -11,36 +11,36 @@ use Rattle.dap_http.specs.inner.Steps.{Known, advance, is_data, run, start}
 use Rattle.dap_http.specs.declared.coding.Coding.{Coding}
 use Rattle.dap_http.specs.declared.coding.Coding.TheVariants.{Chunked, Length, ToEnd}
 
-grown : (d : Bool) (body : List ℕ) (b : ℕ) → (x : List ℕ) × ((if d then body ++ (b ∷ []) else body) ≡ body ++ x) × (length x ≤ 1)
+pub grown : (d : Bool) (body : List ℕ) (b : ℕ) → (x : List ℕ) × ((if d then body ++ (b ∷ []) else body) ≡ body ++ x) × (length x ≤ 1)
 grown true body b = (b ∷ [], refl, omega arith)
 grown false body b = ([], sym (append-nil body), omega arith)
 
-grows-few : (k : Known) (bytes : List ℕ) → (x : List ℕ) × ((run k bytes).body ≡ k.body ++ x) × (length x ≤ length bytes)
+pub grows-few : (k : Known) (bytes : List ℕ) → (x : List ℕ) × ((run k bytes).body ≡ k.body ++ x) × (length x ≤ length bytes)
 grows-few k [] = ([], sym (append-nil k.body), omega arith)
 grows-few k (b ∷ bytes) =
     let (x, first, one) = grown (is_data k.at) k.body b in
     let (y, more, few) = grows-few (advance k b) bytes in
     (x ++ y, more ∙ ap (λ t. t ++ y) first ∙ append_assoc k.body x y, omega (arith, length-append x y, one, few))
 
-abbrev Further : List ℕ → List ℕ → ℕ → Type 0
+abbrev pub Further : List ℕ → List ℕ → ℕ → Type 0
 Further b other n = (y : List ℕ) × (other ≡ b ++ y) × (length y ≤ n)
 
-run-further : (used w b other : List ℕ) → (run start used).body ≡ b → (run start (used ++ w)).body ≡ other → Further b other (length w)
+pub run-further : (used w b other : List ℕ) → (run start used).body ≡ b → (run start (used ++ w)).body ≡ other → Further b other (length w)
 run-further used w b other is same =
     let (y, more, few) = grows-few (run start used) w in
     (y, sym same ∙ ap (λ (k : Known). k.body) (run-append start used w) ∙ more ∙ ap (λ t. t ++ y) is, few)
 
-goes-further : (c : Coding) (used w b other : List ℕ) → Goes c used b → Goes c (used ++ w) other → Further b other (length w)
+pub goes-further : (c : Coding) (used w b other : List ℕ) → Goes c used b → Goes c (used ++ w) other → Further b other (length w)
 goes-further Chunked used w b other goes on = run-further used w b other (goes-known used b goes).body (goes-known (used ++ w) other on).body
 goes-further (Length n) used w b other (is, few) (same, long) = (w, same ∙ ap (λ t. t ++ w) (sym is), omega arith)
 goes-further ToEnd used w b other is same = (w, same ∙ ap (λ t. t ++ w) (sym is), omega arith)
 
-ends-further : (c : Coding) (used w b other : List ℕ) → Goes c used b → Ends c (used ++ w) other → Further b other (length w)
+pub ends-further : (c : Coding) (used w b other : List ℕ) → Goes c used b → Ends c (used ++ w) other → Further b other (length w)
 ends-further Chunked used w b other goes ends = run-further used w b other (goes-known used b goes).body (ends-known (used ++ w) other ends).body
 ends-further (Length n) used w b other (is, few) (same, long) = (w, same ∙ ap (λ t. t ++ w) (sym is), omega arith)
 ends-further ToEnd used w b other is none = absurd none
 
-to-end : (c : Coding) (used w b other front rest : List ℕ) → Goes c used b → Ends c front other → used ++ w ≡ front ++ rest → Further b other (length w)
+pub to-end : (c : Coding) (used w b other front rest : List ℕ) → Goes c used b → Ends c front other → used ++ w ≡ front ++ rest → Further b other (length w)
 to-end c used w b other front rest goes ends e = go (cases_lt (length front) (length used)) where
   go : (length front < length used) ⊎ (length used ≤ length front) → Further b other (length w)
   go (inl less) =

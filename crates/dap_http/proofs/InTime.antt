@@ -6,7 +6,7 @@ use Rattle.dap_http.proofs.Further.{come-further}
 use Rattle.dap_http.proofs.Lending.{stands-in}
 use Rattle.dap_http.proofs.Parts.{start-goes}
 use Rattle.dap_http.proofs.Whole.{goes-known}
-use Rattle.dap_http.specs.After.{StandsAfter, coding_of, lent_by}
+use Rattle.dap_http.specs.After.{UnframerStandsAfter, coding_of, lent_by}
 use Rattle.dap_http.specs.Codings.{Goes}
 use Rattle.dap_http.specs.Delivered.{HasCome}
 use Rattle.dap_http.specs.Following.{Follows, IsInTime, IsShort, body_coding}
@@ -63,7 +63,7 @@ lent-in u Chunked bytes body (tracks, all) goes = tracks.lent ∙ ap length (goe
 lent-in u (Length n) bytes body (lent, all, few) (is, less) = lent ∙ ap length (sym is)
 lent-in u ToEnd bytes body (lent, all) is = lent ∙ ap length (sym is)
 
-pub lent-is : (u : Unframer) (bytes body : List ℕ) → StandsAfter u bytes → Goes (coding_of u) bytes body → lent_by u ≡ length body
+pub lent-is : (u : Unframer) (bytes body : List ℕ) → UnframerStandsAfter u bytes → Goes (coding_of u) bytes body → lent_by u ≡ length body
 lent-is u bytes body stands goes = lent-in u u.coding bytes body (stands-in u u.coding bytes refl stands) goes
 
 pub lent-short : (old new : BodyParts) → IsShort old → ((bytes body : List ℕ) → Follows old bytes body → IsUsedUp new bytes body) → lent_by new.unframer < body_limit
@@ -72,7 +72,7 @@ lent-short old new (bytes, body, follows, short) up =
     omega (arith, short, lent-is new.unframer bytes body stands goes)
 
 -- a piece is taken behind bytes of which all are used
-pub takes-piece : (u : Unframer) (bytes body items : List ℕ) (count most lent : ℕ) → StandsAfter u bytes → Goes (coding_of u) bytes body → lent ≡ lent_by u → count ≤ most → most ≤ 65536 → lent + most ≤ body_limit
+pub takes-piece : (u : Unframer) (bytes body items : List ℕ) (count most lent : ℕ) → UnframerStandsAfter u bytes → Goes (coding_of u) bytes body → lent ≡ lent_by u → count ≤ most → most ≤ 65536 → lent + most ≤ body_limit
     → TakesPiece (coding_of u) bytes body (take count items)
 takes-piece u bytes body items count most lent stands goes is le room left =
     inr (goes, omega (arith, le, room, length-take count items), omega (arith, is, le, left, lent-is u bytes body stands goes, length-take count items))

@@ -2,9 +2,9 @@
 use Rattle.std.proofs.Common.{◌≡◌, ℕ, ◌+◌, ◌<◌, ◌≤◌, true, List, ◌++◌, length, take, drop, refl, sym, ap, ◌∙◌, arith, length-append, inl, inr, subst}
 use Rattle.std.proofs.lemmas.Bool.{true≢false, cases_lt}
 use Rattle.std.proofs.lemmas.List.{length-take-le, take-append-drop}
-use Rattle.xdr_decode.specs.declared.bad.BadField.{BadField}
-use Rattle.xdr_decode.specs.declared.bad.Bad as kinds
-use Rattle.xdr_decode.specs.declared.bad.Bad.TheVariants.{BadChunk}
+use Rattle.reply_faults.specs.declared.bad.BadField.{BadField}
+use Rattle.reply_faults.specs.declared.bad.Bad as kinds
+use Rattle.reply_faults.specs.declared.bad.Bad.TheVariants.{BadChunk}
 use Rattle.dap_http.specs.After.{used_of}
 use Rattle.dap_http.specs.inner.Tracking.{IsRight, Lands, wrong_at}
 use Rattle.dap_http.specs.Chunks.{GoesOn, IsFaulty, IsWhole}

@@ -1,6 +1,6 @@
 -- Bytes of a chunk that are lent at once.
 use Rattle.std.proofs.Common.{◌≡◌, ℕ, ◌+◌, ◌-◌, ◌<◌, List, [], ◌∷◌, ◌++◌, length, refl, sym, ap, ◌∙◌, arith, append_assoc, length-append, subst}
-use Rattle.dap_http.specs.After.{StandsAfter}
+use Rattle.dap_http.specs.After.{UnframerStandsAfter}
 use Rattle.dap_http.specs.inner.Tracking.{StandsIn, Tracks}
 use Rattle.dap_http.specs.inner.Steps.{Known, run}
 use Rattle.dap_http.specs.declared.chunk_step.At.TheVariants.{Line, Data, EndCr}
@@ -49,8 +49,8 @@ lent-some u v k left most bytes t data_at long some more at used from lent =
       ap (λ (m : Known). m.body) all,
     )
 
-pub stands-new : (u : Unframer) → u.at ≡ Line → u.used ≡ 0 → u.from ≡ 0 → u.lent ≡ 0 → StandsAfter u []
-unfolding StandsAfter
+pub stands-new : (u : Unframer) → u.at ≡ Line → u.used ≡ 0 → u.from ≡ 0 → u.lent ≡ 0 → UnframerStandsAfter u []
+unfolding UnframerStandsAfter
 stands-new u at used from lent = go u.coding where
   go : (c : Coding) → StandsIn c u []
   go Chunked = (record { at = at; used = used; from = from; lent = lent }, used)
@@ -58,10 +58,10 @@ stands-new u at used from lent = go u.coding where
   go ToEnd = (lent, used)
 
 -- what it stands after, by its coding
-pub stands-in : (u : Unframer) (c : Coding) (bytes : List ℕ) → u.coding ≡ c → StandsAfter u bytes → StandsIn c u bytes
-unfolding StandsAfter
+pub stands-in : (u : Unframer) (c : Coding) (bytes : List ℕ) → u.coding ≡ c → UnframerStandsAfter u bytes → StandsIn c u bytes
+unfolding UnframerStandsAfter
 stands-in u c bytes e stands = subst (λ (d : Coding). StandsIn d u bytes) e stands
 
-pub in-stands : (u : Unframer) (c : Coding) (bytes : List ℕ) → u.coding ≡ c → StandsIn c u bytes → StandsAfter u bytes
-unfolding StandsAfter
+pub in-stands : (u : Unframer) (c : Coding) (bytes : List ℕ) → u.coding ≡ c → StandsIn c u bytes → UnframerStandsAfter u bytes
+unfolding UnframerStandsAfter
 in-stands u c bytes e stands = subst (λ (d : Coding). StandsIn d u bytes) (sym e) stands

@@ -1,7 +1,6 @@
 pub mod AlreadyEnded
 pub mod Answered
 pub mod Carrying
-pub mod Decimal
 pub mod Ends
 pub mod Deliveries
 pub mod EscapedSet
@@ -9,6 +8,7 @@ pub mod Feeds
 pub mod FewLines
 pub mod FieldTests
 pub mod Finals
+mod FirstByte
 pub mod Framed
 pub mod FramedWhole
 pub mod Framings
@@ -23,7 +23,6 @@ pub mod Landed
 pub mod Lending
 pub mod Lines
 pub mod Listed
-pub mod NameText
 pub mod Next
 pub mod Numbers
 pub mod Parts

@@ -8,10 +8,10 @@ use Rattle.std.proofs.Math.Seq.{drop-append_seam}
 use Rattle.std.proofs.lemmas.Bool.{cases_lt}
 use Rattle.std.proofs.lemmas.List.{drop-drop, drop-take, length-take-le, take-append-drop, take-take}
 use Rattle.std.proofs.lemmas.List.Edits.{length-between}
-use Rattle.xdr_decode.specs.declared.bad.BadField.{BadField}
-use Rattle.xdr_decode.specs.declared.bad.Bad.TheVariants.{Cut}
+use Rattle.reply_faults.specs.declared.bad.BadField.{BadField}
+use Rattle.reply_faults.specs.declared.bad.Bad.TheVariants.{Cut}
 use Rattle.dap_types.specs.Limits.{body_limit}
-use Rattle.dap_http.specs.After.{StandsAfter, coding_of, used_by}
+use Rattle.dap_http.specs.After.{UnframerStandsAfter, coding_of, used_by}
 use Rattle.dap_http.specs.Codings.{Ends, Fails, Goes}
 use Rattle.dap_http.specs.Delivered.{IsBrokenBody, IsWholeBody}
 use Rattle.dap_http.specs.Following.{Arrives, Follows, IsShort, body_coding, part_of, waiting}
@@ -58,7 +58,7 @@ part-lent room front lent to end used from now e le fits starts is =
 
 pub record Opened (p : BodyParts) (bytes body : List ℕ) : Type 0 where
   pub used : List ℕ
-  pub stands : StandsAfter p.unframer used
+  pub stands : UnframerStandsAfter p.unframer used
   pub parts : bytes ≡ used ++ waiting p
   pub comes : Goes (body_coding p) used body ⊎ Ends (body_coding p) used body
 
@@ -66,7 +66,7 @@ pub opened : (p : BodyParts) (bytes body : List ℕ) → Follows p bytes body �
 unfolding Follows
 opened p bytes body (used, stands, parts, comes) = record { used = used; stands = stands; parts = parts; comes = comes }
 
-pub closed : (p : BodyParts) (bytes body used : List ℕ) → StandsAfter p.unframer used → bytes ≡ used ++ waiting p → Goes (body_coding p) used body ⊎ Ends (body_coding p) used body → Follows p bytes body
+pub closed : (p : BodyParts) (bytes body used : List ℕ) → UnframerStandsAfter p.unframer used → bytes ≡ used ++ waiting p → Goes (body_coding p) used body ⊎ Ends (body_coding p) used body → Follows p bytes body
 unfolding Follows
 closed p bytes body used stands parts comes = (used, stands, parts, comes)
 
@@ -78,7 +78,7 @@ start-goes (Length n) = elim (cases_lt 0 n) [
   | inr none ↦ inr (refl, omega (arith, none))
 ]
 
-pub follows-new : (p : BodyParts) (first : List ℕ) → StandsAfter p.unframer [] → waiting p ≡ first → Follows p first []
+pub follows-new : (p : BodyParts) (first : List ℕ) → UnframerStandsAfter p.unframer [] → waiting p ≡ first → Follows p first []
 follows-new p first stands is = closed p first [] [] stands (sym is) (start-goes (body_coding p))
 
 -- the bytes that it has used are as many as it counts
@@ -87,7 +87,7 @@ count-in u Chunked bytes (tracks, all) = all
 count-in u (Length n) bytes (lent, all, few) = all
 count-in u ToEnd bytes (lent, all) = all
 
-pub used-is : (u : Unframer) (bytes : List ℕ) → StandsAfter u bytes → u.used ≡ length bytes
+pub used-is : (u : Unframer) (bytes : List ℕ) → UnframerStandsAfter u bytes → u.used ≡ length bytes
 used-is u bytes stands = count-in u u.coding bytes (stands-in u u.coding bytes refl stands)
 
 -- and few where the body is short
@@ -104,13 +104,13 @@ short-room p (bytes, body, follows, short) =
 -- what an unframer's clause says of bytes of the body
 abbrev pub Lends : BodyParts → List ℕ → List ℕ → ℕ → Type 0
 Lends p piece lent used =
-    (b d : List ℕ) → StandsAfter p.unframer b → Goes (body_coding p) b d
+    (b d : List ℕ) → UnframerStandsAfter p.unframer b → Goes (body_coding p) b d
     → (used ≤ length piece) × (0 < length lent) × ((front : List ℕ) × (take used piece ≡ front ++ lent))
     × (Goes (body_coding p) (b ++ take used piece) (d ++ lent) ⊎ Ends (body_coding p) (b ++ take used piece) (d ++ lent))
 
 -- the body has not ended
 abbrev pub HasNotEnded : BodyParts → Type 0
-HasNotEnded p = (b d : List ℕ) → StandsAfter p.unframer b → Ends (body_coding p) b d → ⊥
+HasNotEnded p = (b d : List ℕ) → UnframerStandsAfter p.unframer b → Ends (body_coding p) b d → ⊥
 
 pub piece-long : (p : BodyParts) (piece : List ℕ) → waiting p ≡ piece → length piece ≡ p.end - p.to
 piece-long p piece is = ap length (sym is) ∙ length-between p.room.items p.to p.end (omega (arith, p.filled, p.size))
@@ -137,7 +137,7 @@ lent-within old piece lent used (bytes, body, follows, short) part no_end = go (
 
 -- bytes of the body
 pub part-follows : (old new : BodyParts) (bytes body piece lent : List ℕ) (used : ℕ) → waiting old ≡ piece → body_coding new ≡ body_coding old → waiting new ≡ drop used piece
-    → Follows old bytes body → Lends old piece lent used → HasNotEnded old → ((b : List ℕ) → StandsAfter old.unframer b → StandsAfter new.unframer (b ++ take used piece))
+    → Follows old bytes body → Lends old piece lent used → HasNotEnded old → ((b : List ℕ) → UnframerStandsAfter old.unframer b → UnframerStandsAfter new.unframer (b ++ take used piece))
     → ((front : List ℕ) → take used piece ≡ front ++ lent → part_of new ≡ lent)
     → (0 < length (part_of new)) × Follows new bytes (body ++ part_of new)
 part-follows old new bytes body piece lent used is coding rest follows part no_end stands lends = go (opened old bytes body follows) where
@@ -156,14 +156,14 @@ part-follows old new bytes body piece lent used is coding rest follows part no_e
 
 -- nothing more: all is used
 pub more-follows : (old : BodyParts) (u : Unframer) (bytes body piece : List ℕ) → waiting old ≡ piece → coding_of u ≡ body_coding old → Follows old bytes body
-    → ((b d : List ℕ) → StandsAfter old.unframer b → Goes (body_coding old) b d → Goes (body_coding old) (b ++ piece) d)
-    → HasNotEnded old → ((b : List ℕ) → StandsAfter old.unframer b → StandsAfter u (b ++ piece)) → StandsAfter u bytes × Goes (coding_of u) bytes body
+    → ((b d : List ℕ) → UnframerStandsAfter old.unframer b → Goes (body_coding old) b d → Goes (body_coding old) (b ++ piece) d)
+    → HasNotEnded old → ((b : List ℕ) → UnframerStandsAfter old.unframer b → UnframerStandsAfter u (b ++ piece)) → UnframerStandsAfter u bytes × Goes (coding_of u) bytes body
 more-follows old u bytes body piece is coding follows more no_end stands = go (opened old bytes body follows) where
-  go : Opened old bytes body → StandsAfter u bytes × Goes (coding_of u) bytes body
+  go : Opened old bytes body → UnframerStandsAfter u bytes × Goes (coding_of u) bytes body
   go o = elim o.comes [
     | inl goes ↦
         let all : bytes ≡ o.used ++ piece = parted old bytes o.used piece is o.parts in (
-          subst (λ (t : List ℕ). StandsAfter u t) (sym all) (stands o.used o.stands),
+          subst (λ (t : List ℕ). UnframerStandsAfter u t) (sym all) (stands o.used o.stands),
           subst (λ (c : Coding). Goes c bytes body) (sym coding) (subst (λ (t : List ℕ). Goes (body_coding old) t body) (sym all) (more o.used body o.stands goes)),
         )
     | inr ends ↦ absurd (no_end o.used body o.stands ends)
@@ -171,8 +171,8 @@ more-follows old u bytes body piece is coding follows more no_end stands = go (o
 
 -- the end
 pub end-follows : (old : BodyParts) (coding : Coding) (bytes body piece rest : List ℕ) (used : ℕ) (ended : Bool) → waiting old ≡ piece → coding ≡ body_coding old → rest ≡ drop used piece → Follows old bytes body
-    → ((b d : List ℕ) → StandsAfter old.unframer b → Goes (body_coding old) b d → (used ≤ length piece) × Ends (body_coding old) (b ++ take used piece) d)
-    → ((b d : List ℕ) → StandsAfter old.unframer b → Ends (body_coding old) b d → used ≡ 0)
+    → ((b d : List ℕ) → UnframerStandsAfter old.unframer b → Goes (body_coding old) b d → (used ≤ length piece) × Ends (body_coding old) (b ++ take used piece) d)
+    → ((b d : List ℕ) → UnframerStandsAfter old.unframer b → Ends (body_coding old) b d → used ≡ 0)
     → IsWholeBody coding bytes ended body rest
 end-follows old coding bytes body piece rest used ended is same left follows ends again = go (opened old bytes body follows) where
   coded : (f : List ℕ) → Ends (body_coding old) f body → Ends coding f body
@@ -189,7 +189,7 @@ end-follows old coding bytes body piece rest used ended is same left follows end
 
 -- a fault
 pub fault-follows : (X : Type 0) (old : BodyParts) (coding : Coding) (bytes body piece : List ℕ) (place : ℕ) → waiting old ≡ piece → coding ≡ body_coding old → Follows old bytes body
-    → ((b d : List ℕ) → StandsAfter old.unframer b → Goes (body_coding old) b d → X × Fails (body_coding old) (b ++ piece) d place)
+    → ((b d : List ℕ) → UnframerStandsAfter old.unframer b → Goes (body_coding old) b d → X × Fails (body_coding old) (b ++ piece) d place)
     → HasNotEnded old → X × Fails coding bytes body place
 fault-follows X old coding bytes body piece place is same follows fails no_end = go (opened old bytes body follows) where
   go : Opened old bytes body → X × Fails coding bytes body place
@@ -205,7 +205,7 @@ fault-follows X old coding bytes body piece place is same follows fails no_end =
 
 pub filled : (old new : BodyParts) (bytes body taken : List ℕ) → new.unframer ≡ old.unframer → waiting new ≡ taken → IsUsedUp old bytes body → Follows new (bytes ++ taken) body
 filled old new bytes body taken same is (empty, stands, goes) =
-    closed new (bytes ++ taken) body bytes (subst (λ (u : Unframer). StandsAfter u bytes) (sym same) stands) (ap (λ t. bytes ++ t) (sym is))
+    closed new (bytes ++ taken) body bytes (subst (λ (u : Unframer). UnframerStandsAfter u bytes) (sym same) stands) (ap (λ t. bytes ++ t) (sym is))
     (inl (subst (λ (u : Unframer). Goes (coding_of u) bytes body) (sym same) goes))
 
 -- the source has ended

@@ -9,8 +9,8 @@ use Rattle.httparse.specs.Spans.{IsResponseOf, IsResponseWithin, ResponseOverflo
 use Rattle.httparse.specs.declared.spans.HeaderSpan.{HeaderSpan}
 use Rattle.httparse.specs.declared.spans.ResponseSpans.{ResponseSpans}
 use Rattle.httparse.proofs.GrammarLemmas.{ReadsResponse-append, response_unique}
-use Rattle.xdr_decode.specs.declared.bad.Bad.{Bad}
-use Rattle.dap_http.specs.Reading.{Answers, GivesFinal, IsAnswered}
+use Rattle.reply_faults.specs.declared.bad.Bad.{Bad}
+use Rattle.dap_http.specs.Reading.{Answers, GivesFinal, AnswersFinalHead}
 use Rattle.dap_http.specs.Replies.{AreCut, AreTooLong, HasFinal, HasNoFinal, Interim, IsNoReply, NoMoreReply, ReadsReply, coding_by, coding_in, is_interim}
 use Rattle.dap_http.specs.inner.ReplyJudging.{HasNoReplyHead, HeadOf, IsPast, IsReadOf, IsReplyJudged, as_sum}
 use Rattle.dap_http.specs.Requests.{feeds}
@@ -204,9 +204,9 @@ pub answers-final : (bytes kept : List ℕ) (ended : Bool) (coding : Result Codi
 answers-final bytes kept ended (Ok c) read e gives = subst (Answers bytes kept ended) (sym e) gives
 answers-final bytes kept ended (Err kind) read e gives = subst (Answers bytes kept ended) (sym e) (refl, inr (inr (inr gives)))
 
-pub answered-final : (input rest : List ℕ) (head : ResponseHead) (coding : Result Coding Bad) (read : ReplyRead) → IsReadOf coding read → coding_in head ≡ as_sum coding → IsAnswered input head rest read
-answered-final input rest head (Ok c) read e is = subst (IsAnswered input head rest) (sym e) is
-answered-final input rest head (Err kind) read e is = subst (IsAnswered input head rest) (sym e) (inl is)
+pub answered-final : (input rest : List ℕ) (head : ResponseHead) (coding : Result Coding Bad) (read : ReplyRead) → IsReadOf coding read → coding_in head ≡ as_sum coding → AnswersFinalHead input head rest read
+answered-final input rest head (Ok c) read e is = subst (AnswersFinalHead input head rest) (sym e) is
+answered-final input rest head (Err kind) read e is = subst (AnswersFinalHead input head rest) (sym e) (inl is)
 
 pub interim-is : (head : ResponseHead) (n : ℕ) (b : Bool) → status_code head ≡ n → b ≡ (nat_le 100 n && nat_lt n 200) → is_interim head ≡ b
 interim-is head n b e is = ap (λ m. nat_le 100 m && nat_lt m 200) e ∙ sym is

@@ -1,6 +1,6 @@
 -- Which bytes an unframer stands after, and what its answers say.
 use Rattle.std.specs.Prelude.{ℕ, List, length, take}
-use Rattle.xdr_decode.specs.declared.bad.BadField.{BadField}
+use Rattle.reply_faults.specs.declared.bad.BadField.{BadField}
 use Rattle.dap_http.specs.inner.Tracking.{StandsIn}
 use Rattle.dap_http.specs.declared.coding.Coding.{Coding}
 use Rattle.dap_http.specs.declared.unframer.Unframed.{Unframed}
@@ -18,8 +18,8 @@ abbrev pub coding_of : Unframer → Coding
 coding_of u = u.coding
 
 -- it has used these bytes
-unfoldable pub StandsAfter : Unframer → List ℕ → Type 0
-StandsAfter u bytes = StandsIn u.coding u bytes
+unfoldable pub UnframerStandsAfter : Unframer → List ℕ → Type 0
+UnframerStandsAfter u bytes = StandsIn u.coding u bytes
 
 -- the bytes of a piece that an answer uses
 abbrev pub used_of : Unframed → List ℕ → List ℕ

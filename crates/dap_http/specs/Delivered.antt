@@ -2,8 +2,8 @@
 -- a place, or what is wrong with its heads or its framing.
 use Rattle.std.proofs.Common.{inl, inr}
 use Rattle.std.specs.Prelude.{◌≡◌, ℕ, ◌⊎◌, Bool, List, [], ◌++◌, length, IsTrue}
-use Rattle.xdr_decode.specs.declared.bad.BadField.{BadField}
-use Rattle.xdr_decode.specs.declared.bad.Bad.TheVariants.{BadChunk, BadHead, Cut, HeadTooLong}
+use Rattle.reply_faults.specs.declared.bad.BadField.{BadField}
+use Rattle.reply_faults.specs.declared.bad.Bad.TheVariants.{BadChunk, BadHead, Cut, HeadTooLong}
 use Rattle.dap_http.specs.Codings.{Ends, Fails, Goes}
 use Rattle.dap_http.specs.Reading.{GivesFinal}
 use Rattle.dap_http.specs.Replies.{AreCut, AreTooLong, IsNoReply}

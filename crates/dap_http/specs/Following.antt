@@ -2,7 +2,7 @@
 use Rattle.std.specs.Prelude.{◌≡◌, ℕ, ◌<◌, ◌≤◌, ◌⊎◌, Bool, List, [], ◌++◌, length}
 use Rattle.std.specs.List.{between}
 use Rattle.dap_types.specs.Limits.{body_limit, most_piece}
-use Rattle.dap_http.specs.After.{StandsAfter, coding_of}
+use Rattle.dap_http.specs.After.{UnframerStandsAfter, coding_of}
 use Rattle.dap_http.specs.Codings.{Ends, Goes}
 use Rattle.dap_http.specs.Delivered.{HasCome, IsBrokenBody, IsWholeBody}
 use Rattle.dap_http.specs.declared.coding.Coding.{Coding}
@@ -25,7 +25,7 @@ waiting p = between p.to p.end p.room.items
 -- these bytes behind the head were taken, and this came of the body
 unfoldable pub Follows : BodyParts → List ℕ → List ℕ → Type 0
 Follows p bytes body =
-    (used : List ℕ) × StandsAfter p.unframer used × (bytes ≡ used ++ waiting p)
+    (used : List ℕ) × UnframerStandsAfter p.unframer used × (bytes ≡ used ++ waiting p)
     × (Goes (body_coding p) used body ⊎ Ends (body_coding p) used body)
 
 -- it follows some bytes, and fewer came of the body than no body has

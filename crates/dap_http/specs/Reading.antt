@@ -4,9 +4,9 @@ use Rattle.std.specs.Prelude.{◌≡◌, ℕ, ◌+◌, ◌≤◌, ◌<◌, ◌�
 use Rattle.std.specs.Str.{bytes_eq}
 use Rattle.httparse.specs.Grammar.{RequestHead, ResponseHead}
 use Rattle.dap_types.specs.Limits.{most_reply_heads}
-use Rattle.xdr_decode.specs.declared.bad.BadField.{BadField}
-use Rattle.xdr_decode.specs.declared.bad.Bad.{Bad}
-use Rattle.xdr_decode.specs.declared.bad.Bad.TheVariants as bad
+use Rattle.reply_faults.specs.declared.bad.BadField.{BadField}
+use Rattle.reply_faults.specs.declared.bad.Bad.{Bad}
+use Rattle.reply_faults.specs.declared.bad.Bad.TheVariants as bad
 use Rattle.dap_http.specs.Requests.{FirstRequest, HasNoRequest, IsBadRequest, IsGone, IsTooLong, ends_itself}
 use Rattle.dap_http.specs.Replies.{AreCut, AreTooLong, HasFinal, HasNoFinal, IsNoReply, coding_in}
 use Rattle.dap_http.specs.declared.coding.Coding.{Coding}
@@ -69,8 +69,8 @@ Answers bytes kept ended reply.ReadFault = HasNoFinal bytes × (kept ≡ bytes)
 Answers bytes kept ended reply.Memory = kept ≡ bytes
 
 -- what comes where a final head stands in the input: its coding or its fault, or that it is too long
-abbrev pub IsAnswered : List ℕ → ResponseHead → List ℕ → ReplyRead → Type 0
-IsAnswered input head rest (reply.Final coding) = coding_in head ≡ inr coding
-IsAnswered input head rest (reply.Refused f) = (coding_in head ≡ inl f.kind) ⊎ ((f.kind ≡ bad.HeadTooLong) × (length rest + most_reply_heads < length input))
-IsAnswered input head rest reply.ReadFault = Unit {0}
-IsAnswered input head rest reply.Memory = Unit {0}
+abbrev pub AnswersFinalHead : List ℕ → ResponseHead → List ℕ → ReplyRead → Type 0
+AnswersFinalHead input head rest (reply.Final coding) = coding_in head ≡ inr coding
+AnswersFinalHead input head rest (reply.Refused f) = (coding_in head ≡ inl f.kind) ⊎ ((f.kind ≡ bad.HeadTooLong) × (length rest + most_reply_heads < length input))
+AnswersFinalHead input head rest reply.ReadFault = Unit {0}
+AnswersFinalHead input head rest reply.Memory = Unit {0}

@@ -7,8 +7,8 @@ use Rattle.std.specs.Str.{bytes_eq, str_eq_ignore_ascii_case}
 use Rattle.std.specs.Str.Parse.{digits_value}
 use Rattle.httparse.specs.Grammar.{NeverHasResponse, ReadsResponse, ResponseHead, status_code}
 use Rattle.dap_types.specs.Limits.{most_reply_heads}
-use Rattle.xdr_decode.specs.declared.bad.Bad.{Bad}
-use Rattle.xdr_decode.specs.declared.bad.Bad.TheVariants as bad
+use Rattle.reply_faults.specs.declared.bad.Bad.{Bad}
+use Rattle.reply_faults.specs.declared.bad.Bad.TheVariants as bad
 use Rattle.dap_http.specs.Fields.{named, values_of}
 use Rattle.dap_http.specs.Requests.{feeds}
 use Rattle.dap_http.specs.declared.coding.Coding.{Coding}

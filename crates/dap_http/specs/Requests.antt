@@ -4,7 +4,7 @@ use Rattle.std.specs.List.{list_any}
 use Rattle.std.specs.Str.{bytes_eq, str_eq_ignore_ascii_case}
 use Rattle.httparse.specs.Grammar.{AllPass, NeverHasRequest, ReadsRequest, RequestHead}
 use Rattle.httparse.specs.Pieces.{is_newline}
-use Rattle.dap_types.specs.Limits.{most_request_head}
+use Rattle.dap_types.specs.Limits.{most_request_head, most_requests}
 use Rattle.dap_http.specs.Fields.{is_named, named, parts_of}
 
 -- the bytes begin with this head, of at most 64 fields, and then have that rest
@@ -43,7 +43,7 @@ ends_itself head = ends_by head.minor head.method (named head.fields)
 
 -- and as request k of its connection, which has at most 1,000
 abbrev pub ends_connection : ℕ → RequestHead → Bool
-ends_connection k head = ends_itself head || k == 1000
+ends_connection k head = ends_itself head || k == most_requests
 
 -- these are the requests of an input from number k on, and that is left behind them
 abbrev pub Requests : ℕ → List ℕ → List RequestHead → List ℕ → Type 0

@@ -4,7 +4,8 @@ use Rattle.std.specs.Prelude.{ℕ, Bool, ◌&&◌, ◌||◌, not, List, [], ◌�
 use Rattle.std.specs.List.{before_first, list_all, position_or_len, starts_with}
 use Rattle.std.specs.Char.{is_ascii_alphanumeric, is_ascii_digit}
 use Rattle.std.specs.Str.Parse.{digits_value}
-use Rattle.dap_http.specs.Targets.{from_slash, is_slash}
+use Rattle.target_names.specs.Names.{is_slash}
+use Rattle.dap_http.specs.Targets.{from_slash}
 
 -- a host, a port and a path
 pub record UrlParts : Type 0 where

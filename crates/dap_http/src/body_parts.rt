@@ -6,15 +6,15 @@ ghost use Rattle.dap_types.specs.Limits.{body_limit};
 use crate::Coding;
 use crate::unframer::{Unframed, Unframer};
 use dap_outside::{Failed, Source};
-use dap_types::Memory;
+use dap_types::{Memory, limits};
+use reply_faults::BadField;
 use std::alloc::Global;
-use xdr_decode::BadField;
 
 /// How many bytes are taken at once.
-const ROOM: usize = 65_536;
+const ROOM: usize = limits::MOST_PIECE;
 
 /// A body has fewer bytes.
-const LIMIT: u64 = 1 << 40;
+const LIMIT: u64 = limits::BODY_LIMIT;
 
 /// What comes next of the body of a reply.
 #[derive(Clone, Copy, Debug)]
@@ -43,7 +43,7 @@ pub struct BodyParts {
 }
 
 impl BodyParts {
-    ghost use Rattle.dap_http.specs.After.{StandsAfter, lent_by};
+    ghost use Rattle.dap_http.specs.After.{UnframerStandsAfter, lent_by};
     ghost use Rattle.dap_http.specs.Codings.{Goes};
     ghost use Rattle.dap_http.specs.Delivered.{IsWholeBody};
     ghost use Rattle.dap_http.specs.Following.{Arrives, Follows, IsInTime, IsShort, body_coding, part_of, waiting};

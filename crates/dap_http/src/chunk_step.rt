@@ -1,6 +1,8 @@
 ghost use Rattle.std.specs.Prelude.{◌≡◌, ◌<◌, ◌≤◌, IsTrue};
 ghost use Rattle.dap_http.specs.inner.Steps.{behind_line, is_number, is_start, step, stops, step_blanks, step_digits, step_text, step_trailer};
 
+use dap_types::limits;
+
 /// What a reader of the chunked coding knows of the line, the line end or the bytes that it stands in.
 #[derive(Clone, Copy, Debug)]
 pub enum At {
@@ -104,7 +106,7 @@ fn behind_line(size: u64) -> At
     ensures number { IsTrue (is_number result) }
 {
     if size == 0 {
-        return At::Fresh(16384);
+        return At::Fresh(limits::MOST_TRAILERS);
     }
     At::Data(size)
 }

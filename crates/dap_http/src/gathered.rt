@@ -6,12 +6,12 @@ ghost use Rattle.dap_http.specs.inner.UnderWay.{InChunks, body_of, chunks_of, fu
 
 use crate::last_chunk::put_last;
 use dap_outside::{Failed, Sink};
-use dap_types::Memory;
+use dap_types::{Memory, limits};
 use http_server::Log;
 use std::alloc::Global;
 
 /// The bytes of a chunk of the largest size: its head, its bytes and its line end.
-const FRAME: usize = 65_545;
+const FRAME: usize = limits::MOST_PIECE + 9;
 
 /// The chunks of a body: those that were put whole, for contracts alone, and the one that is being
 /// gathered or put.

@@ -6,7 +6,7 @@ ghost use Rattle.dap_outside.specs.Causes.{Rose};
 use crate::head_judge::{Judged, judge};
 use crate::intake::{skip, take_line};
 use dap_outside::Source;
-use dap_types::{Bytes, Memory};
+use dap_types::{Bytes, Memory, limits};
 use http::Method;
 use std::alloc::Global;
 
@@ -34,7 +34,7 @@ pub enum HeadRead {
 }
 
 /// The bytes of the longest head.
-pub const LONGEST: usize = 16_384;
+pub const LONGEST: usize = limits::MOST_REQUEST_HEAD;
 
 /// Reads the heads of a connection, one behind the other, and keeps the bytes that it took beyond
 /// them.

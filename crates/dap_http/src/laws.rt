@@ -11,8 +11,8 @@ ghost use Rattle.dap_http.specs.Replies.{HasFinal, coding_in};
 ghost use Rattle.dap_http.specs.Requests.{FirstRequest, HasNoRequest, IsBadRequest, IsGone, IsTooLong, Requests};
 ghost use Rattle.dap_http.specs.Texts.{IsReplyStatus, head_text};
 ghost use Rattle.dap_http.specs.declared.coding.Coding.{Coding};
-ghost use Rattle.xdr_decode.specs.declared.bad.Bad.{Bad};
-ghost use Rattle.xdr_decode.specs.declared.bad.BadField.{BadField};
+ghost use Rattle.reply_faults.specs.declared.bad.Bad.{Bad};
+ghost use Rattle.reply_faults.specs.declared.bad.BadField.{BadField};
 
 /// An input has at most one first request.
 pub fn one_request()

@@ -7,9 +7,9 @@
 mod body_parts;
 mod chunk_step;
 mod coding;
-mod digits;
 mod escapes;
 mod fields;
+mod first_byte;
 mod framer;
 mod framing;
 mod gathered;

@@ -6,11 +6,11 @@ ghost use Rattle.dap_http.specs.Replies.{coding_by, is_length, length_of};
 ghost use Rattle.dap_http.specs.inner.ReplyJudging.{IsReplyJudged, as_sum, differs, is_otherwise};
 
 use crate::Coding;
-use crate::digits::{all_digits, number_of};
 use crate::fields::{first_value, some_differs, some_is_otherwise};
 use httparse::spans::{EMPTY_HEADER_SPAN, HeaderSpan, parse_response};
 use httparse::{Error, Status};
-use xdr_decode::Bad;
+use reply_faults::Bad;
+use viable::{all_digits, value_of};
 
 /// What the bytes of a reply begin with.
 #[derive(Clone, Copy)]
@@ -85,7 +85,7 @@ fn length_of(bytes: &[u8], fields: &[HeaderSpan]) -> Result<Coding, Bad>
     match first_value(bytes, fields, b"Content-Length") {
         Some(value) => {
             if is_one_length(bytes, fields, value) {
-                return Ok(Coding::Length(number_of(value)));
+                return Ok(Coding::Length(value_of(value)));
             }
             Err(Bad::BadHead)
         }

@@ -8,9 +8,9 @@ use crate::Coding;
 use crate::intake::{behind, keep, skip, take_line};
 use crate::reply_judge::{ReplyJudged, judge_reply};
 use dap_outside::Source;
-use dap_types::Memory;
+use dap_types::{Memory, limits};
+use reply_faults::{Bad, BadField};
 use std::alloc::Global;
-use xdr_decode::{Bad, BadField};
 
 /// What a reader of a reply's heads answers.
 #[derive(Debug, Drop)]
@@ -30,7 +30,7 @@ enum Step {
 }
 
 /// The bytes of the longest heads.
-const LONGEST: usize = 65_536;
+const LONGEST: usize = limits::MOST_REPLY_HEADS;
 
 /// Reads the heads of a reply, and keeps the bytes that it took beyond them.
 #[derive(Drop)]
@@ -42,7 +42,7 @@ pub struct ReplyReader {
 
 impl ReplyReader {
     ghost use Rattle.dap_http.specs.Replies.{HasFinal};
-    ghost use Rattle.dap_http.specs.Reading.{Answers, IsAnswered, rest_of};
+    ghost use Rattle.dap_http.specs.Reading.{Answers, AnswersFinalHead, rest_of};
     ghost use Rattle.dap_http.specs.inner.ReplyJudging.{IsPast, IsReadOf, IsReplyJudged, Settles, Steps};
     ghost use Rattle.dap_http.specs.declared.reply_judge.ReplyJudged.TheVariants.{Partial};
     ghost use Rattle.dap_http.specs.declared.reply_reader.Step.TheVariants.{Done, On};
@@ -64,7 +64,7 @@ impl ReplyReader {
             × Answers (rest_of self.old ++ taken) (rest_of self.new) (I.ended source.new) result
             × (length (rest_of self.old ++ taken) ≤ most_reply_heads) }
         ensures found { (left rest : List ℕ) (head : ResponseHead) → I.left source.old ≡ Some left →
-            HasFinal (rest_of self.old ++ left) head rest → IsAnswered (rest_of self.old ++ left) head rest result }
+            HasFinal (rest_of self.old ++ left) head rest → AnswersFinalHead (rest_of self.old ++ left) head rest result }
         ensures never { result ≢ ReplyRead.Memory }
         ensures fault { result ≡ ReplyRead.ReadFault → Rose (I.take_faults source.old) (I.take_faults source.new) }
         ensures kept { result ≢ ReplyRead.ReadFault → I.take_faults source.new ≡ I.take_faults source.old }

@@ -1,12 +1,14 @@
-ghost use Rattle.std.specs.Prelude.{◌≡◌, ◌≤◌, Some, None, IfOk, IsTrue, MatchOption, length, nat_eq};
-ghost use Rattle.std.specs.List.{after_first, before_first, list_all, position_or_len, slice_split};
+ghost use Rattle.std.specs.Prelude.{◌≡◌, ◌≤◌, Some, None, IfOk, IsTrue, MatchOption, length};
+ghost use Rattle.std.specs.List.{after_first, before_first, position_or_len};
 ghost use Rattle.percent_encoding.specs.Percent.{percent_decode};
 
 use crate::Kind;
-use dap_types::{Bytes, Memory, Name};
+use crate::first_byte::place_of;
+use dap_types::{Bytes, Memory, Name, limits};
 use percent_encoding::percent_decode;
 use std::alloc::Global;
 use std::str;
+use target_names::is_name;
 
 /// What a target asks for (RFC 9112, section 3.2; DAP 2.0, URL suffixes).
 #[derive(Debug, Drop)]
@@ -34,7 +36,8 @@ impl From<Memory> for TargetRefusal {
 }
 
 impl Target {
-    ghost use Rattle.dap_http.specs.Targets.{asked_in, from_slash, is_mark, is_name, is_name_byte, is_segment, is_slash, is_target_long, kind_of, kinded_in, named_in, path_of, query_of, target_of, without_origin, without_slash, without_suffix};
+    ghost use Rattle.target_names.specs.Names.{is_name};
+    ghost use Rattle.dap_http.specs.Targets.{asked_in, from_slash, is_mark, is_target_long, kind_of, kinded_in, named_in, path_of, query_of, target_of, without_origin, without_slash, without_suffix};
 
     /// Reads a target in the six steps of `specs/Targets`.
     #[tactic(auto, unfolding(crate::specs::Targets::target_of))]
@@ -54,7 +57,7 @@ impl Target {
     fn is_long(target: &[u8]) -> bool
         ensures { result ≡ is_target_long target.now }
     {
-        !target.is_empty() && target.len() <= 16_384
+        !target.is_empty() && target.len() <= limits::MOST_TARGET
     }
 
     fn without_origin(target: &[u8]) -> Option<&[u8]>
@@ -99,7 +102,7 @@ impl Target {
         match Target::kind_of(path.as_slice()) {
             Some(kind) => {
                 let name = Target::without_suffix(path.as_slice(), kind);
-                if !Target::is_name(name) {
+                if !is_name(name) {
                     return Err(TargetRefusal::BadTarget);
                 }
                 Ok(Target {
@@ -116,16 +119,7 @@ impl Target {
         ensures within { result ≤ length bytes.now }
         ensures place { result ≡ position_or_len is_mark bytes.now }
     {
-        let mut place = 0;
-        let mut left = bytes;
-        while let [first, rest @ ..] = left {
-            if *first == b'?' {
-                return place;
-            }
-            place += 1;
-            left = rest;
-        }
-        place
+        place_of(bytes, b'?')
     }
 
     fn behind_mark(bytes: &[u8], place: usize) -> &[u8]
@@ -168,41 +162,6 @@ impl Target {
         ensures { result.now ≡ without_suffix kind path.now }
     {
         &path[..path.len().saturating_sub(kind.suffix().len())]
-    }
-
-    #[tactic(auto, unfolding(crate::specs::Targets::is_name))]
-    fn is_name(name: &[u8]) -> bool
-        ensures { result ≡ is_name name.now }
-    {
-        !name.is_empty() && name.len() <= 255 && Target::are_segments(name)
-    }
-
-    fn are_segments(name: &[u8]) -> bool
-        ensures { result ≡ list_all is_segment (slice_split is_slash name.now) }
-    {
-        name.split(|b| *b == b'/')
-            .all(|part| Target::is_segment(part))
-    }
-
-    fn is_segment(part: &[u8]) -> bool
-        ensures { result ≡ is_segment part.now }
-    {
-        match part {
-            [] => false,
-            [first, ..] => !(*first == b'.') && Target::are_name_bytes(part),
-        }
-    }
-
-    fn are_name_bytes(bytes: &[u8]) -> bool
-        ensures { result ≡ list_all is_name_byte bytes.now }
-    {
-        bytes.iter().all(|b| Target::is_name_byte(*b))
-    }
-
-    fn is_name_byte(b: u8) -> bool
-        ensures { result ≡ is_name_byte b }
-    {
-        b.is_ascii_alphanumeric() || b'_' == b || b'.' == b || b'+' == b || b'-' == b
     }
 
     fn name_of(alloc: Global, name: &[u8]) -> Result<Name, Memory>

@@ -3,7 +3,7 @@ ghost use Rattle.dap_http.specs.inner.Steps.{is_number};
 
 use crate::Coding;
 use crate::chunk_step::At;
-use xdr_decode::{Bad, BadField};
+use reply_faults::{Bad, BadField};
 
 /// What an unframer makes of a piece.
 #[derive(Clone, Copy)]
@@ -33,18 +33,18 @@ pub struct Unframer {
 
 impl Unframer {
     ghost use Rattle.std.specs.Prelude.{◌≡◌, ℕ, ◌+◌, ◌<◌, ◌≤◌, ◌⊎◌, ◌^◌, false, IsTrue, List, [], ◌++◌, length, take, IsOk, OnOk, IfErr};
-    ghost use Rattle.dap_http.specs.After.{StandsAfter, WhereBad, WhereEnd, WhereMore, WherePart, coding_of, count_of, lent_by, used_by, used_of};
+    ghost use Rattle.dap_http.specs.After.{UnframerStandsAfter, WhereBad, WhereEnd, WhereMore, WherePart, coding_of, count_of, lent_by, used_by, used_of};
     ghost use Rattle.dap_http.specs.inner.Steps.{Known, advance, is_open, run, stops};
     ghost use Rattle.dap_http.specs.inner.Tracking.{Counts, IsRight, Lands, Passes, Tracks};
     ghost use Rattle.dap_http.specs.declared.chunk_step.At.TheVariants.{Data};
     ghost use Rattle.dap_http.specs.Codings.{Ends, Fails, Goes};
     ghost use Rattle.dap_http.specs.declared.coding.Coding.TheVariants.{ToEnd};
-    ghost use Rattle.xdr_decode.specs.declared.bad.BadField.{BadField as Wrong};
-    ghost use Rattle.xdr_decode.specs.declared.bad.Bad.TheVariants.{BadChunk, Cut};
+    ghost use Rattle.reply_faults.specs.declared.bad.BadField.{BadField as Wrong};
+    ghost use Rattle.reply_faults.specs.declared.bad.Bad.TheVariants.{BadChunk, Cut};
 
     /// An unframer of a body of that coding, which has used no byte. It takes no memory.
     pub fn new(coding: Coding) -> Unframer
-        ensures stands { StandsAfter result [] }
+        ensures stands { UnframerStandsAfter result [] }
         ensures coding { coding_of result ≡ coding }
         ensures used { used_by result ≡ 0 }
     {
@@ -63,30 +63,30 @@ impl Unframer {
         requires { used_by self.old + length piece.now < 2 ^ 63 }
 
         // Of whatever bytes it stands after, the answer says what they are with the piece.
-        ensures part { (bytes body : List ℕ) → StandsAfter self.old bytes → Goes (coding_of self.old) bytes body →
+        ensures part { (bytes body : List ℕ) → UnframerStandsAfter self.old bytes → Goes (coding_of self.old) bytes body →
             WherePart result (λ lent used. (used ≤ length piece.now) × (0 < length lent)
             × ((front : List ℕ) × (take used piece.now ≡ front ++ lent))
             × (Goes (coding_of self.old) (bytes ++ take used piece.now) (body ++ lent)
             ⊎ Ends (coding_of self.old) (bytes ++ take used piece.now) (body ++ lent))) }
-        ensures more { (bytes body : List ℕ) → StandsAfter self.old bytes → Goes (coding_of self.old) bytes body →
+        ensures more { (bytes body : List ℕ) → UnframerStandsAfter self.old bytes → Goes (coding_of self.old) bytes body →
             WhereMore (Goes (coding_of self.old) (bytes ++ piece.now) body) result }
-        ensures end { (bytes body : List ℕ) → StandsAfter self.old bytes → Goes (coding_of self.old) bytes body →
+        ensures end { (bytes body : List ℕ) → UnframerStandsAfter self.old bytes → Goes (coding_of self.old) bytes body →
             WhereEnd (λ used. (used ≤ length piece.now) × Ends (coding_of self.old) (bytes ++ take used piece.now) body) result }
-        ensures refused { (bytes body : List ℕ) → StandsAfter self.old bytes → Goes (coding_of self.old) bytes body →
+        ensures refused { (bytes body : List ℕ) → UnframerStandsAfter self.old bytes → Goes (coding_of self.old) bytes body →
             WhereBad (λ bad. (bad.kind ≡ BadChunk) × Fails (coding_of self.old) (bytes ++ piece.now) body bad.place) result }
 
         // Whatever they are is said.
-        ensures goes_on { (bytes body : List ℕ) → StandsAfter self.old bytes → Goes (coding_of self.old) bytes body →
+        ensures goes_on { (bytes body : List ℕ) → UnframerStandsAfter self.old bytes → Goes (coding_of self.old) bytes body →
             Goes (coding_of self.old) (bytes ++ piece.now) body → result ≡ Unframed.More }
-        ensures ended { (bytes body : List ℕ) (n : ℕ) → StandsAfter self.old bytes → Goes (coding_of self.old) bytes body →
+        ensures ended { (bytes body : List ℕ) (n : ℕ) → UnframerStandsAfter self.old bytes → Goes (coding_of self.old) bytes body →
             n ≤ length piece.now → Ends (coding_of self.old) (bytes ++ take n piece.now) body → result ≡ Unframed.End n }
-        ensures faulty { (bytes body : List ℕ) (place : ℕ) → StandsAfter self.old bytes → Goes (coding_of self.old) bytes body →
+        ensures faulty { (bytes body : List ℕ) (place : ℕ) → UnframerStandsAfter self.old bytes → Goes (coding_of self.old) bytes body →
             Fails (coding_of self.old) (bytes ++ piece.now) body place → result ≡ Unframed.Refused (record { kind = BadChunk; place = place }) }
 
         // It stands after the used bytes then. Behind an end and a fault the answer stays.
-        ensures stands { (bytes : List ℕ) → StandsAfter self.old bytes → StandsAfter self.new (bytes ++ used_of result piece.now) }
-        ensures again { (bytes body : List ℕ) → StandsAfter self.old bytes → Ends (coding_of self.old) bytes body → result ≡ Unframed.End 0 }
-        ensures still { (bytes body : List ℕ) (place : ℕ) → StandsAfter self.old bytes → Fails (coding_of self.old) bytes body place →
+        ensures stands { (bytes : List ℕ) → UnframerStandsAfter self.old bytes → UnframerStandsAfter self.new (bytes ++ used_of result piece.now) }
+        ensures again { (bytes body : List ℕ) → UnframerStandsAfter self.old bytes → Ends (coding_of self.old) bytes body → result ≡ Unframed.End 0 }
+        ensures still { (bytes body : List ℕ) (place : ℕ) → UnframerStandsAfter self.old bytes → Fails (coding_of self.old) bytes body place →
             result ≡ Unframed.Refused (record { kind = BadChunk; place = place }) }
         ensures coding { coding_of self.new ≡ coding_of self.old }
         ensures within { count_of result piece.now ≤ length piece.now }
@@ -111,8 +111,8 @@ impl Unframer {
 
     fn advance<'p>(&mut self, piece: &'p [u8]) -> Unframed<'p>
         requires { used_by self.old + length piece.now < 2 ^ 63 }
-        ensures right { (bytes : List ℕ) → StandsAfter self.old bytes → IsRight (coding_of self.old) bytes piece.now result }
-        ensures stands { (bytes : List ℕ) → StandsAfter self.old bytes → StandsAfter self.new (bytes ++ used_of result piece.now) }
+        ensures right { (bytes : List ℕ) → UnframerStandsAfter self.old bytes → IsRight (coding_of self.old) bytes piece.now result }
+        ensures stands { (bytes : List ℕ) → UnframerStandsAfter self.old bytes → UnframerStandsAfter self.new (bytes ++ used_of result piece.now) }
         ensures coding { coding_of self.new ≡ coding_of self.old }
         ensures within { count_of result piece.now ≤ length piece.now }
         ensures used { used_by self.new ≡ used_by self.old + length (used_of result piece.now) }
@@ -126,11 +126,11 @@ impl Unframer {
 
     /// What is wrong where the source has ended: nothing where the body has, too.
     pub fn finish(&self) -> Result<(), BadField>
-        ensures ended { (bytes body : List ℕ) → StandsAfter self.now bytes → Ends (coding_of self.now) bytes body → IsOk result }
+        ensures ended { (bytes body : List ℕ) → UnframerStandsAfter self.now bytes → Ends (coding_of self.now) bytes body → IsOk result }
         ensures to_end { coding_of self.now ≡ ToEnd → IsOk result }
-        ensures faulty { (bytes body : List ℕ) (place : ℕ) → StandsAfter self.now bytes → Fails (coding_of self.now) bytes body place →
+        ensures faulty { (bytes body : List ℕ) (place : ℕ) → UnframerStandsAfter self.now bytes → Fails (coding_of self.now) bytes body place →
             result ≡ Err (record { kind = BadChunk; place = place }) }
-        ensures cut { (bytes body : List ℕ) → StandsAfter self.now bytes → Goes (coding_of self.now) bytes body →
+        ensures cut { (bytes body : List ℕ) → UnframerStandsAfter self.now bytes → Goes (coding_of self.now) bytes body →
             (coding_of self.now ≡ ToEnd) ⊎ (result ≡ Err (record { kind = Cut; place = length body })) }
     {
         match self.coding {

@@ -1,11 +1,12 @@
-ghost use Rattle.std.specs.Prelude.{◌≡◌, ◌≤◌, ◌==◌, Some, None, IfOk, IsSome, IsTrue, MatchOption, length, drop};
-ghost use Rattle.std.specs.List.{before_first, list_all, position_or_len};
+ghost use Rattle.std.specs.Prelude.{◌≡◌, ◌≤◌, Some, None, IfOk, IsSome, IsTrue, MatchOption, length, drop};
+ghost use Rattle.std.specs.List.{before_first, list_all};
 ghost use Rattle.std.specs.Char.{is_ascii_digit};
 
 use crate::Target;
-use crate::digits::{all_digits, number_of};
+use crate::first_byte::place_of;
 use dap_types::{Bytes, Memory};
 use std::alloc::Global;
+use viable::{all_digits, value_of};
 
 /// A URL without its kind (RFC 9110, section 4.2.1).
 #[derive(Debug, Drop)]
@@ -33,8 +34,8 @@ impl From<Memory> for UrlRefusal {
 }
 
 impl Url {
+    ghost use Rattle.target_names.specs.Names.{is_slash};
     ghost use Rattle.dap_http.specs.Urls.{from_colon, hosted, is_colon, is_host, is_host_byte, is_path, is_path_byte, is_port, is_short, numbered, port_in, port_of, routed, url_of};
-    ghost use Rattle.dap_http.specs.Targets.{is_slash};
 
     /// Reads a URL in the steps of `specs/Urls`.
     #[tactic(auto, unfolding(crate::specs::Urls::url_of))]
@@ -83,38 +84,22 @@ impl Url {
         })
     }
 
-    fn place_of(bytes: &[u8], wanted: u8) -> usize
-        ensures within { result ≤ length bytes.now }
-        ensures place { result ≡ position_or_len (λ b. b == wanted) bytes.now }
-    {
-        let mut place = 0;
-        let mut left = bytes;
-        while let [first, rest @ ..] = left {
-            if *first == wanted {
-                return place;
-            }
-            place += 1;
-            left = rest;
-        }
-        place
-    }
-
     fn before_slash(bytes: &[u8]) -> &[u8]
         ensures { result.now ≡ before_first is_slash bytes.now }
     {
-        &bytes[..Url::place_of(bytes, b'/')]
+        &bytes[..place_of(bytes, b'/')]
     }
 
     fn before_colon(bytes: &[u8]) -> &[u8]
         ensures { result.now ≡ before_first is_colon bytes.now }
     {
-        &bytes[..Url::place_of(bytes, b':')]
+        &bytes[..place_of(bytes, b':')]
     }
 
     fn from_colon(bytes: &[u8]) -> &[u8]
         ensures { result.now ≡ from_colon bytes.now }
     {
-        &bytes[Url::place_of(bytes, b':')..]
+        &bytes[place_of(bytes, b':')..]
     }
 
     fn port_in(tail: &[u8]) -> Option<u16>
@@ -132,7 +117,7 @@ impl Url {
         if !Url::is_short(digits) {
             return None;
         }
-        Url::numbered(number_of(digits))
+        Url::numbered(value_of(digits))
     }
 
     fn numbered(number: u64) -> Option<u16>

@@ -55,7 +55,7 @@ mutual
       let rest = all_trees_same base ns ts us (all_rest (FitsArray base ns) t (items ts) fit) (all_rest (FitsArray base ns) u (items us) fit') (omega arith) both.1 in
       λ i. tree (first i) (rest i)
 
-plain : (base : BaseType) (v : Value) → IsNumber base → IsOf base v → value_fields base v ≡ number base v ∷ []
+pub plain : (base : BaseType) (v : Value) → IsNumber base → IsOf base v → value_fields base v ≡ number base v ∷ []
 plain Text v num is = absurd num
 plain Url v num is = absurd num
 plain base (values.Whole z) num is = refl

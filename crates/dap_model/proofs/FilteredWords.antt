@@ -17,14 +17,14 @@ use Rattle.dap_model.specs.Filter.{Marks, marked, unchanged, slabs_at, has_mark,
 use Rattle.dap_model.specs.Grammar.{HasWords, are_words}
 use Rattle.dap_model.specs.Tokens.{is_word}
 
-abbrev IsOfWords : Member → Type 0
+abbrev pub IsOfWords : Member → Type 0
 IsOfWords m = are_words m ≡ true
 
-both : (a b : Bool) → a ≡ true → b ≡ true → (a && b) ≡ true
+pub both : (a b : Bool) → a ≡ true → b ≡ true → (a && b) ≡ true
 both true b x y = y
 both false b x y = cc
 
-abbrev has_word : Dim → Bool
+abbrev pub has_word : Dim → Bool
 has_word dim = option_map_or is_word dim.name true
 
 -- the dimensions keep their names

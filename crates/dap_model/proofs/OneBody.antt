@@ -39,7 +39,7 @@ none_follow : (ts more : List Token) (d d' : Dataset) → StandsFor ts d → Sta
 none_follow ts more d d' stands stands' =
     dataset_same (Ends (d ≡ d')) (ends_step (d ≡ d')) d d' stands.0 stands'.0 (λ same. none_end (d ≡ d') same) ts more stands.1 stands'.1
 
-abbrev bare : List Placed → List Token
+abbrev pub bare : List Placed → List Token
 bare ps = map (λ (p : Placed). p.token) ps
 
 -- the tokens of more bytes begin with those of the bytes
@@ -72,7 +72,7 @@ holds_token front at (b ∷ w) none = by (is_white b || is_sign b) none (λ e. h
     by true e first second = first (none_behind (ended front at ++ sign_at b at) (tokens_from [] (at + 1) (w ++ 59 ∷ [])) e)
     by false e first second = second e
 
-not_none : (xs ys : List ℕ) (x : ℕ) → xs ++ x ∷ ys ≡ [] → ⊥
+pub not_none : (xs ys : List ℕ) (x : ℕ) → xs ++ x ∷ ys ≡ [] → ⊥
 not_none [] ys x e = cc
 not_none (z ∷ xs) ys x e = cc
 
@@ -97,10 +97,10 @@ same_text xs u d e a b =
         let (v, is) = last_part xs cs w c 59 last in
         absurd (holds_token f n v (ap (λ x. bare (tokens_from f n x)) (sym is) ∙ empty))
 
-cons_head : (x y : ℕ) (xs ys : List ℕ) → x ∷ xs ≡ y ∷ ys → x ≡ y
+pub cons_head : (x y : ℕ) (xs ys : List ℕ) → x ∷ xs ≡ y ∷ ys → x ≡ y
 cons_head x y xs ys e = cc
 
-cons_tail : (x y : ℕ) (xs ys : List ℕ) → x ∷ xs ≡ y ∷ ys → xs ≡ ys
+pub cons_tail : (x y : ℕ) (xs ys : List ℕ) → x ∷ xs ≡ y ∷ ys → xs ≡ ys
 cons_tail x y xs ys e = cc
 
 -- of two fronts of the same bytes the shorter one begins the longer one
@@ -122,7 +122,7 @@ one_text_front : (xs ys rs ss : List ℕ) (d e : Dataset) → DdsOf xs d → Dds
 one_text_front xs ys rs ss d e a b same =
     ⊎_elim (λ lt. let other = longer_text ys xs ss rs e d b a (sym same) (omega arith) in (sym other.0, sym other.1)) (λ le. longer_text xs ys rs ss d e a b same le) (cases_lt (length ys) (length xs))
 
-white_d : is_white 68 ≡ true → ⊥
+pub white_d : is_white 68 ≡ true → ⊥
 white_d e = cc
 
 -- white space before `D` is the same

@@ -5,7 +5,7 @@ use Rattle.dap_model.proofs.Decoding.{cons_same, split_same}
 use Rattle.dap_model.proofs.FieldKinds.{SameKind, spelled_width, same_width, spelled_same, kinds_back}
 use Rattle.dap_model.proofs.OneSpelling.{next_kind, none_follows}
 use Rattle.dap_model.specs.Fits.{FitsAll}
-use Rattle.dap_model.specs.Received.{MayFollow, Fault, fault_of, width, EndsAt, IsOpen, IsBadField}
+use Rattle.dap_model.specs.Received.{MayFollow, Fault, fault_of, width, ValuesEndAt, IsOpen, IsBadField}
 use Rattle.dap_model.specs.Xdr.{Field, count, number, packed, filler, size, text, padding, mark, fields_all, SpellsField, SpellsFields}
 
 -- some values of the dataset begin with these fields
@@ -158,7 +158,7 @@ none_after : (d : Dataset) (ts : List Tree) (gs : List Field) (a b : List ℕ) �
 none_after d ts gs a b fit begin on = none_follows d ts on.next fit (next_follows d (fields_all d.members ts) gs a b on begin)
 
 -- values that are ended have no bad field and are not open
-pub ended_not_bad : (d : Dataset) (ts : List Tree) (bs : List ℕ) (n : ℕ) (f : Fault) (p : ℕ) → EndsAt d ts bs n → IsBadField d bs f p → ⊥
+pub ended_not_bad : (d : Dataset) (ts : List Tree) (bs : List ℕ) (n : ℕ) (f : Fault) (p : ℕ) → ValuesEndAt d ts bs n → IsBadField d bs f p → ⊥
 ended_not_bad d ts bs n f p ended bad =
     let left : bs ≡ bad.front ++ (bad.own ++ bad.rest) = bad.parts ∙ append_assoc bad.front bad.own bad.rest in
     let begin = begin_before d bad.fields bad.wanted bad.may_follow in
@@ -168,7 +168,7 @@ ended_not_bad d ts bs n f p ended bad =
     (λ on. ⊎_elim (bad_stops d bs f p bad (fields_all d.members ts) (take n bs) (drop n bs) begin' (ended_parts bs n)) (none_after d ts bad.fields (take n bs) bad.front ended.1.fit begin) on)
     (compared d [] bad.fields (fields_all d.members ts) bad.front (take n bs) (bad.own ++ bad.rest) (drop n bs) begin begin' bad.good ended.1.spelled (sym left ∙ ended_parts bs n))
 
-pub ended_not_open : (d : Dataset) (ts : List Tree) (bs : List ℕ) (n : ℕ) → EndsAt d ts bs n → IsOpen d bs → ⊥
+pub ended_not_open : (d : Dataset) (ts : List Tree) (bs : List ℕ) (n : ℕ) → ValuesEndAt d ts bs n → IsOpen d bs → ⊥
 ended_not_open d ts bs n ended open' =
     let begin = begin_before d open'.fields open'.wanted open'.may_follow in
     let begin' = begin_all d ts ended.1.fit in

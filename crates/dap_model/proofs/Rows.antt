@@ -1,12 +1,17 @@
 -- The worked examples, computed.
-use Rattle.std.proofs.Common.{◌≡◌, pos, [], ◌∷◌, true, codes, refl}
+use Rattle.std.proofs.Common.{◌≡◌, pos, negsuc, [], ◌∷◌, true, codes, refl}
 use Rattle.std.specs.Fmt.{digits}
-use Rattle.std.specs.Ordering.{is_eq, is_lt}
+use Rattle.std.specs.Ordering.{is_eq, is_gt, is_lt}
+use Rattle.dap_types.specs.Model.{scalar, structure, members_of, one}
+use Rattle.dap_types.specs.declared.declarations.BaseType.TheVariants.{Byte, Int16, Float32, Text}
+use Rattle.dap_types.specs.declared.values.Value.TheVariants as values
 use Rattle.dap_model.specs.Dds.{line, column_text, array_text, closing, dds}
 use Rattle.dap_model.specs.Filter.{Marks, Keeps, constrained}
+use Rattle.dap_model.specs.Raw.{value_of}
+use Rattle.dap_model.specs.Rows.{kept}
 use Rattle.dap_model.specs.Shown.{shown}
 use Rattle.dap_model.specs.Xdr.{bytes_of, field_bytes, xdr}
-use Rattle.dap_model.proofs.Files.{buoys, buoys_rows, v, v_values, g, g_values, r, b, z, c, e, slab, list, numbers, text, words, marks_of, on_depth, left}
+use Rattle.dap_model.proofs.Files.{dataset, column, buoys, buoys_rows, v, v_values, g, g_values, r, b, z, c, e, slab, list, numbers, text, words, marks_of, on_depth, left}
 
 table : dds buoys ≡ codes "Dataset {\n    Sequence {\n        String station;\n        Int32 depth;\n    } buoys;\n} buoys.csv;\n"
 unfolding dds line column_text closing
@@ -144,3 +149,31 @@ no_records = refl
 no_records_values : xdr e (list [] ∷ []) ≡ words (0 ∷ 0 ∷ [])
 unfolding bytes_of field_bytes
 no_records_values = refl
+
+-- g.g[0:0][0:1],g.lat[0:0],g.lon[1:2]: a map that picks as many indexes as the array, but others
+other_indexes : dds (constrained (marks_of ((4, slab 0 1 1 ∷ slab 0 1 2 ∷ []) ∷ (5, slab 0 1 1 ∷ []) ∷ (6, slab 1 1 2 ∷ []) ∷ [])) g)
+    ≡ codes "Dataset {\n    Structure {\n        Int16 g[lat = 1][lon = 2];\n        Int32 lat[lat = 1];\n        Int32 lon[lon = 2];\n    } g;\n} g.nc;\n"
+unfolding dds line array_text closing digits
+other_indexes = refl
+
+-- buoys.station&buoys.station>"A1"
+texts_by_their_bytes : left (marks_of ((2, []) ∷ [])) (kept (record { column = 2; relation = is_gt; values = values.Text (codes "A1") ∷ [] } ∷ [])) buoys buoys_rows ≡ words (0x5a000000 ∷ 3 ∷ 0x42323200 ∷ 0xa5000000 ∷ [])
+unfolding bytes_of field_bytes
+texts_by_their_bytes = refl
+
+-- the indexes of an array; quotes, a backslash and a line feed in a text; the bits of a float below a name
+array_shown : shown z (numbers (1 ∷ 2 ∷ []) ∷ numbers (10 ∷ 11 ∷ []) ∷ []) 96 ≡ codes "Dataset {\n    Int16 a[t = 2];\n    Int16 b[t = 2];\n} z.nc;\na[0] = 1\na[1] = 2\nb[0] = 10\nb[1] = 11\ncomplete 96\n"
+unfolding dds line array_text closing digits
+array_shown = refl
+
+parts_shown : shown (dataset (codes "f") (structure (codes "s") (members_of (scalar (column Text (codes "q")) ∷ scalar (column Float32 (codes "x")) ∷ [])) ∷ [])) (list (text (34 ∷ 92 ∷ 10 ∷ []) ∷ one (values.Bits32 0x3f800000) ∷ []) ∷ []) 80
+    ≡ codes "Dataset {\n    Structure {\n        String q;\n        Float32 x;\n    } s;\n} f;\ns.q = \"\\\"\\\\\\x0a\"\ns.x = 0x3f800000\ncomplete 80\n"
+unfolding dds line column_text closing digits
+parts_shown = refl
+
+-- an Int16 and a Byte as they stand in a file
+short_in_a_file : value_of Int16 (0xff ∷ 0xfe ∷ []) ≡ values.Whole (negsuc 1)
+short_in_a_file = refl
+
+byte_in_a_file : value_of Byte (0xff ∷ []) ≡ values.Whole (pos 255)
+byte_in_a_file = refl

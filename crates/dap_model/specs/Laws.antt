@@ -18,7 +18,7 @@ use Rattle.dap_model.specs.Grammar.{DdsOf, HasWords, StandsFor, dataset_slots}
 use Rattle.dap_model.specs.Body.{body, IsBody}
 use Rattle.dap_model.specs.Dds.{dds}
 use Rattle.dap_model.specs.Tokens.{Token}
-use Rattle.dap_model.specs.Received.{MayFollow, Fault, fault_of, width, EndsAt, IsOpen, IsBadField}
+use Rattle.dap_model.specs.Received.{MayFollow, Fault, fault_of, width, ValuesEndAt, IsOpen, IsBadField}
 use Rattle.dap_model.specs.Xdr.{Field, array_fields, bytes_of, xdr, Spells, padded}
 
 -- a dataset is well formed exactly where it has no fault
@@ -125,5 +125,5 @@ abbrev pub OneVerdict : Type 0
 OneVerdict = (d : Dataset) (bs : List ℕ) →
     ((f g : Fault) (p q : ℕ) → IsBadField d bs f p → IsBadField d bs g q → (f ≡ g) × (p ≡ q))
     × ((f : Fault) (p : ℕ) → IsBadField d bs f p → ¬ (IsOpen d bs))
-    × ((ts : List Tree) (n : ℕ) (f : Fault) (p : ℕ) → EndsAt d ts bs n → ¬ (IsBadField d bs f p))
-    × ((ts : List Tree) (n : ℕ) → EndsAt d ts bs n → ¬ (IsOpen d bs))
+    × ((ts : List Tree) (n : ℕ) (f : Fault) (p : ℕ) → ValuesEndAt d ts bs n → ¬ (IsBadField d bs f p))
+    × ((ts : List Tree) (n : ℕ) → ValuesEndAt d ts bs n → ¬ (IsOpen d bs))

@@ -54,8 +54,8 @@ pub record IsBadField (d : Dataset) (bs : List ℕ) (fault : Fault) (place : ℕ
   pub is_place : place ≡ length front
 
 -- the values are ended by the first n bytes
-abbrev pub EndsAt : Dataset → List Tree → List ℕ → ℕ → Type 0
-EndsAt d ts bs n = (n ≤ length bs) × Spells d ts (take n bs)
+abbrev pub ValuesEndAt : Dataset → List Tree → List ℕ → ℕ → Type 0
+ValuesEndAt d ts bs n = (n ≤ length bs) × Spells d ts (take n bs)
 
 -- the values are not ended: there are good whole fields, and then a proper part of one that may follow
 pub record IsOpen (d : Dataset) (bs : List ℕ) : Type 0 where

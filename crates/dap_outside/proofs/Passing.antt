@@ -7,7 +7,7 @@ use Rattle.dap_outside.proofs.Fronts.{front_of, front_more}
 use Rattle.dap_outside.specs.Streams.{AppendsFront}
 use Rattle.dap_outside.specs.Buffered.{Passes, PassesFront, Puts}
 
-appends_none : (w : Option (List ℕ)) → Appends w w []
+pub appends_none : (w : Option (List ℕ)) → Appends w w []
 appends_none None = tt
 appends_none (Some xs) = sym (append-nil xs)
 

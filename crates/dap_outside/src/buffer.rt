@@ -5,11 +5,11 @@ ghost use Rattle.dap_outside.specs.Causes.{HasCause};
 ghost use Rattle.dap_outside.specs.Streams.{AppendsFront};
 
 use crate::{Failed, Sink, put_all};
-use dap_types::Memory;
+use dap_types::{Memory, limits};
 use std::alloc::Global;
 
 /// How many bytes a buffer holds.
-const ROOM: usize = 65536;
+const ROOM: usize = limits::MOST_PIECE;
 
 /// Bytes on their way to a sink, at most 64 KiB. It takes memory only when it is made.
 #[derive(Debug, Drop)]

@@ -9,6 +9,7 @@ use Rattle.std.proofs.lemmas.Slice.Eq.{bytes_eq-Decides}
 use Rattle.dap_outside.specs.Buffered.{Passes}
 use Rattle.dap_outside.proofs.Passing.{passes_two}
 use Rattle.dap_server.specs.inner.Buffering.{HasFront, HasPart, has_grown, put_through}
+use Rattle.dap_http.proofs.Framed.{grown}
 
 -- ---- a buffer
 
@@ -26,11 +27,6 @@ pub some-left : (items : List ℕ) (sent : ℕ) → sent < length items → 0 < 
 some-left items sent less = omega (arith, length-drop sent items, less)
 
 -- ---- a sink behind it
-
-grown : (s w z y : List ℕ) → z ≡ w ++ y → w ≡ s ++ drop (length s) w → z ≡ s ++ drop (length s) z
-grown s w z y more is =
-    let all : z ≡ s ++ (drop (length s) w ++ y) = more ∙ ap (λ t. t ++ y) is ∙ append_assoc s (drop (length s) w) y in
-    all ∙ ap (λ t. s ++ t) (sym (ap (drop (length s)) all ∙ drop-append_seam s (drop (length s) w ++ y)))
 
 has-grown : (s n : List ℕ) → IsTrue (has_grown (Some s) (Some n)) → n ≡ s ++ drop (length s) n
 has-grown s n e = (bytes_eq-Decides n (s ++ drop (length s) n)).0 e

@@ -1,9 +1,10 @@
 -- The worked targets, by computation.
 use Rattle.std.proofs.Common.{refl, inl, inr}
+use Rattle.target_names.specs.Names.{is_name}
 use Rattle.file_names.specs.Names.{segment}
 use Rattle.percent_encoding.specs.Percent.{percent_decode}
 use Rattle.dap_errors.specs.declared.cause.Cause.TheVariants.{BadTarget, NoFile}
-use Rattle.dap_http.specs.Targets.{is_name, target_of}
+use Rattle.dap_http.specs.Targets.{target_of}
 use Rattle.dap_http.specs.Texts.{version}
 use Rattle.dap_server.specs.Worked.{NoSuchFile, NoKind, AnyVersion, Call, Escaped, Forms}
 

@@ -8,7 +8,7 @@ use Rattle.dap_errors.specs.Causes.{http_status}
 use Rattle.dap_errors.specs.declared.cause.Cause.{Cause}
 use Rattle.dap_errors.specs.declared.cause.Cause.TheVariants.{OutOfMemory}
 use Rattle.dap_http.specs.Requests.{FirstRequest, HasNoHead, HasNoRequest, IsBadRequest, IsGone, IsTooLong, NeverHasHead, Requests, ends_connection, feeds}
-use Rattle.dap_http.proofs.HeadReading.{none-now, too-long-still}
+use Rattle.dap_http.proofs.HeadReading.{none-now, too-long-still, long-still}
 use Rattle.dap_outside.specs.Causes.{Rose}
 use Rattle.dap_outside.specs.Files.{Told}
 use Rattle.dap_server.specs.Connections.{AreTurns, Behind, Connection, IsClosed, IsConnectionServed, MayAnswer, RoseBy, RoseFor, Stops, ends_after, failed_turns, failures, is_last_turn, last_status, nothing, part_of_refusal, part_of_reply, put_from, refusal, status_behind}
@@ -43,10 +43,6 @@ bad-still bytes more bad =
         | inr (many, none) ↦ inr (omega (arith, many, feeds-more bytes more), none-now (bytes ++ more) never)
       ];
     }
-
-pub long-still : (bytes more : List ℕ) → IsTooLong bytes → IsTooLong (bytes ++ more)
-long-still bytes more long =
-    record { many = omega (arith, long.many, length-append bytes more); none = λ head rest first. too-long-still bytes more rest head long first }
 
 no-bad : (bytes : List ℕ) → IsBadRequest bytes → HasNoRequest bytes
 no-bad bytes bad = λ head rest first. none-now bytes bad.never head rest first.0
@@ -90,7 +86,7 @@ answered-so files q answer (inl (other, is, answers)) none calm = subst (λ f. I
 answered-so files q answer (inr (inl (is, served, asks))) none calm = cc (none, ap Rattle.dap_server.specs.Connections.has_failed is)
 answered-so files q answer (inr (inr is)) none calm = cc (calm, ap wants is)
 
-of-true : (b : Bool) (P Q : Type 0) → b ≡ true → MatchBool b P Q → P
+pub of-true : (b : Bool) (P Q : Type 0) → b ≡ true → MatchBool b P Q → P
 of-true true P Q is p = p
 of-true false P Q is p = cc is
 
@@ -103,7 +99,7 @@ of-false false P Q is q = q
 abbrev Calm : ℕ → ℕ → List Turn → Type 0
 Calm before k turns = ends_after false k turns ≡ true → last_status before turns ≢ 503
 
-abbrev heads : List Turn → List RequestHead
+abbrev pub heads : List Turn → List RequestHead
 heads turns = map (λ (t : Turn). t.head) turns
 
 abbrev All-turns : Files → ℕ → List ℕ → List ℕ → List ℕ → List Turn → Type 0

@@ -1,7 +1,7 @@
 -- What answering a target may ask of a shelf (this project's).
 use Rattle.std.specs.Prelude.{◌≡◌, ℕ, ◌+◌, ◌*◌, Bool, true, false, ◌&&◌, List, [], ◌∷◌, ◌++◌, length, min, nat_lt, if◌then◌else◌, codes, is_some, Option, Some, None, Result, Ok, Err}
 use Rattle.std.specs.Option.{option_map_or}
-use Rattle.dap_types.specs.Limits.{most_header, most_piece, most_table}
+use Rattle.dap_types.specs.Limits.{most_header, most_lines, most_piece, most_saved, most_table}
 use Rattle.dap_outside.specs.Files.{Told}
 use Rattle.dap_model.specs.Dds.{dds}
 use Rattle.dap_model.specs.Filter.{Marks, constrained}
@@ -13,13 +13,12 @@ use Rattle.constraint_parse.specs.declared.constraint.Constraint.{Constraint}
 use Rattle.grid_projection.specs.Marks.{marks}
 use Rattle.xdr_encode.specs.Asked.{MarksAsk}
 use Rattle.xdr_encode.specs.Costs.{marks_cost}
-use Rattle.saved_source.specs.Responses.{most_saved}
 use Rattle.dap_http.specs.Targets.{Asked}
 use Rattle.dap_http.specs.declared.kind.Kind.{Kind}
 use Rattle.dap_http.specs.declared.kind.Kind.TheVariants.{Dds, Das, Dods, Ver}
 use Rattle.join_source.specs.Asked.{JoinedAsk}
 use Rattle.join_source.specs.Costs.{joined_cost}
-use Rattle.join_source.specs.Lists.{list_of, most_lines}
+use Rattle.join_source.specs.Lists.{list_of}
 use Rattle.join_source.specs.Members.{CanJoin, joined_dataset}
 use Rattle.join_source.specs.declared.refusal.ListRefusal.{ListRefusal}
 use Rattle.dap_server.specs.Files.{Files, Form, MayHave, form_of, front, joined, netcdf, saved, table}

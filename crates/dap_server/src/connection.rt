@@ -18,12 +18,12 @@ use crate::served::{Ending, Served};
 use dap_errors::{Cause, status};
 use dap_http::{Head, HeadRead, HeadReader, error_reply, memory_reply};
 use dap_outside::{Link, Shelf, Sink, put_all};
-use dap_types::Memory;
+use dap_types::{Memory, limits};
 use std::alloc::Global;
 use std::thread::Threads;
 
 /// The requests of a connection, at most.
-const MOST: u32 = 1_000;
+const MOST: u32 = limits::MOST_REQUESTS;
 
 /// Puts a reply that ends the connection, behind so many others, the last of which had that status.
 fn put_last<O: Sink>(out: &mut O, bytes: &[u8], status: u16, answered: u32, before: u16) -> Served

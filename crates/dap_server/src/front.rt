@@ -10,14 +10,15 @@ ghost use Rattle.dap_server.specs.inner.Opening.{IsRead, IsWanted, StaysBut, Whe
 use crate::no_answer::{Stop, damaged};
 use dap_errors::FileCause;
 use dap_outside::Shelf;
+use dap_types::limits;
 use netcdf_source::{Header, HeaderRefusal, read_front};
 use std::alloc::Global;
 
 /// The most bytes of a header.
-const HEADER_MAX: u64 = 1_048_576;
+const HEADER_MAX: u64 = limits::MOST_HEADER as u64;
 
 /// The bytes that are read first.
-const FIRST: u64 = 65_536;
+const FIRST: u64 = limits::MOST_PIECE as u64;
 
 /// The stop for which there is no header.
 fn header_stop(refusal: HeaderRefusal) -> Stop

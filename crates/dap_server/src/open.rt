@@ -17,12 +17,13 @@ use crate::saved_file::SavedFile;
 use csv_source::{Table, TableRefusal, read_table};
 use dap_errors::{Cause, FileCause};
 use dap_outside::Shelf;
+use dap_types::limits;
 use file_names::last_segment;
 use netcdf_source::Header;
 use std::alloc::Global;
 
 /// The most bytes of a table.
-const TABLE_MAX: u64 = 67_108_864;
+const TABLE_MAX: u64 = limits::MOST_TABLE as u64;
 
 /// A stored file.
 #[derive(Drop)]

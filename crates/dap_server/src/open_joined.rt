@@ -19,13 +19,13 @@ use crate::no_answer::{Stop, damaged};
 use crate::open::{find, read_front};
 use dap_errors::FileCause;
 use dap_outside::Shelf;
-use dap_types::{Bytes, List};
+use dap_types::{Bytes, List, limits};
 use join_source::{JoinRefusal, Joined, ListRefusal, join, read_list};
 use netcdf_source::Header;
 use std::alloc::Global;
 
 /// The most bytes of a list.
-const LIST_MAX: u64 = 65_536;
+const LIST_MAX: u64 = limits::MOST_PIECE as u64;
 
 /// The stop for which there is no list.
 fn list_stop(refusal: ListRefusal) -> Stop

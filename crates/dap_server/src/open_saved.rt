@@ -13,11 +13,12 @@ use crate::open::read_front;
 use crate::saved_file::SavedFile;
 use dap_errors::FileCause;
 use dap_outside::Shelf;
+use dap_types::limits;
 use saved_source::{SavedRefusal, read_saved};
 use std::alloc::Global;
 
 /// The most bytes of a saved response.
-const SAVED_MAX: u64 = 67_108_864;
+const SAVED_MAX: u64 = limits::MOST_SAVED as u64;
 
 /// The stop for which there is no response.
 fn refusal_stop(refusal: SavedRefusal) -> Stop

@@ -5,11 +5,11 @@ ghost use Rattle.dap_outside.specs.Buffered.{Passes};
 ghost use Rattle.dap_outside.specs.Causes.{HasCause};
 
 use dap_outside::{Failed, Sink};
-use dap_types::Memory;
+use dap_types::{Memory, limits};
 use std::alloc::Global;
 
 /// The most bytes that a buffer holds.
-const MOST_HELD: usize = 65_536;
+const MOST_HELD: usize = limits::MOST_PIECE;
 
 /// Bytes on their way to a sink, at most 64 KiB, the first of which were put. It takes memory only when it
 /// is made.

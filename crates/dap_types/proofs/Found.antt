@@ -43,7 +43,7 @@ same_path [] (y ∷ ys) e = cc
 same_path (x ∷ xs) [] e = cc
 same_path (x ∷ xs) (y ∷ ys) e = let p = both_true (bytes_eq x y) (pointwise bytes_eq xs ys) e in ap (λ l. l ∷ xs) (same_bytes x y p.0) ∙ ap (λ l. y ∷ l) (same_path xs ys p.1)
 
-option_or-none : {X : Type 0} (o : Option X) → o ≡ option_or o None
+pub option_or-none : {X : Type 0} (o : Option X) → o ≡ option_or o None
 option_or-none None = refl
 option_or-none (Some x) = refl
 

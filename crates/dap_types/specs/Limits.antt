@@ -20,6 +20,20 @@ most_dimensions = 32
 abbrev pub most_elements : ℕ
 most_elements = 2147483647
 
+-- ---- constraints
+
+-- the items of a projection
+abbrev pub most_items : ℕ
+most_items = 1024
+
+-- the clauses of a selection
+abbrev pub most_clauses : ℕ
+most_clauses = 1024
+
+-- the values of a clause
+abbrev pub most_values : ℕ
+most_values = 1024
+
 -- ---- texts and bodies
 
 -- the bytes of a DDS or a DAS
@@ -52,7 +66,27 @@ most_columns = 1024
 abbrev pub most_header : ℕ
 most_header = 1048576
 
+-- the bytes of a netCDF file's variable, and of one of its records
+abbrev pub most_variable : ℕ
+most_variable = 2 ^ 62
+
+-- the files that are joined
+abbrev pub most_lines : ℕ
+most_lines = 64
+
+-- the bytes of a saved data response that is served
+abbrev pub most_saved : ℕ
+most_saved = 67108864
+
+-- the bytes of a data response that is written as a netCDF file
+abbrev pub most_written : ℕ
+most_written = 16777216
+
 -- ---- HTTP
+
+-- the requests of a connection
+abbrev pub most_requests : ℕ
+most_requests = 1000
 
 -- the bytes of a request's head
 abbrev pub most_request_head : ℕ
@@ -72,3 +106,17 @@ most_chunk_line = 1024
 
 abbrev pub most_trailers : ℕ
 most_trailers = 16384
+
+-- ---- the gateway
+
+-- the bytes of a body that is relayed
+abbrev pub most_body : ℕ
+most_body = 67108864
+
+-- the bodies that are kept
+abbrev pub most_room : ℕ
+most_room = 1024
+
+-- the bytes of a body that is kept
+abbrev pub most_kept : ℕ
+most_kept = 1048576

@@ -7,6 +7,7 @@ mod bytes;
 mod declarations;
 mod held;
 mod index;
+pub mod limits;
 mod list;
 mod memory;
 mod names;

@@ -3,11 +3,9 @@ ghost use Rattle.dap_types.specs.Judged.{inner};
 ghost use Rattle.dap_types.specs.Model.{count, count_all};
 ghost use Rattle.dap_types.specs.View.{member_view, members_view};
 
+use crate::limits::MOST_MEMBERS;
 use crate::{Decl, Memory};
 use std::alloc::Global;
-
-/// The most members that a dataset may have.
-pub const MOST_MEMBERS: u64 = 1_000_000;
 
 /// How many members a declaration is without the parts of a Structure.
 #[tactic(auto, using(crate::proofs::Views::views))]

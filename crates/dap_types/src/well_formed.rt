@@ -6,17 +6,17 @@ ghost use Rattle.dap_types.specs.View.{dataset_view, member_view, members_view};
 ghost use Rattle.dap_types.specs.WellFormed.{IsWellFormed, fault, has_maps, has_sizes, is_sized, leaf_places, part_places, places};
 
 use crate::size::has_too_many;
-use crate::{ArrayDecl, Column, Dataset, Decl, Dim, Id, Names, Unfit};
+use crate::{ArrayDecl, Column, Dataset, Decl, Dim, Id, Names, Unfit, limits};
 use std::alloc::Global;
 
 /// The depth of the deepest members that a dataset may have.
-const DEEPEST: u32 = 16;
+const DEEPEST: u32 = limits::MOST_DEPTH as u32;
 
 /// The greatest rank of an array.
-const GREATEST_RANK: usize = 32;
+const GREATEST_RANK: usize = limits::MOST_DIMENSIONS;
 
 /// The greatest size of a dimension.
-const GREATEST_SIZE: u32 = 2_147_483_647;
+const GREATEST_SIZE: u32 = limits::MOST_ELEMENTS as u32;
 
 /// Whether the dataset is well formed: DAP 2.0's rules on names and on the maps of a Grid, and this
 /// project's limits on members, depth, rank and sizes. An error is the dataset's first fault, or

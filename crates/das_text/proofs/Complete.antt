@@ -6,12 +6,13 @@ use Rattle.std.proofs.lemmas.Bool.Decides.{nat_tests}
 use Rattle.dap_types.specs.declared.declarations.BaseType.{BaseType}
 use Rattle.text_tokens.specs.Tokens.{Token, sign, word, quoted}
 use Rattle.text_tokens.specs.inner.Machines.{run}
-use Rattle.das_text.specs.Grammar.{base_of_word, most_depth, IsValue, LaterOf, ValuesOf, EntryOf, EntriesOf, IsDas}
+use Rattle.das_text.specs.Grammar.{base_of_word, IsValue, LaterOf, ValuesOf, EntryOf, EntriesOf, IsDas}
 use Rattle.das_text.specs.inner.Machine.{Around, State, start, inside, worded, named, valued, parted, ended, may_begin, attribute_of, with_value, enter, add, step}
 use Rattle.das_text.specs.Model.{Attributes, Entry, attribute, container, Entries, no_entries, entry, entries_of}
 use Rattle.das_text.specs.declared.entries.Attribute.{Attribute}
 use Rattle.das_text.specs.declared.entries.Word.{Word}
 use Rattle.das_text.proofs.OpenContainers.{begins}
+use Rattle.dap_types.specs.Limits.{most_depth}
 
 abbrev pub list_of : Entries → List Entry
 list_of no_entries = []

@@ -9,13 +9,14 @@ use Rattle.std.proofs.Common.{append_assoc, append-nil}
 use Rattle.dap_types.specs.declared.declarations.BaseType.{BaseType}
 use Rattle.text_tokens.specs.Tokens.{Token, sign, word, is_token}
 use Rattle.text_tokens.specs.inner.Machines.{run, IsMachine}
-use Rattle.das_text.specs.Grammar.{signs, base_of_word, most_depth, IsDas}
+use Rattle.das_text.specs.Grammar.{signs, base_of_word, IsDas}
 use Rattle.das_text.specs.inner.Machine.{Around, State, start, begun, headed, inside, worded, named, valued, parted, ended, may_begin, attribute_of, with_value, leave, enter, add, step, IsOpenState}
 use Rattle.das_text.specs.Model.{Attributes, Entry, attribute, container, entries_of}
 use Rattle.das_text.specs.declared.entries.Attribute.{Attribute}
 use Rattle.das_text.specs.declared.entries.Word.TheVariants.{Plain}
 use Rattle.das_text.proofs.Told.{Told, told_step}
 use Rattle.das_text.proofs.Complete.{complete, run_step, name_step, open_step}
+use Rattle.dap_types.specs.Limits.{most_depth}
 
 pub run_told : (s last : State) (before tokens : List Token) → Told s before → run step s tokens ≡ Some last → Told last (before ++ tokens)
 run_told s last before [] told e =

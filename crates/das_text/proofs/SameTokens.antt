@@ -14,21 +14,21 @@ use Rattle.das_text.specs.DdsTokens.{dds_signs, NoQuotes, NoQuoteNext, is_quoted
 
 -- classes of bytes
 
-eq_swap : (b c : ℕ) → (b == c) ≡ (c == b)
+pub eq_swap : (b c : ℕ) → (b == c) ≡ (c == b)
 eq_swap b c = on (b == c) refl
   where
     on : (x : Bool) → (b == c) ≡ x → x ≡ (c == b)
     on true e = (let same : b ≡ c = eqb-true b c e in subst (λ (z : ℕ). true ≡ (c == z)) (sym same) (let r : (c == c) ≡ true = grind (arith, nat_tests) in sym r))
     on false e = sym (ne_eqb c b (λ h. eqb-false b c e (sym h)))
 
-or_four : (p q r s : Bool) → (p || (q || (r || (s || false)))) ≡ (((p || q) || r) || s)
+pub or_four : (p q r s : Bool) → (p || (q || (r || (s || false)))) ≡ (((p || q) || r) || s)
 or_four true q r s = refl
 or_four false true r s = refl
 or_four false false true s = refl
 or_four false false false true = refl
 or_four false false false false = refl
 
-white_same : (b : ℕ) → dds.is_white b ≡ is_white b
+pub white_same : (b : ℕ) → dds.is_white b ≡ is_white b
 white_same b = rw (eq_swap 9 b, eq_swap 10 b, eq_swap 13 b, eq_swap 32 b) (or_four (b == 9) (b == 10) (b == 13) (b == 32))
 
 -- white space is no sign

@@ -12,6 +12,7 @@ use Rattle.das_text.specs.inner.Machine.{start, step, ended, IsOpenState}
 use Rattle.das_text.specs.Model.{Attributes}
 use Rattle.das_text.specs.Reading.{front, DasOf, HasBehind, IsTrailing, IsBad, IsCut}
 use Rattle.das_text.proofs.Language.{machine}
+use Rattle.text_tokens.proofs.Unique.{false_true}
 
 free : IsPrefixFree IsDas
 free = prefix_free signs IsDas step start ended IsOpenState machine
@@ -19,10 +20,6 @@ free = prefix_free signs IsDas step start ended IsOpenState machine
 has_byte : (a : List ℕ) (c : ℕ) (b : List ℕ) → IsTrue (list_all is_white (a ++ c ∷ b)) → IsTrue (is_white c)
 has_byte [] c b h = (and_parts _ _ h).0
 has_byte (x ∷ a) c b h = has_byte a c b (and_parts _ _ h).1
-
-false_true : (b : Bool) → b ≡ true → not b ≡ true → ⊥
-false_true true e n = cc
-false_true false e n = cc
 
 white_no_more : (text : List ℕ) (behind place : ℕ) → IsTrue (list_all is_white (drop behind text)) → HasBehind text behind place → ⊥
 white_no_more text behind place all h =

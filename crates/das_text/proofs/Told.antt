@@ -8,12 +8,13 @@ use Rattle.dap_types.specs.declared.declarations.BaseType.{BaseType}
 use Rattle.viable.specs.Quoted.{quoted_value}
 use Rattle.viable.proofs.Tests.{and_parts}
 use Rattle.text_tokens.specs.Tokens.{Token, sign, word, quoted}
-use Rattle.das_text.specs.Grammar.{base_of_word, most_depth, IsValue, LaterOf, ValuesOf, EntryOf, EntriesOf, IsDas}
+use Rattle.das_text.specs.Grammar.{base_of_word, IsValue, LaterOf, ValuesOf, EntryOf, EntriesOf, IsDas}
 use Rattle.das_text.specs.inner.Machine.{Around, State, begun, headed, inside, worded, named, valued, parted, ended, may_begin, attribute_of, with_value, begin_attribute, leave, enter, next_when, add, step}
 use Rattle.das_text.specs.Model.{Entry, attribute, container, entries_of}
 use Rattle.das_text.specs.declared.entries.Attribute.{Attribute}
 use Rattle.das_text.specs.declared.entries.Word.{Word}
 use Rattle.das_text.specs.declared.entries.Word.TheVariants.{Plain, Quoted}
+use Rattle.dap_types.specs.Limits.{most_depth}
 
 abbrev pub opening : List Token
 opening = word (codes "Attributes") ∷ sign 123 ∷ []

@@ -16,13 +16,10 @@ use Rattle.text_tokens.specs.Tokens.{Token, sign, word, quoted}
 use Rattle.das_text.specs.Model.{Attributes, Entry, attribute, container, Entries, no_entries, entry}
 use Rattle.das_text.specs.declared.entries.Word.{Word}
 use Rattle.das_text.specs.declared.entries.Word.TheVariants.{Plain, Quoted}
+use Rattle.dap_types.specs.Limits.{most_depth}
 
 abbrev pub signs : List ℕ
 signs = codes "{};,"
-
--- so many containers may be open at a time
-abbrev pub most_depth : ℕ
-most_depth = 16
 
 -- the type that a word names, without regard to case
 abbrev pub base_of_word : List ℕ → Option BaseType

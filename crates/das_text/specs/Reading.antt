@@ -15,13 +15,13 @@ abbrev pub front : List ℕ → List ℕ
 front text = take limit text
 
 -- a DAS of these attributes ends at a place
-abbrev pub EndsAt : List ℕ → ℕ → Attributes → Type 0
-EndsAt text behind a = SpellsTo signs IsDas (front text) behind a
+abbrev pub DasEndsAt : List ℕ → ℕ → Attributes → Type 0
+DasEndsAt text behind a = SpellsTo signs IsDas (front text) behind a
 
 -- the text is a DAS of these attributes
 pub record DasOf (text : List ℕ) (a : Attributes) : Type 0 where
   pub behind : ℕ
-  pub ends : EndsAt text behind a
+  pub ends : DasEndsAt text behind a
   pub white : IsTrue (list_all is_white (drop behind text))
 
 -- behind a place comes so much white space, and then another byte
@@ -38,7 +38,7 @@ pub record HasBehind (text : List ℕ) (behind place : ℕ) : Type 0 where
 pub record IsTrailing (text : List ℕ) (place : ℕ) : Type 0 where
   pub behind : ℕ
   pub attributes : Attributes
-  pub ends : EndsAt text behind attributes
+  pub ends : DasEndsAt text behind attributes
   pub trails : HasBehind text behind place
 
 -- the whole tokens within the limit begin a DAS and do not end it

@@ -3,10 +3,11 @@
 use Rattle.std.specs.Prelude.{ℕ, ◌+◌, ◌<◌, List, [], ◌∷◌, IsTrue}
 use Rattle.viable.specs.Runs.{is_run}
 use Rattle.text_tokens.specs.Tokens.{is_word_byte}
-use Rattle.das_text.specs.Grammar.{signs, most_depth}
+use Rattle.das_text.specs.Grammar.{signs}
 use Rattle.das_text.specs.Model.{Attributes, Entry, attribute, container, Entries, no_entries, entry}
 use Rattle.das_text.specs.declared.entries.Word.{Word}
 use Rattle.das_text.specs.declared.entries.Word.TheVariants.{Plain, Quoted}
+use Rattle.dap_types.specs.Limits.{most_depth}
 
 -- one or more bytes other than white space, signs and quotes
 abbrev pub IsWord : List ℕ → Type 0

@@ -12,11 +12,12 @@ use crate::Attributes;
 use crate::refusal::DasRefusal;
 use crate::scan::scan;
 use crate::state::Stop;
+use dap_types::limits;
 use std::alloc::Global;
 use text_tokens::white_end;
 
 /// Within so many bytes a DAS has to end.
-const LIMIT: usize = 16_777_216;
+const LIMIT: usize = limits::MOST_TEXT;
 
 fn front_of(text: &[u8]) -> &[u8]
     ensures { result.now ≡ front text.now }

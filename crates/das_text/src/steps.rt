@@ -10,10 +10,10 @@ use crate::levels::Levels;
 use crate::state::State;
 use crate::words::base_of_word;
 use crate::{Attribute, Entry, Word};
-use dap_types::{Bytes, Id, List, Memory};
+use dap_types::{Bytes, Id, List, Memory, limits};
 
 /// Containers are nested no deeper.
-const MOST_DEPTH: usize = 16;
+const MOST_DEPTH: usize = limits::MOST_DEPTH;
 
 /// The first word of an entry. Where no container may be opened it is a type.
 fn begin_entry(levels: &Levels, word: &[u8]) -> Result<Option<State>, Memory>

@@ -6,8 +6,8 @@ use Rattle.dap_types.specs.Model.{Dataset}
 use Rattle.dap_model.specs.Tokens.{Token, Placed, whole_tokens, tokens_of}
 use Rattle.dds_text.specs.inner.Held.{go, unbroken, state_view}
 use Rattle.dds_text.specs.inner.Machine.{Moved, keeps, step, refuses, Keeps}
-use Rattle.dds_text.specs.Reading.{IsRefused, IsOpen, limit, IsDone, IsBadText}
-use Rattle.dds_text.specs.inner.Standing.{run, EndsAt}
+use Rattle.dds_text.specs.Reading.{IsDdsRefused, IsOpen, limit, IsDone, IsBadText}
+use Rattle.dds_text.specs.inner.Standing.{run, EndsDds}
 use Rattle.dds_text.specs.inner.States.{State, begun, ended, IsOpenState}
 use Rattle.dds_text.specs.declared.level.Levels as code_levels
 use Rattle.dds_text.specs.declared.state.State as code_state
@@ -51,12 +51,12 @@ pub open_read : (bytes : List ℕ) (s : State) → run begun (tokens_of bytes) �
 open_read bytes s is open' = open_text bytes s (run_keeps begun s (tokens_of bytes) is) open'
 
 pub stopped_read : (bytes : List ℕ) (before more : List Placed) (bad : Placed) (s : State) → whole_tokens bytes ≡ before ++ bad ∷ more → run begun (map (λ p. p.token) before) ≡ Some s → IsOpenState s → go s bad.token ≡ None
-    → IsRefused bytes bad.place
+    → IsDdsRefused bytes bad.place
 stopped_read bytes before more bad s split is open' none =
     refused_text bytes before more bad s split (run_keeps begun s (map (λ (p : Placed). p.token) before) is) open' (stop_refuses s bad.token none)
 
 -- the end of a text within the limit, whatever follows
-pub done_read : (bytes more : List ℕ) (d : Dataset) → EndsAt bytes d → length bytes ≤ limit → IsDone (bytes ++ more) (length bytes) d
+pub done_read : (bytes more : List ℕ) (d : Dataset) → EndsDds bytes d → length bytes ≤ limit → IsDone (bytes ++ more) (length bytes) d
 done_read bytes more d (is, last) le =
     let n : ℕ = length bytes in
     let all : List ℕ = bytes ++ more in

@@ -10,7 +10,7 @@ use Rattle.dap_model.specs.Grammar.{Slot, keyword, name, sign, spells, StandsFor
 use Rattle.dap_model.specs.Tokens.{Token, Placed, is_sign, is_plain, ended as ended_word, sign_at, tokens_from, whole_tokens, tokens_of}
 use Rattle.dap_model.specs.Tokens as token
 use Rattle.dds_text.specs.inner.Machine.{Moved, moved, keeps, step, refuses, Keeps}
-use Rattle.dds_text.specs.Reading.{IsEnded, IsRefused, IsOpen, limit, IsDone, IsBadText, IsUnfinished}
+use Rattle.dds_text.specs.Reading.{IsEnded, IsDdsRefused, IsOpen, limit, IsDone, IsBadText, IsUnfinished}
 use Rattle.dds_text.specs.inner.States.{State, begun, ended, IsOpenState}
 use Rattle.dds_text.specs.inner.Words.{left}
 use Rattle.dds_text.proofs.Bytes.{tokens-plain, tokens-stop}
@@ -55,15 +55,15 @@ kept_or_refused s t = from (step s t) refl
 
 -- one more token
 judged : (bytes : List ℕ) (before more : List Placed) (p : Placed) (s : State) → whole_tokens bytes ≡ before ++ p ∷ more → Keeps begun (token_list before) s → IsOpenState s
-    → IsRefused bytes p.place ⊎ ((next : State) × Keeps begun (token_list (before ++ p ∷ [])) next)
+    → IsDdsRefused bytes p.place ⊎ ((next : State) × Keeps begun (token_list (before ++ p ∷ [])) next)
 judged bytes before more p s split is open' = on (kept_or_refused s p.token)
   where
-    on : (refuses s p.token ≡ true) ⊎ ((next : State) × (step s p.token ≡ Some (keeps next))) → IsRefused bytes p.place ⊎ ((next : State) × Keeps begun (token_list (before ++ p ∷ [])) next)
+    on : (refuses s p.token ≡ true) ⊎ ((next : State) × (step s p.token ≡ Some (keeps next))) → IsDdsRefused bytes p.place ⊎ ((next : State) × Keeps begun (token_list (before ++ p ∷ [])) next)
     on (inl refused) = inl (refused_text bytes before more p s split is open' refused)
     on (inr (next, goes)) = inr (next, subst (λ ts. Keeps begun ts next) (sym (map-append (λ p. p.token) before (p ∷ []))) (keeps_more begun s next (token_list before) (p.token ∷ []) is (next, goes, refl)))
 
 abbrev pub Verdict : List ℕ → Type 0
-Verdict bytes = ((n : ℕ) × (d : Dataset) × IsEnded bytes n d) ⊎ ((place : ℕ) × IsRefused bytes place) ⊎ IsOpen bytes
+Verdict bytes = ((n : ℕ) × (d : Dataset) × IsEnded bytes n d) ⊎ ((place : ℕ) × IsDdsRefused bytes place) ⊎ IsOpen bytes
 
 -- these tokens lead to a state that is open
 abbrev Leads : List Placed → Type 0
@@ -74,14 +74,14 @@ word_not_last ts w s d is same = let last = last_semicolon ts (token.word w) d (
 
 -- behind the word that ends
 behind_word : (bytes : List ℕ) (before more : List Placed) (w : List ℕ) (at : ℕ) (s : State) → whole_tokens bytes ≡ before ++ (ended_word w at ++ more) → Keeps begun (token_list before) s → IsOpenState s
-    → ((place : ℕ) × IsRefused bytes place) ⊎ Leads (before ++ ended_word w at)
+    → ((place : ℕ) × IsDdsRefused bytes place) ⊎ Leads (before ++ ended_word w at)
 behind_word bytes before more [] at s split is open' = inr (s, subst (λ ps. Keeps begun (token_list ps) s) (sym (append-nil before)) is, open')
 behind_word bytes before more (b ∷ bs) at s split is open' = on (judged bytes before more p s split is open')
   where
     p : Placed
     p = record { token = token.word (b ∷ bs); place = at - length (b ∷ bs) }
 
-    on : IsRefused bytes p.place ⊎ ((next : State) × Keeps begun (token_list (before ++ p ∷ [])) next) → ((place : ℕ) × IsRefused bytes place) ⊎ Leads (before ++ p ∷ [])
+    on : IsDdsRefused bytes p.place ⊎ ((next : State) × Keeps begun (token_list (before ++ p ∷ [])) next) → ((place : ℕ) × IsDdsRefused bytes place) ⊎ Leads (before ++ p ∷ [])
     on (inl refused) = inl (p.place, refused)
     on (inr (next, kept)) =
         ⊎_elim (λ o. inr (next, kept, o))
@@ -115,7 +115,7 @@ behind_byte done rest b before more at true s grown split is open' goes_on = on 
     p : Placed
     p = record { token = token.sign b; place = at }
 
-    on : IsRefused (done ++ b ∷ rest) p.place ⊎ ((next : State) × Keeps begun (token_list (before ++ p ∷ [])) next) → Verdict (done ++ b ∷ rest)
+    on : IsDdsRefused (done ++ b ∷ rest) p.place ⊎ ((next : State) × Keeps begun (token_list (before ++ p ∷ [])) next) → Verdict (done ++ b ∷ rest)
     on (inl refused) = inr (inl (p.place, refused))
     on (inr (next, kept)) =
         let here : Keeps begun (tokens_of (done ++ b ∷ [])) next = subst (λ ts. Keeps begun ts next) (sym grown) kept in
@@ -147,7 +147,7 @@ one_byte done rest b s is open' goes_on = from (is_plain b) refl
     split : is_plain b ≡ false → whole_tokens bytes ≡ whole ++ (word_end ++ (own ++ later))
     split stops = tokens-stop done b rest stops ∙ ap (λ ps. whole ++ ps) (append_assoc word_end own later)
 
-    behind : is_plain b ≡ false → ((place : ℕ) × IsRefused bytes place) ⊎ Leads (whole ++ word_end) → Verdict bytes
+    behind : is_plain b ≡ false → ((place : ℕ) × IsDdsRefused bytes place) ⊎ Leads (whole ++ word_end) → Verdict bytes
     behind stops (inl refused) = inr (inl refused)
     behind stops (inr (next, kept, o)) =
         behind_byte done rest b (whole ++ word_end) later (length done) (is_sign b) next (grown stops) (split stops ∙ sym (append_assoc whole word_end (own ++ later))) kept o goes_on

@@ -6,7 +6,7 @@ use Rattle.dap_types.specs.Model.{Dataset}
 use Rattle.dap_model.specs.Grammar.{IsFirstBad}
 use Rattle.dap_model.specs.Tokens.{Token, Placed, ended as ended_word, sign_at, tokens_from, whole_tokens, tokens_of}
 use Rattle.dds_text.specs.inner.Machine.{Keeps}
-use Rattle.dds_text.specs.Reading.{IsEnded, IsRefused, IsOpen, limit, IsDone, IsBadText, IsUnfinished}
+use Rattle.dds_text.specs.Reading.{IsEnded, IsDdsRefused, IsOpen, limit, IsDone, IsBadText, IsUnfinished}
 use Rattle.dds_text.specs.inner.States.{begun, ended}
 use Rattle.dds_text.specs.inner.Words.{left, left_from}
 use Rattle.dds_text.proofs.Bytes.{tokens_from-append}
@@ -71,13 +71,13 @@ one_end bytes n m d e a b =
 pub one_first : (ts : List Token) (j k : ℕ) → IsFirstBad ts j → IsFirstBad ts k → j ≡ k
 one_first ts j k a b = ⊎_elim (λ same. same) (λ apart. absurd (⊎_elim (λ lt. b.first j lt a.bad) (λ gt. a.first k gt b.bad) apart)) (cases_order j k)
 
-one_refusal : (bytes : List ℕ) (p q : ℕ) → IsRefused bytes p → IsRefused bytes q → p ≡ q
+one_refusal : (bytes : List ℕ) (p q : ℕ) → IsDdsRefused bytes p → IsDdsRefused bytes q → p ≡ q
 one_refusal bytes p q a b =
     let (j, first, at) = a.bad in
     let (k, first', at') = b.bad in
     same_Some p q (sym at ∙ ap (λ i. option_map (λ p. p.place) (slice_get (whole_tokens bytes) i)) (one_first (tokens_of bytes) j k first first') ∙ at')
 
-refused_not_open : (bytes : List ℕ) (p : ℕ) → IsRefused bytes p → IsOpen bytes → ⊥
+refused_not_open : (bytes : List ℕ) (p : ℕ) → IsDdsRefused bytes p → IsOpen bytes → ⊥
 refused_not_open bytes p a o = let (k, first, at) = a.bad in o.good k first.within first.bad
 
 pub one_place : (bytes : List ℕ) (p q : ℕ) → IsBadText bytes p → IsBadText bytes q → p ≡ q
@@ -98,5 +98,5 @@ pub done_not_unfinished : (bytes : List ℕ) (n : ℕ) (d : Dataset) → IsDone 
 done_not_unfinished bytes n d is o = o.0.unended n d (subst (λ bs. IsEnded bs n d) (all_within bytes o.1) is)
 
 pub bad_not_unfinished : (bytes : List ℕ) (p : ℕ) → IsBadText bytes p → IsUnfinished bytes → ⊥
-bad_not_unfinished bytes p (inl a) o = refused_not_open bytes p (subst (λ bs. IsRefused bs p) (all_within bytes o.1) a) o.0
+bad_not_unfinished bytes p (inl a) o = refused_not_open bytes p (subst (λ bs. IsDdsRefused bs p) (all_within bytes o.1) a) o.0
 bad_not_unfinished bytes p (inr a) o = absurd (omega (arith, a.1, o.1))

@@ -7,7 +7,7 @@ use Rattle.dap_types.specs.Model.{Dataset}
 use Rattle.dap_model.specs.Tokens.{tokens_from}
 use Rattle.dds_text.specs.After.{EndsBehind, StaysBad, IsClipped}
 use Rattle.dds_text.specs.Reading.{IsBadText, IsDone, IsUnfinished, limit}
-use Rattle.dds_text.specs.inner.Standing.{IsRead, StopsAt, EndsAt}
+use Rattle.dds_text.specs.inner.Standing.{IsRead, StopsAt, EndsDds}
 use Rattle.dds_text.specs.inner.Words.{left}
 use Rattle.dds_text.specs.declared.front.Front.{Front}
 use Rattle.dds_text.proofs.Answered.{open_read, stopped_read, done_read, long_read}
@@ -79,7 +79,7 @@ bad_token bytes clip rest place le stops more =
     (subst Q (sym (front_of (bytes ++ clip) (rest ++ more) le)) (stops_more (bytes ++ clip) (take (limit - length (bytes ++ clip)) (rest ++ more)) place stops)))
 
 -- a dataset ends
-pub ends_behind : (bytes clip rest : List ℕ) (used : ℕ) (d : Dataset) → length (bytes ++ clip) ≤ limit → used ≤ length clip → EndsAt (bytes ++ take used clip) d → EndsBehind (bytes ++ take used (clip ++ rest)) d
+pub ends_behind : (bytes clip rest : List ℕ) (used : ℕ) (d : Dataset) → length (bytes ++ clip) ≤ limit → used ≤ length clip → EndsDds (bytes ++ take used clip) d → EndsBehind (bytes ++ take used (clip ++ rest)) d
 ends_behind bytes clip rest used d le within ends more =
     let same : take used clip ≡ take used (clip ++ rest) = sym (take-append-le used clip rest within) in
     let short : length (bytes ++ take used clip) ≤ limit = omega (arith, length-append bytes clip, length-append bytes (take used clip), length-take used clip) in

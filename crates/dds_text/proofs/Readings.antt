@@ -7,7 +7,7 @@ use Rattle.dap_types.specs.Model.{Dataset}
 use Rattle.dap_model.specs.Grammar.{IsBad, IsFirstBad}
 use Rattle.dap_model.specs.Tokens.{Token, Placed, tokens_from, whole_tokens, tokens_of}
 use Rattle.dds_text.specs.inner.Machine.{Moved, keeps, step, refuses, Keeps}
-use Rattle.dds_text.specs.Reading.{IsEnded, IsRefused, IsOpen, Unended}
+use Rattle.dds_text.specs.Reading.{IsEnded, IsDdsRefused, IsOpen, Unended}
 use Rattle.dds_text.specs.inner.States.{State, begun, ended, IsOpenState}
 use Rattle.dds_text.specs.inner.Words.{left}
 use Rattle.dds_text.proofs.Bytes.{whole_tokens-append}
@@ -95,7 +95,7 @@ kept_not_refused : (s next : State) (t : Token) → step s t ≡ Some (keeps nex
 kept_not_refused s next t is refused = let none : false ≡ true = ap (λ o. option_map_or (λ m. m.breaks) o true) (sym is) ∙ refused in cc
 
 pub refused_text : (bytes : List ℕ) (before more : List Placed) (bad : Placed) (s : State) → whole_tokens bytes ≡ before ++ bad ∷ more → Keeps begun (map (λ p. p.token) before) s → IsOpenState s → refuses s bad.token ≡ true
-    → IsRefused bytes bad.place
+    → IsDdsRefused bytes bad.place
 refused_text bytes before more bad s split is open' refused =
     let first = first_refused (map (λ p. p.token) before) (map (λ (p : Placed). p.token) more) bad.token s is refused in
     let tokens : tokens_of bytes ≡ map (λ (p : Placed). p.token) before ++ bad.token ∷ map (λ (p : Placed). p.token) more = ap (map (λ (p : Placed). p.token)) split ∙ map-append (λ p. p.token) before (bad ∷ more) in

@@ -5,7 +5,7 @@ use Rattle.std.proofs.lemmas.List.{take_more, take_all, get_or-drop}
 use Rattle.dap_types.specs.Model.{Dataset}
 use Rattle.dap_model.specs.Tokens.{is_plain, tokens_of}
 use Rattle.dds_text.specs.inner.States.{State, begun, ended, IsOpenState}
-use Rattle.dds_text.specs.inner.Standing.{Holds, Reads, IsReadTo, EndsAt, run, after_word, after_sign}
+use Rattle.dds_text.specs.inner.Standing.{Holds, Reads, IsReadTo, EndsDds, run, after_word, after_sign}
 use Rattle.dds_text.specs.inner.Words.{left}
 use Rattle.dds_text.specs.declared.front.Front.{Front}
 use Rattle.dds_text.specs.declared.parser.Parser.{Parser}
@@ -39,7 +39,7 @@ stopped p left_over began text w b s s1 s2 r e h first second held empty at =
 
 -- the end of a dataset behind a word
 pub ended_at : (text w : List ℕ) (b : ℕ) (s s1 : State) (d : Dataset) → run begun (tokens_of text) ≡ Some s → w ≡ left text → is_plain b ≡ false
-    → after_word w s ≡ Some s1 → after_sign b s1 ≡ Some (ended d) → b ≡ 59 → EndsAt (text ++ b ∷ []) d
+    → after_word w s ≡ Some s1 → after_sign b s1 ≡ Some (ended d) → b ≡ 59 → EndsDds (text ++ b ∷ []) d
 ended_at text w b s s1 d r e h first second last = (run-stop text w b s s1 r e h first ∙ second, (text, ap (λ c. text ++ c ∷ []) last))
 
 -- a byte more of the piece
@@ -86,9 +86,9 @@ next_byte f piece text i h is =
     subst P (text_more text piece i h) (subst Q (sym (ap (λ n. take n (drop (i + 1) piece)) none)) is)
 
 -- the end of the dataset inside a piece
-pub ended_in : (text piece : List ℕ) (i used : ℕ) (d : Dataset) → i < length piece → used ≡ i + 1 → EndsAt ((text ++ take i piece) ++ get_or piece i 0 ∷ []) d → (used ≤ length piece) × EndsAt (text ++ take used piece) d
+pub ended_in : (text piece : List ℕ) (i used : ℕ) (d : Dataset) → i < length piece → used ≡ i + 1 → EndsDds ((text ++ take i piece) ++ get_or piece i 0 ∷ []) d → (used ≤ length piece) × EndsDds (text ++ take used piece) d
 ended_in text piece i used d h e is =
-    let P : List ℕ → Type 0 = λ t. EndsAt t d in
+    let P : List ℕ → Type 0 = λ t. EndsDds t d in
     (omega (arith, e), subst P (text_more text piece i h ∙ ap (λ n. text ++ take n piece) (sym e)) is)
 
 -- behind a piece

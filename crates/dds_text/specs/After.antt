@@ -32,8 +32,8 @@ dataset_in (verdict.Done d) = Some d
 dataset_in v = None
 
 -- the reader has used these bytes
-unfoldable pub StandsAfter : DdsReader → List ℕ → Type 0
-StandsAfter r bytes = Stands r.start r.front r.verdict bytes
+unfoldable pub DdsStandsAfter : DdsReader → List ℕ → Type 0
+DdsStandsAfter r bytes = Stands r.start r.front r.verdict bytes
 
 -- the place from which it counts
 abbrev pub start_of : DdsReader → ℕ
@@ -50,10 +50,10 @@ used_of (Done used) piece = take used piece
 used_of (Bad place) piece = piece
 
 -- an answer for a piece behind these bytes, which begin at a place
-abbrev pub IsAnswered : ℕ → List ℕ → List ℕ → DdsStep → Type 0
-IsAnswered start bytes piece More = IsUnfinished (bytes ++ piece)
-IsAnswered start bytes piece (Done used) = (used ≤ length piece) × ((d : Dataset) × IsDone (bytes ++ piece) (length bytes + used) d)
-IsAnswered start bytes piece (Bad place) = (p : ℕ) × (place ≡ start + p) × IsBadText (bytes ++ piece) p
+abbrev pub IsDdsStep : ℕ → List ℕ → List ℕ → DdsStep → Type 0
+IsDdsStep start bytes piece More = IsUnfinished (bytes ++ piece)
+IsDdsStep start bytes piece (Done used) = (used ≤ length piece) × ((d : Dataset) × IsDone (bytes ++ piece) (length bytes + used) d)
+IsDdsStep start bytes piece (Bad place) = (p : ℕ) × (place ≡ start + p) × IsBadText (bytes ++ piece) p
 
 -- the same, by the answer
 abbrev pub WhereMore : Type 0 → DdsStep → Type 0
@@ -70,7 +70,7 @@ WhereBad P step = Unit {0}
 
 -- an answer, and where the reader stands then
 abbrev pub Answers : ℕ → DdsReader → List ℕ → List ℕ → DdsStep → Type 0
-Answers start reader bytes piece step = IsAnswered start bytes piece step × StandsAfter reader (bytes ++ used_of step piece)
+Answers start reader bytes piece step = IsDdsStep start bytes piece step × DdsStandsAfter reader (bytes ++ used_of step piece)
 
 -- a front of a piece is read, and all of it unless the limit is reached
 abbrev pub IsClipped : List ℕ → List ℕ → List ℕ → Type 0

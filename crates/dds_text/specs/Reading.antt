@@ -16,7 +16,7 @@ abbrev pub Unended : List ℕ → Type 0
 Unended bytes = (n : ℕ) (d : Dataset) → ¬ (IsEnded bytes n d)
 
 -- their first bad token stands at this place, and no text ends before it
-pub record IsRefused (bytes : List ℕ) (place : ℕ) : Type 0 where
+pub record IsDdsRefused (bytes : List ℕ) (place : ℕ) : Type 0 where
   pub bad : IsBadAt bytes place
   pub unended : Unended bytes
 
@@ -35,7 +35,7 @@ IsDone bytes n d = IsEnded (take limit bytes) n d
 
 -- it is bad at its first bad token, or where the limit is reached without its end
 abbrev pub IsBadText : List ℕ → ℕ → Type 0
-IsBadText bytes place = IsRefused (take limit bytes) place ⊎ (IsOpen (take limit bytes) × (limit ≤ length bytes) × (place ≡ limit))
+IsBadText bytes place = IsDdsRefused (take limit bytes) place ⊎ (IsOpen (take limit bytes) × (limit ≤ length bytes) × (place ≡ limit))
 
 -- it may go on
 abbrev pub IsUnfinished : List ℕ → Type 0

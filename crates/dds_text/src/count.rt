@@ -3,13 +3,14 @@
 ghost use Rattle.std.specs.Prelude.{◌≡◌, ◌+◌, not, if◌then◌else◌};
 ghost use Rattle.dds_text.specs.inner.States.{is_past};
 
+use dap_types::limits;
 use std::marker::Model;
 
 /// A dataset has no more members.
-const MOST_MEMBERS: u32 = 1_000_000;
+const MOST_MEMBERS: u32 = limits::MOST_MEMBERS as u32;
 
 /// No member is deeper.
-const DEEPEST: usize = 16;
+const DEEPEST: usize = limits::MOST_DEPTH;
 
 /// The number of members that have begun. Contracts see it as a number.
 #[derive(Drop)]

@@ -3,10 +3,10 @@
 ghost use Rattle.std.specs.Prelude.{◌≤◌};
 
 use crate::parser::Parser;
-use dap_types::Dataset;
+use dap_types::{Dataset, limits};
 
 /// A text has no more bytes than these.
-pub const LIMIT: usize = 16_777_216;
+pub const LIMIT: usize = limits::MOST_TEXT;
 
 /// What is held of a text that goes on.
 #[derive(Drop)]

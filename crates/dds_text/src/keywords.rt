@@ -6,14 +6,14 @@ ghost use Rattle.dds_text.specs.inner.Machine.{base_of_word, kind_of_word, size_
 ghost use Rattle.dds_text.specs.inner.Held.{kind_seen};
 
 use crate::state::Kind;
-use dap_types::BaseType;
+use dap_types::{BaseType, limits};
 use viable::number;
 
 /// The most digits of a size.
 const MOST_DIGITS: usize = 10;
 
 /// The largest size of a dimension.
-const LARGEST: u64 = 2_147_483_647;
+const LARGEST: u64 = limits::MOST_ELEMENTS;
 
 /// Whether the word is this keyword.
 #[tactic(auto, using(viable::proofs::Words::same_name))]

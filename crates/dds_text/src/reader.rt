@@ -80,7 +80,7 @@ impl DdsReader {
     ghost use Rattle.dap_types.specs.Model.{Dataset as DatasetValue};
     ghost use Rattle.dap_types.specs.View.{dataset_view};
     ghost use Rattle.dap_types.specs.WellFormed.{IsWellFormed};
-    ghost use Rattle.dds_text.specs.After.{Answers, IsClipped, IsSpent, StandsAfter, StaysBad, WhereBad, WhereDone, WhereMore, start_of, used_of};
+    ghost use Rattle.dds_text.specs.After.{Answers, IsClipped, IsSpent, DdsStandsAfter, StaysBad, WhereBad, WhereDone, WhereMore, start_of, used_of};
     ghost use Rattle.dds_text.specs.declared.reader.Verdict.TheVariants.{Open};
     ghost use Rattle.dds_text.specs.Reading.{IsBadText, IsDone, IsUnfinished, limit};
     ghost use Rattle.dds_text.specs.inner.Standing.{IsFound, IsPlaced};
@@ -88,7 +88,7 @@ impl DdsReader {
     /// A reader that has read nothing. Places count from `start`.
     pub fn new(alloc: Global, start: u64) -> DdsReader
         requires { start ≤ 2 ^ 62 }
-        ensures stands { StandsAfter result [] }
+        ensures stands { DdsStandsAfter result [] }
         ensures start { start_of result ≡ start }
     {
         DdsReader {
@@ -99,7 +99,7 @@ impl DdsReader {
     }
 
     /// The text is bad at this place of it.
-    #[tactic(auto, using(crate::proofs::Pushed::pushed), unfolding(crate::specs::After::StandsAfter))]
+    #[tactic(auto, using(crate::proofs::Pushed::pushed), unfolding(crate::specs::After::DdsStandsAfter))]
     fn refuse(&mut self, place: usize) -> DdsStep
         requires { place ≤ LIMIT }
         ensures start { start_of self.new ≡ start_of self.old }
@@ -112,7 +112,7 @@ impl DdsReader {
     }
 
     /// Says what was found in a piece, or in the front of it for which there is room.
-    #[tactic(auto, using(crate::proofs::Pushed::pushed), unfolding(crate::specs::After::StandsAfter))]
+    #[tactic(auto, using(crate::proofs::Pushed::pushed), unfolding(crate::specs::After::DdsStandsAfter))]
     fn answer(&mut self, found: Found) -> DdsStep
         requires { IsPlaced found }
         ensures start { start_of self.new ≡ start_of self.old }
@@ -138,7 +138,7 @@ impl DdsReader {
     fn go_on(&mut self, piece: &[u8]) -> Result<DdsStep, Memory>
         ensures start { start_of self.new ≡ start_of self.old }
         ensures spends { OnErr result (IsSpent self.new) }
-        ensures answers { (bytes : List ℕ) → self.old.verdict ≡ Open → StandsAfter self.old bytes →
+        ensures answers { (bytes : List ℕ) → self.old.verdict ≡ Open → DdsStandsAfter self.old bytes →
             IfOk result (Answers (start_of self.old) self.new bytes piece.now) }
     {
         let room = LIMIT - self.front.length;
@@ -155,11 +155,11 @@ impl DdsReader {
         ensures start { start_of self.new ≡ start_of self.old }
         ensures spends { OnErr result (IsSpent self.new) }
         ensures spent { IsSpent self.old → IsErr result }
-        ensures answers { (bytes : List ℕ) → StandsAfter self.old bytes →
+        ensures answers { (bytes : List ℕ) → DdsStandsAfter self.old bytes →
             IfOk result (Answers (start_of self.old) self.new bytes piece.now) }
-        ensures again { (bytes : List ℕ) (dataset : DatasetValue) → StandsAfter self.old bytes → IsDone bytes (length bytes) dataset →
+        ensures again { (bytes : List ℕ) (dataset : DatasetValue) → DdsStandsAfter self.old bytes → IsDone bytes (length bytes) dataset →
             IfOk result (λ step. step ≡ DdsStep.Done 0) }
-        ensures still { (bytes : List ℕ) (place : ℕ) → StandsAfter self.old bytes → IsBadText bytes place →
+        ensures still { (bytes : List ℕ) (place : ℕ) → DdsStandsAfter self.old bytes → IsBadText bytes place →
             IfOk result (λ step. step ≡ DdsStep.Bad (start_of self.old + place)) }
     {
         match &self.verdict {
@@ -174,27 +174,27 @@ impl DdsReader {
     /// bytes and says the same again. Fails where memory is wanted, and ever after.
     pub fn push(&mut self, piece: &[u8]) -> Result<DdsStep, Memory>
         // Of whatever bytes it stands after, each answer says what they are with the piece.
-        ensures done { (bytes : List ℕ) → StandsAfter self.old bytes → IfOk result (WhereDone (λ used.
+        ensures done { (bytes : List ℕ) → DdsStandsAfter self.old bytes → IfOk result (WhereDone (λ used.
             (used ≤ length piece.now) × ((dataset : DatasetValue) × IsDone (bytes ++ piece.now) (length bytes + used) dataset))) }
-        ensures bad { (bytes : List ℕ) → StandsAfter self.old bytes → IfOk result (WhereBad (λ place.
+        ensures bad { (bytes : List ℕ) → DdsStandsAfter self.old bytes → IfOk result (WhereBad (λ place.
             (p : ℕ) × (place ≡ start_of self.old + p) × IsBadText (bytes ++ piece.now) p)) }
-        ensures more { (bytes : List ℕ) → StandsAfter self.old bytes →
+        ensures more { (bytes : List ℕ) → DdsStandsAfter self.old bytes →
             IfOk result (WhereMore (IsUnfinished (bytes ++ piece.now))) }
 
         // Whatever they are is said, unless memory is wanted.
-        ensures ended { (bytes : List ℕ) (n : ℕ) (dataset : DatasetValue) → StandsAfter self.old bytes → IsDone (bytes ++ piece.now) n dataset →
+        ensures ended { (bytes : List ℕ) (n : ℕ) (dataset : DatasetValue) → DdsStandsAfter self.old bytes → IsDone (bytes ++ piece.now) n dataset →
             IfOk result (λ step. (used : ℕ) × (step ≡ DdsStep.Done used) × (length bytes + used ≡ n)) }
-        ensures refused { (bytes : List ℕ) (place : ℕ) → StandsAfter self.old bytes → IsBadText (bytes ++ piece.now) place →
+        ensures refused { (bytes : List ℕ) (place : ℕ) → DdsStandsAfter self.old bytes → IsBadText (bytes ++ piece.now) place →
             IfOk result (λ step. step ≡ DdsStep.Bad (start_of self.old + place)) }
-        ensures unfinished { (bytes : List ℕ) → StandsAfter self.old bytes → IsUnfinished (bytes ++ piece.now) →
+        ensures unfinished { (bytes : List ℕ) → DdsStandsAfter self.old bytes → IsUnfinished (bytes ++ piece.now) →
             IfOk result (λ step. step ≡ DdsStep.More) }
 
         // It stands after the used bytes then. Behind an end and a bad token the answer stays.
-        ensures stands { (bytes : List ℕ) → StandsAfter self.old bytes →
-            IfOk result (λ step. StandsAfter self.new (bytes ++ used_of step piece.now)) }
-        ensures again { (bytes : List ℕ) (dataset : DatasetValue) → StandsAfter self.old bytes → IsDone bytes (length bytes) dataset →
+        ensures stands { (bytes : List ℕ) → DdsStandsAfter self.old bytes →
+            IfOk result (λ step. DdsStandsAfter self.new (bytes ++ used_of step piece.now)) }
+        ensures again { (bytes : List ℕ) (dataset : DatasetValue) → DdsStandsAfter self.old bytes → IsDone bytes (length bytes) dataset →
             IfOk result (λ step. step ≡ DdsStep.Done 0) }
-        ensures still { (bytes : List ℕ) (place : ℕ) → StandsAfter self.old bytes → IsBadText bytes place →
+        ensures still { (bytes : List ℕ) (place : ℕ) → DdsStandsAfter self.old bytes → IsBadText bytes place →
             IfOk result (λ step. step ≡ DdsStep.Bad (start_of self.old + place)) }
         ensures start { start_of self.new ≡ start_of self.old }
 
@@ -207,9 +207,9 @@ impl DdsReader {
 
     /// The dataset, where a DDS has ended.
     pub fn dataset(self) -> Option<Dataset>
-        ensures dataset { (bytes : List ℕ) → StandsAfter self bytes → MatchOption result
+        ensures dataset { (bytes : List ℕ) → DdsStandsAfter self bytes → MatchOption result
             ((n : ℕ) (dataset : DatasetValue) → ¬ (IsDone bytes n dataset)) (λ dataset. IsDone bytes (length bytes) (dataset_view dataset)) }
-        ensures well_formed { (bytes : List ℕ) → StandsAfter self bytes → IfSome result (λ dataset. IsWellFormed (dataset_view dataset)) }
+        ensures well_formed { (bytes : List ℕ) → DdsStandsAfter self bytes → IfSome result (λ dataset. IsWellFormed (dataset_view dataset)) }
         ensures spent { IsSpent self → IsNone result }
     {
         let DdsReader {

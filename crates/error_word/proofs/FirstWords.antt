@@ -13,9 +13,7 @@ use Rattle.dds_text.specs.inner.Words.{left}
 use Rattle.dds_text.proofs.Bytes.{left-plain, left-stop, tokens-plain, tokens-stop, tokens_from-stop, whole_tokens-append}
 use Rattle.error_word.specs.Saying.{begins_error, says_error}
 use Rattle.error_word.specs.inner.FirstWords.{IsError, IsNoError, HasLetters}
-
-abbrev bare : List Placed → List Token
-bare ps = map (λ (p : Placed). p.token) ps
+use Rattle.dap_model.proofs.OneBody.{bare}
 
 -- of no bytes
 pub no_bytes : HasLetters 0 []

@@ -15,11 +15,11 @@ IsByte b = b < 256
 abbrev pub AreBytes : List ℕ → Type 0
 AreBytes bytes = All IsByte bytes
 
-abbrev all_below : (ℕ → Bool) → ℕ → Bool
+abbrev pub all_below : (ℕ → Bool) → ℕ → Bool
 all_below test zero = true
 all_below test (suc n) = test n && all_below test n
 
-both_are : (a b : Bool) → (a && b) ≡ true → (a ≡ true) × (b ≡ true)
+pub both_are : (a b : Bool) → (a && b) ≡ true → (a ≡ true) × (b ≡ true)
 both_are true b e = (refl, e)
 both_are false b e = absurd cc
 
@@ -27,7 +27,7 @@ pub are_both : (a b : Bool) → a ≡ true → b ≡ true → (a && b) ≡ true
 are_both true b e h = h
 are_both false b e h = absurd cc
 
-below : (test : ℕ → Bool) (n b : ℕ) → all_below test n ≡ true → b < n → test b ≡ true
+pub below : (test : ℕ → Bool) (n b : ℕ) → all_below test n ≡ true → b < n → test b ≡ true
 below test zero b all lt = absurd (omega arith)
 below test (suc n) b all lt =
     let p = both_are (test n) (all_below test n) all in
@@ -44,13 +44,13 @@ IsName name = (0 < length name) × AreBytes name
 abbrev pub Spelled : (ℕ → List ℕ) → Type 0
 Spelled f = (b : ℕ) → b < 256 → is_word (f b) ≡ true
 
-escaped_spelled : Spelled escaped_byte
+pub escaped_spelled : Spelled escaped_byte
 escaped_spelled b lt = below (λ c. is_word (escaped_byte c)) 256 b refl lt
 
 pub dataset_spelled : Spelled dataset_name_byte
 dataset_spelled b lt = below (λ c. is_word (dataset_name_byte c)) 256 b refl lt
 
-word_length : (w : List ℕ) → is_word w ≡ true → 0 < length w
+pub word_length : (w : List ℕ) → is_word w ≡ true → 0 < length w
 word_length [] e = absurd cc
 word_length (b ∷ w) e = omega arith
 

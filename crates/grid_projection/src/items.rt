@@ -17,11 +17,11 @@ use crate::rows::{Row, sliced_dims, sliced_row, whole_row};
 use crate::slabs::{has_misfit, have_big, slabs_of};
 use constraint_parse::{Item, RawSlab, Step};
 use dap_errors::{Cause, Spot};
-use dap_types::{Id, Memory};
+use dap_types::{Id, Memory, limits};
 use std::alloc::Global;
 
 /// The most items that a constraint may have, and the most clauses, and values of a clause.
-pub const MOST: u32 = 1024;
+pub const MOST: u32 = limits::MOST_ITEMS;
 
 /// The names of an item.
 fn path_of(alloc: Global, steps: &[Step]) -> Result<Vec<Id>, Memory>

@@ -1,7 +1,7 @@
 -- The runs of a batch, and the elements that each begins and ends with.
 use Rattle.std.proofs.Common.{◌≡◌, ℕ, ◌+◌, ◌-◌, ◌*◌, ◌/◌, ◌%◌, ◌<◌, ◌≤◌, refl, sym, ap, ◌∙◌, subst, arith, add-zero}
 use Rattle.std.proofs.Math.Nat.{mod-lt, div-lt_iff_lt-mul, div-add-mod', mul-add-mod_self_right, mul-le-mul_right, zero-mul}
-use Rattle.hyperslab_plan.specs.Batches.{batch_of, run_of, IsBatch, Fills, BeginsAt, EndsAt, Held}
+use Rattle.hyperslab_plan.specs.Batches.{batch_of, run_of, IsBatch, Fills, ElementBeginsAt, ElementEndsAt, Held}
 use Rattle.hyperslab_plan.specs.Plans.{place_of, place_in}
 use Rattle.hyperslab_plan.specs.declared.batch.Batch.{Batch}
 use Rattle.hyperslab_plan.specs.declared.plan.Plan.{Plan}
@@ -49,18 +49,18 @@ in_batch runs m k i below inside =
     let split : (k + 1) * m ≡ k * m + m = omega arith in
     omega (arith, up, split)
 
-pub begins : (plan : Plan) (b : Batch) (k : ℕ) → IsBatch plan b → k < b.runs → BeginsAt plan b (run_of plan b k).at
+pub begins : (plan : Plan) (b : Batch) (k : ℕ) → IsBatch plan b → k < b.runs → ElementBeginsAt plan b (run_of plan b k).at
 begins plan b k is below = by_shape (shaped plan b is)
   where
-    by_shape : Shaped plan b → BeginsAt plan b (run_of plan b k).at
+    by_shape : Shaped plan b → ElementBeginsAt plan b (run_of plan b k).at
     by_shape s =
         let inside : k * s.m + 0 < b.runs * s.m = in_batch b.runs s.m k 0 below s.some in
         (k * s.m + 0, subst (λ x. k * s.m + 0 < x) (sym s.count) inside, run-along plan b s k 0 below s.some ∙ ap (λ x. (run_of plan b k).at + x) (zero-mul plan.shape.jump) ∙ add-zero _)
 
-pub ends : (plan : Plan) (b : Batch) (k : ℕ) → IsBatch plan b → k < b.runs → EndsAt plan b ((run_of plan b k).at + (run_of plan b k).len)
+pub ends : (plan : Plan) (b : Batch) (k : ℕ) → IsBatch plan b → k < b.runs → ElementEndsAt plan b ((run_of plan b k).at + (run_of plan b k).len)
 ends plan b k is below = by_shape (shaped plan b is)
   where
-    by_shape : Shaped plan b → EndsAt plan b ((run_of plan b k).at + (run_of plan b k).len)
+    by_shape : Shaped plan b → ElementEndsAt plan b ((run_of plan b k).at + (run_of plan b k).len)
     by_shape s =
         let last : s.m - 1 < s.m = omega (arith, s.some) in
         let inside : k * s.m + (s.m - 1) < b.runs * s.m = in_batch b.runs s.m k (s.m - 1) below last in

@@ -92,12 +92,12 @@ pub record Fills (plan : Plan) (b : Batch) : Type 0 where
   pub last : (k : ℕ) → k + 1 ≡ b.runs → (run_of plan b k).into + (run_of plan b k).len ≡ b.raw_len
 
 -- one of the batch's elements begins there
-abbrev pub BeginsAt : Plan → Batch → ℕ → Type 0
-BeginsAt plan b at = (j : ℕ) × (j < b.count) × (place_of plan (b.first + j) ≡ at)
+abbrev pub ElementBeginsAt : Plan → Batch → ℕ → Type 0
+ElementBeginsAt plan b at = (j : ℕ) × (j < b.count) × (place_of plan (b.first + j) ≡ at)
 
 -- one of the batch's elements ends there
-abbrev pub EndsAt : Plan → Batch → ℕ → Type 0
-EndsAt plan b end = (j : ℕ) × (j < b.count) × (place_of plan (b.first + j) + size_in plan ≡ end)
+abbrev pub ElementEndsAt : Plan → Batch → ℕ → Type 0
+ElementEndsAt plan b end = (j : ℕ) × (j < b.count) × (place_of plan (b.first + j) + size_in plan ≡ end)
 
 -- the raw bytes of a batch: each run's bytes are those of the file
 abbrev pub Fetched : Plan → Batch → List ℕ → List ℕ → Type 0

@@ -4,9 +4,10 @@ ghost use Rattle.std.specs.Prelude.{◌≡◌, ℕ, ◌+◌, ◌-◌, ◌*◌, �
 ghost use Rattle.hyperslab_plan.specs.Numbers.{width_of};
 
 use dap_types::BaseType;
+use dap_types::limits::MOST_PIECE;
 
 /// The most bytes of a batch, in the file and as XDR.
-const BATCH: u64 = 65536;
+const BATCH: u64 = MOST_PIECE as u64;
 
 /// The bytes of the XDR form of a number in an array (RFC 4506); 1 for a text.
 pub fn xdr_width(base: BaseType) -> u64

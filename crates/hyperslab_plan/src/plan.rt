@@ -56,7 +56,7 @@ impl Plan {
     ghost use Rattle.hyperslab_plan.specs.Picked.{picked, count_of, cost_of};
     ghost use Rattle.hyperslab_plan.specs.Numbers.{is_number, number_size};
     ghost use Rattle.hyperslab_plan.specs.Plans.{places, place_of, total_of, base_in, size_in, width_in, per_row_in, jump_in, place_in, IsDense};
-    ghost use Rattle.hyperslab_plan.specs.Batches.{run_of, IsBatch, IsLargest, InTurn, read_in, read_by, spent, Bounded, Fills, BeginsAt, EndsAt, Fetched, Held};
+    ghost use Rattle.hyperslab_plan.specs.Batches.{run_of, IsBatch, IsLargest, InTurn, read_in, read_by, spent, Bounded, Fills, ElementBeginsAt, ElementEndsAt, Fetched, Held};
 
     /// The plan for the elements that the hyperslabs, one for each dimension, pick out of an array
     /// of that type and layout. No other call takes memory.
@@ -218,8 +218,8 @@ impl Plan {
         ensures is_run { result ≡ run_of self.now batch.now k }
         ensures inside { result.into + result.len ≤ batch.now.raw_len }
         ensures fills { Fills self.now batch.now }
-        ensures begins { BeginsAt self.now batch.now result.at }
-        ensures ends { EndsAt self.now batch.now (result.at + result.len) }
+        ensures begins { ElementBeginsAt self.now batch.now result.at }
+        ensures ends { ElementEndsAt self.now batch.now (result.at + result.len) }
     {
         let at = self.offset(batch.first + u64::from(k) * self.shape.per_row);
         let len = if batch.runs == 1 {

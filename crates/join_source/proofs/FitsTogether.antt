@@ -13,7 +13,7 @@ use Rattle.dap_types.specs.Names.{file_id}
 use Rattle.dap_types.specs.declared.declarations.ArrayDecl.{ArrayDecl}
 use Rattle.dap_types.specs.declared.declarations.BaseType.{BaseType}
 use Rattle.dap_model.specs.Fits.{Fits, FitsAll, FitsArray}
-use Rattle.netcdf_source.proofs.Fitting.{values_fit}
+use Rattle.netcdf_source.proofs.Fitting.{values_fit, FitsIts}
 use Rattle.netcdf_source.proofs.Good.{stands_sound}
 use Rattle.netcdf_source.proofs.GridMaps.{at_front, coordinate_found, grid_array, own_offered}
 use Rattle.netcdf_source.proofs.Placed.{element_record, plain_sizes, record_sizes, turn_positive}
@@ -29,16 +29,13 @@ use Rattle.netcdf_source.specs.inner.Sound.{IsSound}
 use Rattle.join_source.proofs.Leaves.{same-lengths, same-over}
 use Rattle.join_source.proofs.Own.{own-sizes}
 use Rattle.join_source.proofs.Shapes.{bare, offered-same, plain, same-at, same-bare, same-plain}
-use Rattle.join_source.proofs.Twins.{same-base, tree-at}
+use Rattle.join_source.proofs.Twins.{same-base, some-same, tree-at}
 use Rattle.join_source.specs.Cutting.{joined_along}
 use Rattle.join_source.specs.Members.{CanJoin, HaveHeaders, all_records, joined_contents}
 use Rattle.join_source.specs.Served.{JoinedFits}
 use Rattle.join_source.specs.Trees.{first_tree, joined_tree, member_tree_by, tree_at, trees_at, trees_from}
 
 -- ---- one variable of one file
-
-some-same : (v w : Variable) → ◌≡◌ {A = Option Variable} (Some v) (Some w) → v ≡ w
-some-same v w e = cc
 
 none-left : (ids : List ℕ) → is_empty ids ≡ true → ids ≡ []
 none-left [] e = refl
@@ -164,9 +161,6 @@ each-fits c cs f files can have k v at told =
     (chosen-fits c cs f files can have k v at told (is_over_records c v) refl)
 
 -- ---- the members, where each variable has values that fit
-
-abbrev FitsIts : ArrayDecl → Tree → Type 0
-FitsIts a t = FitsArray a.base (sizes a) t
 
 module _ (j : Contents) (tree : ℕ → Tree) (each : (k : ℕ) (v : Variable) → slice_get j.variables k ≡ Some v → is_offered j v ≡ true → FitsArray (base_of v.external_type) (element_sizes j v) (tree k)) where
   array-fits : (k : ℕ) (v : Variable) → slice_get j.variables k ≡ Some v → is_offered j v ≡ true → FitsIts (array_of j v) (tree k)

@@ -27,7 +27,7 @@ use Rattle.xdr_encode.proofs.Forms.{range-append}
 use Rattle.join_source.proofs.FitsTogether.{has-sizes, header-sound}
 use Rattle.join_source.proofs.Leaves.{same-lengths, same-over}
 use Rattle.join_source.proofs.Own.{own-sizes}
-use Rattle.join_source.proofs.Shapes.{bare, coordinate-same, grid-same, offered-same, plain, same-at, same-bare, same-plain}
+use Rattle.join_source.proofs.Shapes.{bare, coordinate-same, grid-same, offered-same, plain, same-at, same-bare, same-map, same-plain}
 use Rattle.join_source.proofs.Twins.{same-empty, tree-at}
 use Rattle.join_source.specs.Cutting.{joined_along}
 use Rattle.join_source.specs.Halves.{AreHalves, HalvesAreTheWhole}
@@ -144,10 +144,6 @@ module _ (j c : Contents) (shape : HaveSameShape j c) (records : j.records ≡ c
       go false own rest = rest
 
 -- ---- Arrays one behind the other.
-
-same-map : {X Y : Type 0} (f g : X → Y) → ((x : X) → f x ≡ g x) → (xs : List X) → map f xs ≡ map g xs
-same-map f g same [] = refl
-same-map f g same (x ∷ xs) = ap (λ y. y ∷ map f xs) (same x) ∙ ap (λ ys. g x ∷ ys) (same-map f g same xs)
 
 same-range : {X : Type 0} (f g : ℕ → X) (s t n : ℕ) → ((i a b : ℕ) → a ≡ s + i → b ≡ t + i → i < n → f a ≡ g b) → map f (range_with_len s n) ≡ map g (range_with_len t n)
 same-range f g s t zero same = refl

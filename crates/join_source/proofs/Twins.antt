@@ -39,7 +39,7 @@ pub record Twin (d : Contents) (p : ℕ) (v w : Variable) : Type 0 where
   pub at : slice_get d.variables p ≡ Some w
   pub alike : bare v ≡ bare w
 
-some-same : (v w : Variable) → ◌≡◌ {A = Option Variable} (Some v) (Some w) → v ≡ w
+pub some-same : (v w : Variable) → ◌≡◌ {A = Option Variable} (Some v) (Some w) → v ≡ w
 some-same v w e = cc
 
 pub twin : (c d : Contents) (leaf p : ℕ) (v w : Variable) → HaveSameShape c d → c.records ≤ 2147483647 → d.records ≤ 2147483647 → leaf_variable c leaf ≡ Some v → leaf_in (leaves_from c 0 c.variables) leaf ≡ Some p → leaf_variable d leaf ≡ Some w → Twin d p v w

@@ -3,14 +3,10 @@
 -- one at the end of the list stays in its line, which is no name then.
 use Rattle.std.specs.Prelude.{ℕ, ◌+◌, List, [], ◌∷◌, ◌++◌, ◌&&◌, ◌-◌, length, nat_eq, nat_lt, take, ◌==◌, if◌then◌else◌, Result, Ok, Err}
 use Rattle.std.specs.List.{ends_with}
-use Rattle.dap_types.specs.Limits.{most_piece}
+use Rattle.dap_types.specs.Limits.{most_lines, most_piece}
 use Rattle.join_source.specs.Names.{is_member_name}
 use Rattle.join_source.specs.declared.refusal.ListRefusal.{ListRefusal}
 use Rattle.join_source.specs.declared.refusal.ListRefusal.TheVariants.{TooLong, BadLine}
-
--- the most lines
-abbrev pub most_lines : ℕ
-most_lines = 64
 
 -- without the carriage return at its end, if it has one there
 abbrev pub without_return : List ℕ → List ℕ

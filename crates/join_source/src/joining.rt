@@ -9,13 +9,13 @@ ghost use Rattle.join_source.specs.Members.{CanJoin, all_records, contents_of, f
 ghost use Rattle.join_source.specs.declared.refusal.JoinRefusal.TheVariants.{Memory as WantOfMemory};
 
 use crate::{JoinRefusal, Joined};
-use dap_types::{Bytes, Dataset, List, Memory};
+use dap_types::{Bytes, Dataset, List, Memory, limits};
 use das_text::Attributes;
 use netcdf_source::Header;
 use std::alloc::Global;
 
 /// The most records of all files.
-const MOST_RECORDS: u64 = 2_147_483_647;
+const MOST_RECORDS: u64 = limits::MOST_ELEMENTS;
 
 /// Joins files along the record dimension, by their headers. `file_name` is the name of the list.
 ///

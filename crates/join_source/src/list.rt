@@ -5,13 +5,13 @@ ghost use Rattle.join_source.specs.declared.refusal.ListRefusal.TheVariants.{Mem
 
 use crate::ListRefusal;
 use crate::name::is_member_name;
-use dap_types::{Bytes, List};
+use dap_types::{Bytes, List, limits};
 use std::alloc::Global;
 
 /// The most bytes of a list.
-const MOST_BYTES: usize = 65_536;
+const MOST_BYTES: usize = limits::MOST_PIECE;
 /// The most lines of a list.
-const MOST_LINES: usize = 64;
+const MOST_LINES: usize = limits::MOST_LINES;
 
 /// The names in a list of files, a name a line, as `list_of` has them.
 ///

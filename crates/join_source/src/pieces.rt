@@ -26,14 +26,14 @@ use crate::cutting::{behind, front_of};
 use crate::piece::Piece;
 use crate::plans::{plan_of, record_plan, with_first};
 use crate::texts::{before_scalar, counts, filler};
-use dap_types::{BaseType, Layout, List, Memory, Slab};
+use dap_types::{BaseType, Layout, List, Memory, Slab, limits};
 use grid_projection::Marks;
 use netcdf_source::Header;
 use std::alloc::Global;
 use xdr_encode::BodyRefusal;
 
 /// The most elements of a leaf.
-const MOST: u64 = 2_147_483_647;
+const MOST: u64 = limits::MOST_ELEMENTS;
 
 /// How many elements hyperslabs pick, or one more than a leaf may have.
 fn count_within(slabs: &[Slab]) -> u64

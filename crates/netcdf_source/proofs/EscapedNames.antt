@@ -19,7 +19,7 @@ kept_is : (a b : ℕ) (xs ys : List ℕ) → Path (List ℕ) (a ∷ xs) (b ∷ y
 kept_is a b xs ys e = (cc, cc)
 
 -- a % is never kept
-no_percent : (b : ℕ) → is_kept_byte b ≡ true → b ≡ 37 → ⊥
+pub no_percent : (b : ℕ) → is_kept_byte b ≡ true → b ≡ 37 → ⊥
 no_percent b kept e = absurd_of (sym (ap is_kept_byte e) ∙ kept)
   where
     absurd_of : Path Bool false true → ⊥

@@ -122,7 +122,7 @@ array_fits c file v bytes placed told = rw (dims_sizes c (element_dimensions c v
 
 -- ---- members
 
-abbrev FitsIts : ArrayDecl → Tree → Type 0
+abbrev pub FitsIts : ArrayDecl → Tree → Type 0
 FitsIts a t = FitsArray a.base (sizes a) t
 
 maps_fit : (c : Contents) (file : List ℕ) (ws : List Variable) (ids : List ℕ) → IsBytes file → IsSound c → past_end c (length file) ≡ None → AllZip (IsOwn c) ws ids

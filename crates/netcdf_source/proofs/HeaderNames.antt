@@ -36,47 +36,13 @@ use Rattle.netcdf_source.proofs.Fitting.{file_bytes}
 use Rattle.netcdf_source.proofs.Good.{bad_if-none, stands_sound}
 use Rattle.netcdf_source.proofs.Headers.{more2, more3}
 use Rattle.netcdf_source.proofs.Singles.{bytes-take}
+use Rattle.file_names.proofs.Words.{Spelled, are_both, both_are, dataset_spelled, escaped_spelled, word_length}
 
 -- ---- bytes of words
-
-abbrev all_below : (ℕ → Bool) → ℕ → Bool
-all_below test zero = true
-all_below test (suc n) = test n && all_below test n
-
-both_are : (a b : Bool) → (a && b) ≡ true → (a ≡ true) × (b ≡ true)
-both_are true b e = (refl, e)
-both_are false b e = absurd cc
-
-are_both : (a b : Bool) → a ≡ true → b ≡ true → (a && b) ≡ true
-are_both true b e h = h
-are_both false b e h = absurd cc
-
-below : (test : ℕ → Bool) (n b : ℕ) → all_below test n ≡ true → b < n → test b ≡ true
-below test zero b all lt = absurd (omega arith)
-below test (suc n) b all lt =
-    let p = both_are (test n) (all_below test n) all in
-    elim (cases_lt b n) [
-      | inl less ↦ below test n b p.1 less
-      | inr more ↦ let same : n ≡ b = omega arith in ap test (sym same) ∙ p.0
-    ]
 
 -- a name that is not empty and of bytes
 abbrev pub IsName : List ℕ → Type 0
 IsName name = (0 < length name) × IsBytes name
-
--- each byte becomes a word
-abbrev Spelled : (ℕ → List ℕ) → Type 0
-Spelled f = (b : ℕ) → b < 256 → is_word (f b) ≡ true
-
-escaped_spelled : Spelled escaped_byte
-escaped_spelled b lt = below (λ c. is_word (escaped_byte c)) 256 b refl lt
-
-dataset_spelled : Spelled dataset_name_byte
-dataset_spelled b lt = below (λ c. is_word (dataset_name_byte c)) 256 b refl lt
-
-word_length : (w : List ℕ) → is_word w ≡ true → 0 < length w
-word_length [] e = absurd cc
-word_length (b ∷ w) e = omega arith
 
 plain_name : (f : ℕ → List ℕ) (name : List ℕ) → Spelled f → IsBytes name → list_all is_plain (flat_map f name) ≡ true
 plain_name f [] spelled bytes = refl

@@ -12,7 +12,7 @@
 use Rattle.std.specs.Prelude.{ℕ, ◌+◌, ◌*◌, ◌^◌, Bool, ◌&&◌, ◌||◌, not, List, [], ◌∷◌, ◌++◌, length, map, ◌==◌, nat_lt, nat_le, if◌then◌else◌, Option, Some, None, unwrap_or, is_none}
 use Rattle.std.specs.List.{list_any}
 use Rattle.std.specs.Str.{bytes_eq}
-use Rattle.dap_types.specs.Limits.{most_dimensions}
+use Rattle.dap_types.specs.Limits.{most_dimensions, most_variable}
 use Rattle.netcdf_source.specs.Fields.{run, Fault, streaming, bad_if, Judged, judged, fine}
 use Rattle.netcdf_source.specs.Parts.{length_at, part, is_record, share, shares}
 use Rattle.netcdf_source.specs.Types.{size_of, type_numbered, type_of}
@@ -109,7 +109,7 @@ dimension_fault dims is_first n = bad_if (nat_le (length dims) n || not is_first
 
 -- a variable's bytes, and those of a record up to it
 unfoldable pub part_fault : List Dimension → ℕ → List ℕ → ExternalType → Option Fault
-part_fault dims sum ids kind = bad_if (nat_lt (2 ^ 62) (part dims ids kind) || is_record dims ids && nat_lt (2 ^ 62) (sum + share dims ids kind)) 0
+part_fault dims sum ids kind = bad_if (nat_lt most_variable (part dims ids kind) || is_record dims ids && nat_lt most_variable (sum + share dims ids kind)) 0
 
 -- a variable's vsize, which may be any number: at it the variable's bytes are judged
 unfoldable pub size_fault : List Dimension → ℕ → List ℕ → ExternalType → ℕ → Option Fault

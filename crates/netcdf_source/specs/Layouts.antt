@@ -1,8 +1,8 @@
 -- Where the elements of a variable stand (netCDF classic format, "Computing file offsets"): the bytes
 -- of a variable chopped into equal pieces, and the steps that lead to the same places.
-use Rattle.std.specs.Prelude.{◌≡◌, ℕ, ◌+◌, ◌*◌, ◌/◌, ◌^◌, ◌<◌, ◌≤◌, false, true, List, [], ◌∷◌, ◌++◌, length, map, take, drop, if◌then◌else◌, Option, Some, MatchOption}
+use Rattle.std.specs.Prelude.{◌≡◌, ℕ, ◌+◌, ◌*◌, ◌/◌, ◌<◌, ◌≤◌, false, true, List, [], ◌∷◌, ◌++◌, length, map, take, drop, if◌then◌else◌, Option, Some, MatchOption}
 use Rattle.std.specs.List.{AllByRecursion}
-use Rattle.dap_types.specs.Limits.{most_piece}
+use Rattle.dap_types.specs.Limits.{most_piece, most_variable}
 use Rattle.dap_types.specs.Model.{product}
 use Rattle.dap_types.specs.declared.slabs.Layout.{Layout}
 use Rattle.dap_model.specs.Indexing.{AreIndexes, distance}
@@ -78,7 +78,7 @@ IsPlaced c file_len v l =
 
 -- the bytes of all elements behind each index are few enough
 unfoldable pub SuffixesFit : List ℕ → ℕ → Type 0
-SuffixesFit ns size = (i : ℕ) → size * product (drop i ns) ≤ 2 ^ 62
+SuffixesFit ns size = (i : ℕ) → size * product (drop i ns) ≤ most_variable
 
 unfoldable pub HasSteps : Contents → Variable → Type 0
 HasSteps c v = SuffixesFit (inner (lengths c.dimensions (element_dimensions c v))) (element_size c v)

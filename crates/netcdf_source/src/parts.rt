@@ -6,9 +6,10 @@ ghost use Rattle.netcdf_source.specs.Parts.{lengths, inner, is_record, part, sha
 
 use crate::dimensions::length_of;
 use crate::{Dimension, ExternalType};
+use dap_types::limits;
 
 /// The most bytes of a variable, and of a record.
-pub const LIMIT: u64 = 1 << 62;
+pub const LIMIT: u64 = limits::MOST_VARIABLE;
 
 /// Whether a variable over these dimensions has a part in each record.
 pub fn is_record(dimensions: &[Dimension], ids: &[u64]) -> bool

@@ -14,10 +14,11 @@ use crate::variables::variables;
 use crate::version::Version;
 use crate::words::records;
 use crate::{Header, HeaderRefusal};
+use dap_types::limits;
 use std::alloc::Global;
 
 /// The most bytes of a header.
-const HEADER_MAX: u64 = 1048576;
+const HEADER_MAX: u64 = limits::MOST_HEADER as u64;
 
 /// The version of its byte.
 fn version_of_byte(byte: u8) -> Option<Version>

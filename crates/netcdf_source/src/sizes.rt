@@ -4,9 +4,10 @@ ghost use Rattle.netcdf_source.specs.Mapping.{size_at, are_small};
 
 use crate::dimensions::length_of;
 use crate::header::Contents;
+use dap_types::limits;
 
 /// The largest size of an array's dimension.
-const SIZE_MAX: u64 = 2147483647;
+const SIZE_MAX: u64 = limits::MOST_ELEMENTS;
 
 /// The number of indexes of a dimension: as many as records for the record dimension.
 pub fn size_at(contents: &Contents, id: u64) -> u64

@@ -6,9 +6,10 @@ use crate::dimensions::length_of;
 use crate::header::Contents;
 use crate::sizes::are_small;
 use crate::{Dimension, ExternalType, Variable};
+use dap_types::limits;
 
 /// The most bytes of a text that is offered.
-const TEXT_MAX: u64 = 65536;
+const TEXT_MAX: u64 = limits::MOST_PIECE as u64;
 
 /// Whether the values of a variable are chars.
 pub fn is_char(variable: &Variable) -> bool

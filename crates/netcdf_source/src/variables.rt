@@ -13,13 +13,13 @@ use crate::stop::{Failure, Stop};
 use crate::version::{Version, Width};
 use crate::words::{bad, begin, external_type, head, number};
 use crate::{Dimension, ExternalType, Shape, Variable};
-use dap_types::List;
+use dap_types::{List, limits};
 use std::alloc::Global;
 
 /// The tag of a list of variables.
 const TAG: u32 = 11;
 /// The most dimensions of a variable.
-const RANK_MAX: u64 = 32;
+const RANK_MAX: u64 = limits::MOST_DIMENSIONS as u64;
 /// The bytes of the least variable.
 const LEAST: usize = 32;
 

@@ -4,15 +4,12 @@ use Rattle.std.proofs.lemmas.Slice.Eq.{bytes_eq-Decides}
 use Rattle.std.specs.Cmp.Lexicographic.{nat_list_eq_equiv}
 use Rattle.std.specs.Option.{is_some, option_or}
 use Rattle.std.specs.Str.{bytes_eq}
+use Rattle.dap_types.proofs.Found.{option_or-none}
 use Rattle.netcdf_writer.specs.inner.Tables.{Adds}
 
 pub none_there : {X : Type 0} (o : Option X) → is_some o ≡ false → o ≡ None
 none_there None e = refl
 none_there (Some x) e = cc
-
-option_or-none : {X : Type 0} (o : Option X) → o ≡ option_or o None
-option_or-none None = refl
-option_or-none (Some x) = refl
 
 -- under a name that was free stands what was added
 pub added : {X : Type 0} (old new : List ℕ → Option X) (name : List ℕ) (x : X) → is_some (old name) ≡ false → ((q : List ℕ) → new q ≡ (if bytes_eq name q then Some x else old q)) → Adds old new name x

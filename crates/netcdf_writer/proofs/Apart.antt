@@ -51,7 +51,7 @@ or_yes : (b c : Bool) → c ≡ true → (b || c) ≡ true
 or_yes true c e = refl
 or_yes false c e = e
 
-or_both : (b c : Bool) → b ≡ false → c ≡ false → (b || c) ≡ false
+pub or_both : (b c : Bool) → b ≡ false → c ≡ false → (b || c) ≡ false
 or_both true c e f = cc e
 or_both false c e f = f
 

@@ -3,6 +3,7 @@ use Rattle.std.proofs.Common.{Result, Ok, Err, Vec, IsErr, false, true, Bool, le
 use Rattle.std.specs.Io.KnownBytes.{Consumes, IsAtEnd}
 use Rattle.std.specs.Io.KnownBytes.{Appends}
 use Rattle.std.proofs.KnownBytes.{Consumes-trans}
+use Rattle.dap_types.specs.Limits.{most_written}
 use Rattle.dap_client.proofs.Bodies.{good_is_body}
 use Rattle.dap_client.specs.Outcomes.{OnBadReply, OnComplete, OnLinkFault, OnReadFault, OnServerError, WhereWhole}
 use Rattle.dap_client.specs.Outcomes.{OnWriteFault as OnPutFault}
@@ -19,14 +20,14 @@ use Rattle.dap_types.specs.declared.values.Value.TheVariants as values
 use Rattle.dap_model.specs.Body.{IsBody}
 use Rattle.dap_model.specs.Xdr.{Field, count, number, SpellsField, SpellsFields, bytes_of, field_bytes, fields_all}
 use Rattle.xdr_decode.specs.Verdict as decoded
-use Rattle.xdr_decode.specs.declared.bad.Bad.{Bad}
-use Rattle.xdr_decode.specs.declared.bad.BadField.{BadField}
+use Rattle.reply_faults.specs.declared.bad.Bad.{Bad}
+use Rattle.reply_faults.specs.declared.bad.BadField.{BadField}
 use Rattle.xdr_decode.specs.declared.filled.AllRefusal.{AllRefusal}
 use Rattle.xdr_decode.specs.declared.filled.AllRefusal.TheVariants.{Refused}
 use Rattle.xdr_decode.specs.declared.filled.Filled.{Filled}
 use Rattle.netcdf_writer.specs.Outcomes.{IsOfMemory, OnWriteFault}
 use Rattle.netcdf_writer.specs.Outcomes.{OnReadFault as OnReadFailed}
-use Rattle.netcdf_writer.specs.Saved.{IsSmall, Stores, most_saved}
+use Rattle.netcdf_writer.specs.Saved.{IsSmall, Stores}
 use Rattle.netcdf_writer.specs.Saving.{IsReadWhole, Judges, Saves}
 use Rattle.netcdf_writer.specs.declared.saving.Halt.{Halt}
 use Rattle.netcdf_writer.specs.declared.stored.Stored.{Stored}
@@ -111,7 +112,7 @@ complete_body body n (d, ts, v) none = none d ts (good_is_body body d ts v)
 pub no_complete : (body : List ℕ) (o : Outcome) (n : ℕ) → IsShown body o → o ≡ outcomes.Complete n → ((d : Dataset) (ts : List Tree) → ¬ (IsBody body d ts)) → ⊥
 no_complete body o n shown is none = complete_body body n (subst (λ (p : Outcome). IsShown body p) is shown) none
 
-pub large : (body : List ℕ) (o : Outcome) → most_saved < length body → IsShown (take most_saved body) o → IsOfLarge body (large_of o)
+pub large : (body : List ℕ) (o : Outcome) → most_written < length body → IsShown (take most_written body) o → IsOfLarge body (large_of o)
 large body (outcomes.Complete n) more (d, ts, v) = record { longer = more; front = good d ts; verdict = v; going = refl }
 large body (outcomes.ServerError code message) more v = record { longer = more; front = server_error (record { code = code; message = message }); verdict = v; going = refl }
 large body (outcomes.BadReply field) more v = chosen (is_fault field.kind) refl
@@ -138,7 +139,7 @@ of_large body before now ReadFault same is = absurd is
 of_large body before now WriteFault same is = absurd is
 of_large body before now LinkFault same is = absurd is
 
-pub of_refused : (body : List ℕ) (before now : Option (List ℕ)) (s : Stored) → now ≡ before → length body ≤ most_saved → Refuses body s → Judges body before now s
+pub of_refused : (body : List ℕ) (before now : Option (List ℕ)) (s : Stored) → now ≡ before → length body ≤ most_written → Refuses body s → Judges body before now s
 of_refused body before now (BadReply field) same few is = (inl (few, is), same)
 of_refused body before now (ServerError code message) same few is = (few, is, same)
 of_refused body before now Memory same few is = same
@@ -150,7 +151,7 @@ of_refused body before now ReadFault same few is = absurd is
 of_refused body before now WriteFault same few is = absurd is
 of_refused body before now LinkFault same few is = absurd is
 
-pub of_stored : (body : List ℕ) (before now : Option (List ℕ)) (s : Stored) (d : Dataset) (ts : List Tree) → length body ≤ most_saved → IsVerdict dods_form body (good d ts) → IsOfMemory s → Stores d ts before now s → Judges body before now s
+pub of_stored : (body : List ℕ) (before now : Option (List ℕ)) (s : Stored) (d : Dataset) (ts : List Tree) → length body ≤ most_written → IsVerdict dods_form body (good d ts) → IsOfMemory s → Stores d ts before now s → Judges body before now s
 of_stored body before now (Written bytes) d ts few v is so = (few, (d, ts, v, so))
 of_stored body before now (Unsavable member why) d ts few v is so = (few, (d, ts, v, so))
 of_stored body before now HeaderTooLong d ts few v is so = (few, (d, ts, v, so))
@@ -188,7 +189,7 @@ fields_length (f ∷ fs) bs (front, rest, is, one, others) =
     let whole = length-append (field_bytes f) (bytes_of fs) in
     omega (arith, parts, here, behind, whole)
 
-pub small_body : (body : List ℕ) (d : Dataset) (ts : List Tree) → IsBody body d ts → length body ≤ most_saved → IsSmall d ts
+pub small_body : (body : List ℕ) (d : Dataset) (ts : List Tree) → IsBody body d ts → length body ≤ most_written → IsSmall d ts
 small_body body d ts is few =
     let parts = ap length is.parts ∙ length-append is.head is.values in
     let long = fields_length (fields_all d.members ts) is.values is.is_values.spelled in

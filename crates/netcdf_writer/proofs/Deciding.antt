@@ -3,22 +3,21 @@ use Rattle.std.proofs.Common.{◌≡◌, ℕ, ◌+◌, ◌-◌, ◌<◌, ◌≤�
 use Rattle.std.proofs.Math.Seq.{take-append-add}
 use Rattle.std.proofs.lemmas.Bool.{cases_lt}
 use Rattle.std.proofs.lemmas.List.{take-append-drop, take-append-le}
-use Rattle.dap_types.specs.Limits.{most_text}
+use Rattle.dap_types.specs.Limits.{most_text, most_written}
 use Rattle.dap_types.specs.Model.{Dataset}
 use Rattle.dap_model.specs.Received.{Fault, IsBadField}
 use Rattle.dap_model.specs.Tokens.{Token, tokens_of}
 use Rattle.dap_model.specs.Tokens as token
 use Rattle.dds_text.proofs.Readings.{tokens_grow}
-use Rattle.dds_text.specs.Reading.{IsBadText, IsOpen, IsRefused, limit}
+use Rattle.dds_text.specs.Reading.{IsBadText, IsOpen, IsDdsRefused, limit}
 use Rattle.error_word.specs.Saying.{begins_error, says_error}
 use Rattle.xdr_decode.specs.Verdict.{HasMore, HasText, HasWrongValues, IsBadDataLine, IsBadLine, IsWrong, IsWrongIn, budget}
-use Rattle.xdr_decode.specs.declared.bad.Bad.{Bad}
+use Rattle.reply_faults.specs.declared.bad.Bad.{Bad}
 use Rattle.dap_client.proofs.Ending.{faulty_other}
 use Rattle.dap_client.proofs.Filling.{budget_is}
 use Rattle.dap_client.proofs.Objects.{bad_stays}
 use Rattle.dap_client.specs.Verdict.{IsVerdict, Judges, JudgesError, Verdict, bad, dods_form, is_fault}
 use Rattle.netcdf_writer.specs.Laws.{FirstBytesDecide}
-use Rattle.netcdf_writer.specs.Saved.{most_saved}
 
 -- ---- whether it is an Error object
 
@@ -38,7 +37,7 @@ error_on front more kind place long final (inr (cut, end, is)) = absurd (faulty_
 -- ---- a data response
 
 text_on : (front more : List ℕ) (place : ℕ) → most_text ≤ length front → IsBadText front place → IsBadText (front ++ more) place
-text_on front more place long (inl a) = inl (subst (λ l. IsRefused l place) (sym (take-append-le limit front more long)) a)
+text_on front more place long (inl a) = inl (subst (λ l. IsDdsRefused l place) (sym (take-append-le limit front more long)) a)
 text_on front more place long (inr (o, le, is)) =
     let all = length-append front more in
     inr (subst IsOpen (sym (take-append-le limit front more long)) o, omega (arith, le, all), is)
@@ -112,7 +111,7 @@ small_judged : (bytes : List ℕ) (v : Verdict) → length bytes < budget → Is
 small_judged bytes v small (inl (less, judged)) = judged
 small_judged bytes v small (inr (long, front, judged, how)) = absurd (omega (arith, small, long))
 
-decided : (front more : List ℕ) (kind : Bad) (place : ℕ) → length front ≡ most_saved → ¬ (tokens_of front ≡ []) → is_fault kind ≡ true → IsVerdict dods_form front (bad kind place) → IsVerdict dods_form (front ++ more) (bad kind place)
+decided : (front more : List ℕ) (kind : Bad) (place : ℕ) → length front ≡ most_written → ¬ (tokens_of front ≡ []) → is_fault kind ≡ true → IsVerdict dods_form front (bad kind place) → IsVerdict dods_form (front ++ more) (bad kind place)
 decided front more kind place long some final is =
     let large = budget_is in
     let few : length front < budget = omega (arith, long, large) in
@@ -127,6 +126,6 @@ decided front more kind place long some final is =
 
 pub first_bytes_decide : FirstBytesDecide
 first_bytes_decide body kind place more some final is =
-    let long = length-take most_saved body in
-    let whole : length (take most_saved body) ≡ most_saved = omega (arith, more, long) in
-    subst (λ l. IsVerdict dods_form l (bad kind place)) (take-append-drop most_saved body) (decided (take most_saved body) (drop most_saved body) kind place whole some final is)
+    let long = length-take most_written body in
+    let whole : length (take most_written body) ≡ most_written = omega (arith, more, long) in
+    subst (λ l. IsVerdict dods_form l (bad kind place)) (take-append-drop most_written body) (decided (take most_written body) (drop most_written body) kind place whole some final is)

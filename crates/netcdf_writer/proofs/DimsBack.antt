@@ -189,7 +189,7 @@ pub record IsLocated (ds : List Dim) (d : Dim) : Type 0 where
   pub size : found.size ≡ d.size
   pub within : id_of ds d < length ds
 
-from_zero : (k : ℕ) → 0 + k ≡ k
+pub from_zero : (k : ℕ) → 0 + k ≡ k
 from_zero k = omega arith
 
 located : (all : List Dim) (d : Dim) → IsSized all d → IsLocated (first_uses [] all) d

@@ -2,15 +2,9 @@
 use Rattle.std.proofs.Common.{◌≡◌, ℕ, ◌+◌, ◌/◌, ◌%◌, ◌<◌, ◌≤◌, Bool, true, false, not, ◌&&◌, List, [], ◌∷◌, ◌++◌, All, Option, Some, None, refl, ap, sym, ◌∙◌, arith, subst, ◌==◌, ◌⊎◌, ⊎_elim, nat_lt, if◌then◌else◌}
 use Rattle.std.proofs.lemmas.Bool.Decides.{nat_tests}
 use Rattle.std.proofs.lemmas.List.Elements.{All-cons, All-nil, All-head, All-tail}
+use Rattle.netcdf_source.proofs.EscapedNames.{no_percent}
 use Rattle.dap_types.specs.Names.{escaped_byte, file_id, hex_digit, is_kept_byte}
 use Rattle.netcdf_writer.specs.Names.{before, byte_of, digit_of, escaped, is_digit, plain, undone}
-
--- a % is never kept
-no_percent : (b : ℕ) → is_kept_byte b ≡ true → b ≡ 37 → ⊥
-no_percent b kept e = absurd_of (sym (ap is_kept_byte e) ∙ kept)
-  where
-    absurd_of : Path Bool false true → ⊥
-    absurd_of q = cc
 
 not_percent : (b : ℕ) → is_kept_byte b ≡ true → (b == 37) ≡ false
 not_percent b kept = chosen (b == 37) refl

@@ -26,17 +26,13 @@ use Rattle.netcdf_writer.proofs.Apart.{NoCauses, all_kept, has_none, no_causes, 
 use Rattle.netcdf_writer.proofs.DimsBack.{IsGoodDim, find_any, found_other, own_name}
 use Rattle.netcdf_writer.proofs.FileNames.{name_again, or_none}
 use Rattle.netcdf_writer.proofs.ReadsBack.{all_dimensions, reads_back}
-use Rattle.netcdf_writer.proofs.Seen.{AreClear, IsClear, IsDimOf, array_from, column_from, found_all, header_sound, is_grid_among, is_map_at, is_own, map_at, maps_among, member_from, members_same, names_apart, offered_in, seen, seen_as, sound_apart, tree_from, trees_same}
-use Rattle.netcdf_writer.proofs.Storable.{IsGoodVariable, storable}
+use Rattle.netcdf_writer.proofs.Seen.{AreClear, IsClear, IsDimOf, array_from, base_plain, column_from, found_all, header_sound, is_grid_among, is_map_at, is_own, map_at, maps_among, member_from, members_same, names_apart, offered_in, seen, seen_as, sound_apart, tree_from, trees_same}
+use Rattle.netcdf_writer.proofs.Storable.{IsGoodVariable, storable, unnot}
 use Rattle.netcdf_writer.specs.Causes.{has_bad_name, is_misnamed, is_other_kind, is_other_than, map_clashes, unsavable}
 use Rattle.netcdf_writer.specs.File.{cdf}
 use Rattle.netcdf_writer.specs.Laws.{IsReadAs, ReadsSame}
 use Rattle.netcdf_writer.specs.Names.{is_file_name}
 use Rattle.netcdf_writer.specs.Variables.{Top, Variable, all_maps, array_variables, dim_name, has_name, is_array, is_new, maps_of, own, stored, stored_from, top_named, tops_of, variables}
-
-unnot : (b : Bool) → not b ≡ false → b ≡ true
-unnot true e = refl
-unnot false e = cc e
 
 none_left : {X : Type 0} (xs : List X) → (length xs == 0) ≡ true → xs ≡ []
 none_left [] e = refl
@@ -105,19 +101,6 @@ fit_by c v false false is kind names =
 fit_of : (c : Contents) (v : source.Variable) → is_other_kind (member_of c v) ≡ false → has_bad_name (member_of c v) ≡ false → IsFit c v
 unfolding member_of
 fit_of c v kind names = fit_by c v (is_empty (element_dimensions c v)) (is_grid c v) refl kind names
-
-base_plain : (t : ExternalType) → is_number (base_of t) ≡ true → is_char_type t ≡ false
-base_plain Byte e = refl
-base_plain Char e = cc e
-base_plain Short e = refl
-base_plain Int e = refl
-base_plain Float e = refl
-base_plain Double e = refl
-base_plain UByte e = refl
-base_plain UShort e = refl
-base_plain UInt e = refl
-base_plain Int64 e = refl
-base_plain UInt64 e = refl
 
 clear_one : (c : Contents) (v : source.Variable) → is_offered c v ≡ true → HasIds c v → IsFit c v → IsClear c v
 clear_one c v offered within fit =

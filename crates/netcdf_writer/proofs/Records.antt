@@ -5,14 +5,11 @@ use Rattle.std.proofs.lemmas.Grind.{flat_map-append}
 use Rattle.std.proofs.lemmas.List.Folds.{find-append}
 use Rattle.std.proofs.lemmas.List.Sums.{sum_by_push}
 use Rattle.std.specs.Option.{option_or}
+use Rattle.dap_model.proofs.Clauses.{or_false}
 use Rattle.netcdf_writer.specs.Causes.{records_clash, most_record, is_inner_record, is_second_record}
 use Rattle.netcdf_writer.specs.Variables.{Variable, all_dims, is_empty_dim, is_record, room_in_record, record_bytes}
 use Rattle.netcdf_writer.specs.inner.Planned.{IsRecord, is_second}
 use Rattle.netcdf_writer.specs.declared.plan.Record.{Record}
-
-or_false : (b : Bool) → (b || false) ≡ b
-or_false true = refl
-or_false false = refl
 
 pub or_true : (b : Bool) → (b || true) ≡ true
 or_true true = refl

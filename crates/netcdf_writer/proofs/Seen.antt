@@ -9,6 +9,7 @@ use Rattle.std.proofs.lemmas.Slice.Eq.{bytes_eq-Decides}
 use Rattle.std.specs.List.{AllByRecursion, cons_option, list_all, list_any, position_from}
 use Rattle.std.specs.Option.{option_map_or}
 use Rattle.std.specs.Str.{bytes_eq}
+use Rattle.netcdf_writer.proofs.Apart.{or_both}
 use Rattle.dap_types.specs.Model.{Member, scalar, array, grid, Tree, many, trees_of}
 use Rattle.dap_types.specs.Names.{file_id}
 use Rattle.dap_types.specs.declared.declarations.ArrayDecl.{ArrayDecl}
@@ -27,7 +28,7 @@ use Rattle.netcdf_source.specs.declared.header.Contents.{Contents}
 use Rattle.netcdf_source.specs.declared.header.Dimension.{Dimension}
 use Rattle.netcdf_source.specs.declared.header.Variable as source
 use Rattle.netcdf_source.specs.inner.Sound.{InTurn, IsDimension, IsSound}
-use Rattle.netcdf_writer.proofs.DimsBack.{place_of}
+use Rattle.netcdf_writer.proofs.DimsBack.{from_zero, place_of}
 use Rattle.netcdf_writer.proofs.FileNames.{or_none}
 use Rattle.netcdf_writer.proofs.ReadsBack.{all_dimensions}
 use Rattle.netcdf_writer.specs.Names.{undone}
@@ -111,10 +112,6 @@ AreApart c = (i j : ℕ) (d e : Dimension) → slice_get c.dimensions i ≡ Some
 some_dim : (d e : Dimension) → Path (Option Dimension) (Some d) (Some e) → d ≡ e
 some_dim d e is = cc
 
-or_both : (b c : Bool) → b ≡ false → c ≡ false → (b || c) ≡ false
-or_both true c e f = cc e
-or_both false c e f = f
-
 any_push : {X : Type 0} (p : X → Bool) (xs : List X) (y : X) → list_any p (xs ++ y ∷ []) ≡ false → (list_any p xs ≡ false) × (p y ≡ false)
 any_push p [] y e = (refl, (or_none (p y) false e).0)
 any_push p (x ∷ xs) y e =
@@ -172,7 +169,7 @@ ids_same a b ua ub =
 number_same : (i j : ℕ) → i ≡ j → (i == j) ≡ true
 number_same i j e = grind (arith, nat_tests, e)
 
-base_plain : (t : ExternalType) → is_number (base_of t) ≡ true → is_char_type t ≡ false
+pub base_plain : (t : ExternalType) → is_number (base_of t) ≡ true → is_char_type t ≡ false
 base_plain Byte e = refl
 base_plain Char e = cc e
 base_plain Short e = refl
@@ -278,9 +275,6 @@ none_there {X} p n (x ∷ xs) e = chosen (p x) e (none_there p (n + 1) xs)
     chosen : (b : Bool) → cond b (Some x) (find p xs) ≡ None → (find p xs ≡ None → position_from p (n + 1) xs ≡ None) → cond b (Some n) (position_from p (n + 1) xs) ≡ None
     chosen true f rest = cc f
     chosen false f rest = rest f
-
-from_zero : (k : ℕ) → 0 + k ≡ k
-from_zero k = omega arith
 
 position_find : {X : Type 0} (p : X → Bool) (xs : List X) → option_and_then (slice_get xs) (position_from p 0 xs) ≡ find p xs
 position_find {X} p xs = by (find p xs) refl

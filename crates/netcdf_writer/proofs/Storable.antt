@@ -13,7 +13,7 @@ use Rattle.dap_types.specs.declared.declarations.Dim.{Dim}
 use Rattle.dap_model.proofs.Values.{all_first, all_rest}
 use Rattle.dap_model.specs.Fits.{Fits, FitsAll, FitsArray}
 use Rattle.dap_model.specs.Laws.{is_number}
-use Rattle.netcdf_writer.proofs.Apart.{AreNew, NoCauses, all_join, all_kept, all_left, all_of, all_right, are_new, has_none, no_causes, variables_apart}
+use Rattle.netcdf_writer.proofs.Apart.{AreNew, NoCauses, all_join, all_kept, all_left, all_of, all_right, are_new, has_none, no_causes, or_both, variables_apart}
 use Rattle.netcdf_writer.proofs.DimsBack.{IsGoodDim, IsLocated, IsSingle, dims_located, single}
 use Rattle.netcdf_writer.proofs.Dimensions.{dims_clash_more}
 use Rattle.netcdf_writer.proofs.FileNames.{or_none}
@@ -36,7 +36,7 @@ pub record IsGoodVariable (v : Variable) : Type 0 where
   pub rank : length v.dims ≤ 32
   pub fits : FitsArray v.base (sizes_of v) v.tree
 
-unnot : (b : Bool) → not b ≡ false → b ≡ true
+pub unnot : (b : Bool) → not b ≡ false → b ≡ true
 unnot true e = refl
 unnot false e = cc e
 
@@ -107,10 +107,6 @@ tops_good all earlier names (member m ms) (t ∷ ts) none sized fit =
     (tops_good all (earlier ++ (m, t) ∷ []) (name_of m ∷ names) ms ts none.1 (all_right IsSizedPlace (part_places (1 + 1) m) (places 1 (name_of m ∷ names) ms) sized.1) fit.1)
 
 -- ---- nothing clashes
-
-or_both : (b c : Bool) → b ≡ false → c ≡ false → (b || c) ≡ false
-or_both true c e f = cc e
-or_both false c e f = f
 
 no_dims_clash_in : (all earlier : List Top) (top : Top) → clashes all earlier top ≡ false → dims_clash (all_dims (stored_from all [] earlier)) (all_dims (stored all earlier top)) ≡ false
 unfolding clashes

@@ -7,6 +7,7 @@ use Rattle.std.proofs.lemmas.List.Sums.{sum_by_push}
 use Rattle.std.specs.List.{AllByRecursion, list_any}
 use Rattle.std.specs.Option.{option_map_or}
 use Rattle.std.specs.Str.{bytes_eq}
+use Rattle.netcdf_writer.proofs.Apart.{or_both}
 use Rattle.dap_types.specs.Limits.{most_dimensions}
 use Rattle.dap_types.specs.Model.{product}
 use Rattle.dap_types.specs.declared.declarations.BaseType.{BaseType}
@@ -46,10 +47,6 @@ dims_in all = map dimension (dims_of all)
 
 abbrev pub kind_of : Variable → ExternalType
 kind_of v = external_type (type_number v.base)
-
-or_both : (b c : Bool) → b ≡ false → c ≡ false → (b || c) ≡ false
-or_both true c e f = cc e
-or_both false c e f = f
 
 and_none : (b c : Bool) → c ≡ false → (b && c) ≡ false
 and_none true c e = e

@@ -3,6 +3,7 @@
 use Rattle.std.specs.Prelude.{◌≡◌, ℕ, ◌⊎◌, true, List, [], ◌∷◌, ◌++◌, Option, Some}
 use Rattle.std.specs.Option.{option_map}
 use Rattle.std.specs.Io.KnownBytes.{Appends, Consumes}
+use Rattle.dap_types.specs.Limits.{most_written}
 use Rattle.dap_outside.specs.Causes.{Rose}
 use Rattle.dap_outside.specs.Links.{IsNew, LinkState}
 use Rattle.dap_outside.specs.Streams.{AppendsFront}
@@ -11,7 +12,7 @@ use Rattle.dap_http.specs.Texts.{request_text}
 use Rattle.dap_http.specs.Urls.{UrlParts}
 use Rattle.dap_http.specs.declared.coding.Coding.{Coding}
 use Rattle.dap_http.specs.declared.kind.Kind.TheVariants.{Dods}
-use Rattle.xdr_decode.specs.declared.bad.BadField.{BadField}
+use Rattle.reply_faults.specs.declared.bad.BadField.{BadField}
 use Rattle.dap_client.specs.Fetched.{DialState, SinkState}
 use Rattle.dap_client.specs.Held.{IsLong, IsTold, Says, told_of}
 use Rattle.dap_client.specs.Replies.{BringsFirst, StopsInTime, first_of}
@@ -19,7 +20,6 @@ use Rattle.dap_client.specs.Shows.{Takes}
 use Rattle.dap_client.specs.Verdict.{Verdict, IsVerdict, dods_form}
 use Rattle.dap_client.specs.declared.body_outcome.BodyOutcome.{BodyOutcome}
 use Rattle.dap_client.specs.declared.body_outcome.BodyOutcome.TheVariants as outcomes
-use Rattle.netcdf_writer.specs.Saved.{most_saved}
 use Rattle.netcdf_writer.specs.Saving.{Judges}
 use Rattle.netcdf_writer.specs.declared.stored.Stored.{Stored}
 use Rattle.netcdf_writer.specs.declared.stored.Stored.TheVariants.{BodyTooLarge, BadReply, ReadFault, WriteFault, LinkFault, Memory}
@@ -35,10 +35,10 @@ Becomes outcomes.Memory before now answer = (answer ≡ Memory) × (now ≡ befo
 
 -- whatever is so of a whole reply is what is told, but for a fault or want of memory
 pub record IsExact (reply : List ℕ) (outcome : BodyOutcome) : Type 0 where
-  pub too_large : (body : List ℕ) → BringsFirst reply body → IsLong dods_form most_saved body → IsTold outcomes.TooLarge outcome
-  pub whole : (body rest : List ℕ) (v : Verdict) → Delivers reply true body rest → IsVerdict dods_form body v → ¬ (IsLong dods_form most_saved body) → IsTold (told_of body v) outcome
+  pub too_large : (body : List ℕ) → BringsFirst reply body → IsLong dods_form most_written body → IsTold outcomes.TooLarge outcome
+  pub whole : (body rest : List ℕ) (v : Verdict) → Delivers reply true body rest → IsVerdict dods_form body v → ¬ (IsLong dods_form most_written body) → IsTold (told_of body v) outcome
   pub broken : (behind body : List ℕ) (coding : Coding) (wrong : BadField) (v : Verdict) → HasCoding reply coding behind → BreaksOff reply true body wrong
-      → IsVerdict dods_form body v → ¬ (IsLong dods_form most_saved body) → IsTold (told_of body (first_of v wrong)) outcome
+      → IsVerdict dods_form body v → ¬ (IsLong dods_form most_written body) → IsTold (told_of body (first_of v wrong)) outcome
 
 -- the link failed before the request was out: some of it went, from the front, and nothing was read nor put
 pub record IsUnasked (request : List ℕ) (came back : LinkState) (before now : SinkState) (answer : Stored) : Type 0 where
@@ -55,7 +55,7 @@ pub record IsUnasked (request : List ℕ) (came back : LinkState) (before now : 
 pub record IsAsked (request : List ℕ) (came back : LinkState) (before now : SinkState) (answer : Stored) : Type 0 where
   pub outcome : BodyOutcome
   pub sent : Appends came.written back.written request
-  pub says : (taken : List ℕ) × Consumes came.left back.left taken × Says dods_form most_saved taken back.ended outcome
+  pub says : (taken : List ℕ) × Consumes came.left back.left taken × Says dods_form most_written taken back.ended outcome
   pub most : Takes came.left back.left (StopsInTime dods_form)
   pub exact : (reply : List ℕ) → came.left ≡ Some reply → IsExact reply outcome
   pub becomes : Becomes outcome before.written now.written answer

@@ -2,7 +2,7 @@
 -- statement over all datasets and values.
 use Rattle.std.specs.Prelude.{◌≡◌, ◌↔◌, ℕ, ◌<◌, true, List, [], length, take, map, All, Some}
 use Rattle.std.specs.List.{AllZip}
-use Rattle.dap_types.specs.Limits.{most_header}
+use Rattle.dap_types.specs.Limits.{most_header, most_written}
 use Rattle.dap_types.specs.Model.{Dataset, Tree}
 use Rattle.dap_types.specs.Names.{file_id}
 use Rattle.netcdf_source.specs.Header.{IsHeader}
@@ -12,10 +12,10 @@ use Rattle.netcdf_source.specs.declared.header.Contents.{Contents}
 use Rattle.netcdf_source.specs.declared.header.Variable as source
 use Rattle.dap_client.specs.Verdict.{IsVerdict, bad, dods_form, is_fault}
 use Rattle.dap_model.specs.Tokens.{tokens_of}
-use Rattle.xdr_decode.specs.declared.bad.Bad.{Bad}
+use Rattle.reply_faults.specs.declared.bad.Bad.{Bad}
 use Rattle.netcdf_writer.specs.File.{cdf}
 use Rattle.netcdf_writer.specs.Names.{undone}
-use Rattle.netcdf_writer.specs.Saved.{IsSavable, IsSmall, most_saved}
+use Rattle.netcdf_writer.specs.Saved.{IsSavable, IsSmall}
 use Rattle.netcdf_writer.specs.Variables.{Variable, variables}
 
 -- the bytes that a name is undone to are those whose escape it is; there are no others
@@ -48,5 +48,5 @@ ReadsSame = (c : Contents) (file name : List ℕ) → IsHeader c (take most_head
 -- What is wrong with the first bytes of a body, as many as are saved, is what is wrong with all of it, whatever follows
 -- them: where a whole token stands in them, so that it is known whether they begin an Error object
 abbrev pub FirstBytesDecide : Type 0
-FirstBytesDecide = (body : List ℕ) (kind : Bad) (place : ℕ) → most_saved < length body → ¬ (tokens_of (take most_saved body) ≡ []) → is_fault kind ≡ true
-    → IsVerdict dods_form (take most_saved body) (bad kind place) → IsVerdict dods_form body (bad kind place)
+FirstBytesDecide = (body : List ℕ) (kind : Bad) (place : ℕ) → most_written < length body → ¬ (tokens_of (take most_written body) ≡ []) → is_fault kind ≡ true
+    → IsVerdict dods_form (take most_written body) (bad kind place) → IsVerdict dods_form body (bad kind place)

@@ -1,6 +1,6 @@
 -- What an answer says, by its kind.
 use Rattle.std.specs.Prelude.{ℕ, ℤ, List, ⊤}
-use Rattle.xdr_decode.specs.declared.bad.BadField.{BadField}
+use Rattle.reply_faults.specs.declared.bad.BadField.{BadField}
 use Rattle.netcdf_writer.specs.declared.stored.Stored.{Stored}
 use Rattle.netcdf_writer.specs.declared.stored.Stored.TheVariants.{Written, Unsavable, BodyTooLarge, HeaderTooLong, ServerError, BadReply, ReadFault, WriteFault, LinkFault, Memory}
 use Rattle.netcdf_writer.specs.declared.stored.Why.{Why}

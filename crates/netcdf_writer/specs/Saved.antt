@@ -1,6 +1,7 @@
 -- What becomes of a dataset that is stored.
 use Rattle.std.specs.Prelude.{◌≡◌, ℕ, List, ◌≤◌, false, true, length, Option, Some, None, map}
 use Rattle.std.specs.Io.KnownBytes.{Appends}
+use Rattle.dap_types.specs.Limits.{most_written}
 use Rattle.dap_types.specs.Model.{Dataset, Tree}
 use Rattle.dap_types.specs.View.{tree_view}
 use Rattle.dap_types.specs.WellFormed.{IsWellFormed}
@@ -14,15 +15,11 @@ use Rattle.netcdf_writer.specs.Outcomes.{OnWritten, OnUnsavable, OnHeaderTooLong
 use Rattle.netcdf_writer.specs.Variables.{variables}
 use Rattle.netcdf_writer.specs.declared.stored.Stored.{Stored}
 
--- the bytes of a body that is saved, at most
-abbrev pub most_saved : ℕ
-most_saved = 16777216
-
 -- a dataset with its values, few enough to be kept in memory
 pub record IsSmall (d : Dataset) (ts : List Tree) : Type 0 where
   pub well_formed : IsWellFormed d
   pub fits : FitsAll d.members ts
-  pub few : length (xdr d ts) ≤ most_saved
+  pub few : length (xdr d ts) ≤ most_written
 
 -- nothing stands against storing it
 abbrev pub IsSavable : Dataset → List Tree → Type 0

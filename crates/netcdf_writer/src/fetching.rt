@@ -11,11 +11,12 @@ use crate::saving::save_body;
 use dap_client::{BodyOutcome, read_body};
 use dap_http::{Kind, Url, request_bytes};
 use dap_outside::{Dial, Failed, Link, Sink, put_all};
+use dap_types::limits;
 use std::alloc::Global;
 use std::str;
 
 /// The most bytes of a body that is saved.
-const MOST_BODY: u32 = 16_777_216;
+const MOST_BODY: u32 = limits::MOST_WRITTEN as u32;
 
 /// The host of a URL.
 fn host_of(url: &Url) -> &str

@@ -17,11 +17,11 @@ use crate::dims::Dims;
 use crate::lent::{Lent, dim_name};
 use crate::names::undo;
 use crate::sizes::{is_record, room, room_in_record};
-use dap_types::{BaseType, Dim, Memory};
+use dap_types::{BaseType, Dim, Memory, limits};
 use std::alloc::Global;
 
 /// The most bytes of a header.
-const MOST_HEADER: usize = 1_048_576;
+const MOST_HEADER: usize = limits::MOST_HEADER;
 
 /// The tags of the lists of a header.
 const DIMENSIONS: u32 = 10;

@@ -15,15 +15,15 @@ ghost use Rattle.netcdf_writer.specs.declared.saving.Halt.TheVariants.{Failed as
 use crate::{Stored, write_cdf};
 use dap_client::{Outcome, show};
 use dap_outside::{Failed, MemSource, Sink, Source};
-use dap_types::{Bytes, List, Memory};
+use dap_types::{Bytes, List, Memory, limits};
 use std::alloc::Global;
 use xdr_decode::{AllRefusal, Bad, BadField, Filled, decode_all};
 
 /// The most bytes of a body that is saved.
-const MOST_BODY: usize = 16_777_216;
+const MOST_BODY: usize = limits::MOST_WRITTEN;
 
 /// How many bytes are taken at once.
-const PIECE: usize = 65536;
+const PIECE: usize = limits::MOST_PIECE;
 
 /// A sink that keeps nothing.
 #[derive(Drop)]

@@ -18,6 +18,7 @@ use Rattle.dap_model.specs.Grammar.{DdsOf, Judged, Slot, array_slots, closes, co
 use Rattle.dap_model.specs.Tokens.{Placed, Token, ended, is_plain, is_sign, is_white, is_word, sign_at, tokens_from, tokens_of, whole_tokens}
 use Rattle.dap_model.specs.Tokens as token
 use Rattle.file_names.proofs.Words.{AreBytes, IsByte}
+use Rattle.dap_model.proofs.FilteredWords.{both}
 
 -- a word, of bytes
 abbrev pub OfWord : List ℕ → Type 0
@@ -30,10 +31,6 @@ GoodToken (token.sign b) = ⊤
 
 abbrev GoodPlaced : Placed → Type 0
 GoodPlaced p = GoodToken p.token
-
-both : (a b : Bool) → a ≡ true → b ≡ true → (a && b) ≡ true
-both true b x y = y
-both false b x y = cc
 
 plain_of : (b : ℕ) → (is_white b || is_sign b) ≡ false → is_plain b ≡ true
 plain_of b e = ap not e

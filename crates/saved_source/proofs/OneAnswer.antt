@@ -8,7 +8,7 @@ use Rattle.dap_errors.proofs.Single.{bad_no_cut, object_no_bad, object_no_cut, o
 use Rattle.error_word.proofs.Bodies.{body_no_error}
 use Rattle.xdr_decode.proofs.OneVerdict.{one_verdict}
 use Rattle.xdr_decode.specs.Verdict.{good, wrong}
-use Rattle.xdr_decode.specs.declared.bad.Bad.{Bad}
+use Rattle.reply_faults.specs.declared.bad.Bad.{Bad}
 use Rattle.saved_source.specs.Refusals.{HasRepeated, IsBadAt, IsObjectAt, IsRefusal}
 use Rattle.saved_source.specs.Responses.{Holds, IsSaved, dataset_in, first_repeated, saved_dataset}
 use Rattle.saved_source.specs.declared.refusal.SavedRefusal.{SavedRefusal}

@@ -1,12 +1,13 @@
 -- A file that was read.
 use Rattle.std.proofs.Common.{◌≡◌, ℕ, ◌≤◌, List, length, drop, None, sym, ap, ◌∙◌, subst}
+use Rattle.dap_types.specs.Limits.{most_saved}
 use Rattle.dap_types.specs.Model.{Tree}
 use Rattle.dap_types.specs.View.{dataset_view}
 use Rattle.dap_types.specs.WellFormed.{IsWellFormed}
 use Rattle.dap_model.specs.Xdr.{Spells}
 use Rattle.xdr_decode.specs.Checking.{IsChecked}
 use Rattle.xdr_decode.specs.declared.check.Checked.{Checked}
-use Rattle.saved_source.specs.Responses.{Holds, IsSaved, dataset_in, first_repeated, most_saved, saved_dataset}
+use Rattle.saved_source.specs.Responses.{Holds, IsSaved, dataset_in, first_repeated, saved_dataset}
 use Rattle.saved_source.specs.declared.saved.Saved.{Saved}
 
 pub saved_is : (s : Saved) (bytes file_name : List ℕ) (c : Checked) (ts : List Tree) → length bytes ≤ most_saved → IsChecked bytes c ts → s.response ≡ c.dataset → s.values ≡ drop c.values_at bytes → s.file_name ≡ file_name

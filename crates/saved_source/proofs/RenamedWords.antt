@@ -20,18 +20,10 @@ use Rattle.dap_model.proofs.Tests.{both_true}
 use Rattle.dap_model.proofs.Values.{all_first, all_rest}
 use Rattle.dap_model.specs.Grammar.{are_words}
 use Rattle.dap_model.specs.Tokens.{is_plain, is_word}
-use Rattle.file_names.proofs.Words.{AreBytes, IsByte, file_word}
+use Rattle.file_names.proofs.Words.{AreBytes, IsByte, file_word, all_below}
 use Rattle.saved_source.proofs.NamesOfText.{AllNamed, Named, NamedArray, NamedArrays, NamedColumns, NamedDim, NamedDims, OfWord}
 use Rattle.saved_source.specs.Responses.{renamed, renamed_all, renamed_array, renamed_column, saved_dataset}
-
-both : (a b : Bool) → a ≡ true → b ≡ true → (a && b) ≡ true
-both true b x y = y
-both false b x y = cc
-
--- ---- bytes of names
-abbrev all_below : (ℕ → Bool) → ℕ → Bool
-all_below test zero = true
-all_below test (suc n) = test n && all_below test n
+use Rattle.dap_model.proofs.FilteredWords.{IsOfWords, both, has_word}
 
 below : (test : ℕ → Bool) (n b : ℕ) → all_below test n ≡ true → b < n → test b ≡ true
 below test zero b all lt = absurd (omega arith)
@@ -85,13 +77,6 @@ word_spelled w (word, are) =
     let some : 0 < length w = grind (arith, nat_tests, parts.0) in
     let out : 0 < length (constraint_id_from 0 w) = spelled_some w some are in
     both (ltb 0 (length (constraint_id_from 0 w))) (list_all is_plain (constraint_id_from 0 w)) (grind (arith, nat_tests, out)) (spelled_plain 0 w parts.1 are)
-
--- ---- members
-abbrev IsOfWords : Member → Type 0
-IsOfWords m = are_words m ≡ true
-
-abbrev has_word : Dim → Bool
-has_word dim = option_map_or is_word dim.name true
 
 dims_words : (dims : List Dim) → NamedDims dims → list_all has_word dims ≡ true
 dims_words [] named = refl

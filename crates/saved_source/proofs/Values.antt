@@ -14,10 +14,10 @@ use Rattle.dap_model.specs.Laws.{IsNumber}
 use Rattle.dap_model.specs.Xdr.{Field, number, field_bytes, bytes_of, value_fields, string_fields, word, zeros, SpellsField, SpellsFields}
 use Rattle.xdr_encode.proofs.StringParts.{string-parts}
 use Rattle.xdr_fields.proofs.OneFront.{own_long}
-use Rattle.xdr_fields.proofs.Walk.{plain}
 use Rattle.xdr_fields.specs.Wants.{a_value, room, IsTextType}
 use Rattle.saved_source.proofs.Exact.{Wide, field_exact, fields_exact, value_single}
 use Rattle.saved_source.specs.Walked.{IsValue, StandsValue}
+use Rattle.dap_model.proofs.Decoding.{plain}
 
 pub one_spelled : (f : Field) (own : List ℕ) → SpellsFields (f ∷ []) own → SpellsField f own
 one_spelled f own (x, y, parts, first, none) = subst (SpellsField f) (sym (parts ∙ ap (λ l. x ++ l) none ∙ append-nil x)) first

@@ -1,12 +1,13 @@
 -- What the datasets of saved responses promise, and that a response that is saved keeps its values.
 use Rattle.std.specs.Prelude.{◌≡◌, ◌≢◌, ℕ, ◌<◌, ◌≤◌, List, [], All, None, length}
+use Rattle.dap_types.specs.Limits.{most_saved}
 use Rattle.dap_types.specs.Model.{Dataset, Tree}
 use Rattle.dap_types.specs.WellFormed.{IsWellFormed}
 use Rattle.dap_model.specs.Body.{body, too_large}
 use Rattle.dap_model.specs.Fits.{FitsAll}
 use Rattle.dap_model.specs.Grammar.{HasWords}
 use Rattle.file_names.specs.Names.{segment}
-use Rattle.saved_source.specs.Responses.{IsSaved, first_repeated, most_saved, saved_dataset}
+use Rattle.saved_source.specs.Responses.{IsSaved, first_repeated, saved_dataset}
 
 -- the dataset is well formed
 abbrev pub SavedIsWellFormed : Type 0

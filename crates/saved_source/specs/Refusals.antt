@@ -1,7 +1,7 @@
 -- Why a file holds no response that is served (this project's), in this order: it is too long, it is no
 -- data response (DAP 2.0, DODS), or two members of a level have one name.
 use Rattle.std.specs.Prelude.{◌≡◌, ℕ, ◌<◌, ◌≤◌, ◌⊎◌, ⊤, true, false, List, length, Some}
-use Rattle.dap_types.specs.Limits.{most_text}
+use Rattle.dap_types.specs.Limits.{most_saved, most_text}
 use Rattle.dap_types.specs.Model.{Dataset, Tree}
 use Rattle.dap_model.specs.Body.{IsBody}
 use Rattle.dap_model.specs.Dds.{dds}
@@ -9,8 +9,8 @@ use Rattle.dap_errors.specs.Reading.{ErrorOf, IsBad, IsCut}
 use Rattle.dap_errors.specs.declared.object.ErrorObject.{ErrorObject}
 use Rattle.error_word.specs.Saying.{begins_at, says_error}
 use Rattle.xdr_decode.specs.Verdict.{IsVerdict, wrong}
-use Rattle.xdr_decode.specs.declared.bad.Bad.{Bad}
-use Rattle.saved_source.specs.Responses.{first_repeated, most_saved, saved_dataset}
+use Rattle.reply_faults.specs.declared.bad.Bad.{Bad}
+use Rattle.saved_source.specs.Responses.{first_repeated, saved_dataset}
 use Rattle.saved_source.specs.declared.refusal.SavedRefusal.{SavedRefusal}
 use Rattle.saved_source.specs.declared.refusal.SavedRefusal.TheVariants.{TooLong, BadBody, RepeatedName, Memory}
 use Rattle.saved_source.specs.declared.refusal.SavedBodyRefusal.{SavedBodyRefusal}

@@ -4,6 +4,7 @@
 use Rattle.std.specs.Prelude.{◌≡◌, ℕ, ◌≤◌, List, length, map, Option, None}
 use Rattle.std.specs.List.{list_any, position_from}
 use Rattle.std.specs.Str.{bytes_eq}
+use Rattle.dap_types.specs.Limits.{most_saved}
 use Rattle.das_text.specs.Model.{Attributes, Entries, container, entry, no_entries}
 use Rattle.dap_types.specs.Model.{Member, scalar, array, structure, grid, sequence, Members, no_members, member, Dataset, Tree, name_of}
 use Rattle.dap_types.specs.Names.{constraint_id}
@@ -15,10 +16,6 @@ use Rattle.dap_model.specs.Body.{IsBody}
 use Rattle.dap_model.specs.Xdr.{Spells}
 use Rattle.file_names.specs.Names.{dataset_name}
 use Rattle.saved_source.specs.declared.saved.Saved.{Saved}
-
--- the most bytes of such a file
-abbrev pub most_saved : ℕ
-most_saved = 67108864
 
 abbrev pub renamed_column : Column → Column
 renamed_column c = record c { name = constraint_id c.name }

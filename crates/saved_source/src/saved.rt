@@ -12,12 +12,12 @@ use crate::names::check_names;
 use crate::refusal::SavedRefusal;
 use crate::renamed::saved_dataset;
 use crate::verdict::checked;
-use dap_types::{Bytes, Dataset, Memory};
+use dap_types::{Bytes, Dataset, Memory, limits};
 use das_text::Attributes;
 use std::alloc::Global;
 
 /// The most bytes of a saved response.
-const MOST: usize = 67108864;
+const MOST: usize = limits::MOST_SAVED;
 
 /// A data response that was saved: the dataset of the response, the bytes of its values, and the name
 /// of its file. Contracts see the dataset that it is served as by `dataset_in`, and its values by `Holds`.

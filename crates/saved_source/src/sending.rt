@@ -21,14 +21,14 @@ use crate::refusal::SavedBodyRefusal;
 use crate::saved::Saved;
 use constraint_parse::Constraint;
 use dap_outside::{Buffer, Failed, Sink};
-use dap_types::{Bytes, Dataset, Index, Memory};
+use dap_types::{Bytes, Dataset, Index, Memory, limits};
 use dds_text::print;
 use grid_projection::Marks;
 use sequence_select::Tests;
 use std::alloc::Global;
 
 /// The most bytes of a DDS.
-const DDS_MAX: usize = 16777216;
+const DDS_MAX: usize = limits::MOST_TEXT;
 
 /// The DDS of what the marks leave of a dataset, of any length.
 fn left_dds(alloc: Global, dataset: &Dataset, marks: &Marks) -> Result<Bytes, Memory>

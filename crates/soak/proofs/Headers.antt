@@ -15,11 +15,12 @@ use Rattle.netcdf_source.specs.declared.external_type.ExternalType.TheVariants.{
 use Rattle.netcdf_source.specs.declared.header.Contents.{Contents}
 use Rattle.netcdf_source.specs.declared.header.Variable.{Variable}
 use Rattle.netcdf_source.specs.declared.version.Version.TheVariants.{One}
-use Rattle.soak.specs.File.{described, header, soak_bytes, values, word}
+use Rattle.soak.specs.File.{described, header, soak_bytes, values}
 use Rattle.soak.specs.Header.{dimensions, over_all, soak_contents}
 use Rattle.soak.specs.Laws.{HeaderIsRead}
 use Rattle.soak.proofs.Values.{length-values}
 use Rattle.soak.proofs.Standing.{is_fine, spelling, stand}
+use Rattle.dap_model.specs.Xdr.{word}
 
 abbrev variable_tree : List ℕ → ℕ → ℕ → ℕ → VariableTree
 variable_tree name number size begin = record { name = name; dimensions = 0 ∷ 1 ∷ 2 ∷ []; attributes = record { tag = 0; items = [] }; number = number; size = size; begin = begin }

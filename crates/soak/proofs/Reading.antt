@@ -15,7 +15,7 @@ use Rattle.dap_model.specs.Filter.{SuitsAll}
 use Rattle.dap_model.specs.Fits.{FitsAll, values_in}
 use Rattle.dap_model.specs.Grammar.{HasWords}
 use Rattle.dap_model.specs.Rows.{kept}
-use Rattle.dap_model.specs.Xdr.{array_fields, bytes_of, padded, xdr}
+use Rattle.dap_model.specs.Xdr.{array_fields, bytes_of, padded, xdr, word}
 use Rattle.dap_model.proofs.FilteredWords.{constrained_has_words}
 use Rattle.dap_model.proofs.Filtering.{filtered_all_fit}
 use Rattle.dap_model.proofs.Lengths.{length-array_fields}
@@ -32,7 +32,7 @@ use Rattle.netcdf_source.proofs.Joined.{dataset_is_well_formed}
 use Rattle.sequence_select.specs.Selections.{selections}
 use Rattle.soak.specs.Asked.{file_name, soak_constraint}
 use Rattle.soak.specs.Datasets.{soak_left}
-use Rattle.soak.specs.File.{bytes_at, described, header, soak_bytes, state, value_bytes, values, word}
+use Rattle.soak.specs.File.{bytes_at, described, header, soak_bytes, state, value_bytes, values}
 use Rattle.soak.specs.Header.{soak_contents}
 use Rattle.soak.specs.Laws.{BytesAreCounted, IsRead}
 use Rattle.soak.specs.Numbers.{left, soak_body, stored}

@@ -14,8 +14,9 @@ use Rattle.std.proofs.lemmas.Str.{IsUtf8-from_ascii}
 use Rattle.std.specs.Str.{IsAscii}
 use Rattle.httparse.specs.Grammar.{AllPass, Field, IsField, IsRequestHead, IsToken, RequestHead, crlf, is_token_byte, is_uri_byte, is_value_byte, print_request, print_section}
 use Rattle.percent_encoding.specs.Percent.{percent_decode}
+use Rattle.target_names.specs.Names.{is_name}
 use Rattle.dap_http.specs.Requests.{FirstRequest}
-use Rattle.dap_http.specs.Targets.{is_name, is_target_long, target_of}
+use Rattle.dap_http.specs.Targets.{is_target_long, target_of}
 use Rattle.dap_http.specs.Texts.{close_line, escaped, escaped_byte, host_lines, is_plain, request_text}
 use Rattle.dap_http.specs.Urls.{url_of}
 use Rattle.dap_http.specs.declared.kind.Kind.TheVariants.{Dods}
@@ -23,6 +24,7 @@ use Rattle.viable.specs.Prefix.{is_byte}
 use Rattle.constraint_parse.specs.Language.{is_digit}
 use Rattle.soak.specs.Asked.{constraint_text, file_name, request, target, url_text}
 use Rattle.soak.proofs.Spelled.{digits}
+use Rattle.dap_http.proofs.Carrying.{by-bits, field, token}
 
 pub url-is : url_of url_text ≡ Some (record { host = codes "localhost"; port = 80; path = codes "/soak.nc" })
 unfolding url_of
@@ -56,9 +58,6 @@ unfolding is_plain
 escaped-is ds e = around (codes "s[0:2:") (codes "][0:31][1:3:31],i[0:") (codes "][31:31][0:31]") ds e
 
 -- ---- the head
-
-abbrev field : List ℕ → List ℕ → Field
-field name value = record { name = name; raw = 32 ∷ value; end = crlf }
 
 abbrev head_for : List ℕ → RequestHead
 head_for t = record {
@@ -183,12 +182,6 @@ asked records few =
     ∙ ap (λ q. Some (record { name = file_name; kind = Dods; query = q })) (decoded last is_digits)
 
 -- ---- the head is one, and the first request
-
-by-bits : (test : ℕ → Bool) (xs : List ℕ) → list_all test xs ≡ true → AllPass test xs
-by-bits test xs e = AllPass-from_list_all test xs e
-
-token : (xs : List ℕ) → 0 < length xs → list_all is_token_byte xs ≡ true → IsToken xs
-token xs some e = (some, by-bits is_token_byte xs e)
 
 is-field : (name value : List ℕ) → IsToken name → list_all is_value_byte (32 ∷ value) ≡ true → IsField (field name value)
 is-field name value n v = record { name = n; raw = by-bits is_value_byte (32 ∷ value) v }

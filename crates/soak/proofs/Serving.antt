@@ -19,7 +19,7 @@ use Rattle.soak.specs.Asked.{constraint_text, file_name, soak_constraint, target
 use Rattle.soak.specs.Datasets.{soak_left}
 use Rattle.soak.specs.File.{soak_bytes}
 use Rattle.soak.specs.Header.{soak_contents}
-use Rattle.soak.specs.Laws.{ElementsAreCounted, ElementsAreThese, IsServed}
+use Rattle.soak.specs.Laws.{ElementsAreCounted, ElementsAreThese, BodyIsServed}
 use Rattle.soak.specs.Numbers.{left, stored}
 use Rattle.soak.proofs.Headers.{header_is}
 use Rattle.soak.proofs.Leaving.{dataset-is, left-is, no-cause}
@@ -59,7 +59,7 @@ small last few =
     let i_few : ltb 2147483647 ((last + 1) * 32) ≡ false = grind (arith, nat_tests) in
     simp (text, s_few, i_few) refl
 
-pub is_served : IsServed
+pub is_served : BodyIsServed
 is_served start records files some few is =
     accepted_is_served (target records) file_name (constraint_text records) files (stored start records) (soak_constraint (records - 1))
     (asked records few) (opens start records files few is) (is-spelled records few)

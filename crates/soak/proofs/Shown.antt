@@ -18,7 +18,7 @@ use Rattle.dap_client.specs.Verdict.{Verdict, IsVerdict, dods_form, good}
 use Rattle.dap_client.specs.declared.outcome.Outcome.TheVariants.{Complete}
 use Rattle.dap_client.proofs.Bodies.{body_good}
 use Rattle.dap_client.proofs.OneVerdict.{one_verdict}
-use Rattle.dap_client.specs.Answered.{Tells, text_of}
+use Rattle.dap_client.specs.Answered.{Tells, text_shown}
 use Rattle.soak.specs.Numbers.{left, numbers, shown_text, soak_body}
 use Rattle.soak.specs.declared.numbers.Numbers.{Numbers}
 use Rattle.soak.specs.Reply.{reply}
@@ -60,7 +60,7 @@ told start records n taken more rest text ended some few parts none (body, v, wh
     let judged : IsVerdict dods_form b v = subst (λ bytes. IsVerdict dods_form bytes v) same verdict in
     let is_good : v ≡ good l.dataset l.trees = one_verdict dods_form b v (good l.dataset l.trees) judged (body_good b l.dataset l.trees (is_read start records some few)) in
     let count : n ≡ length b = complete-is n v l.dataset l.trees (length body) is is_good ∙ ap length same in
-    (is_text ∙ ap (text_of n) is_good ∙ ap (λ k. text_of k (good l.dataset l.trees)) count, count)
+    (is_text ∙ ap (text_shown n) is_good ∙ ap (λ k. text_shown k (good l.dataset l.trees)) count, count)
 
 numbers-are : (start records e b s t : ℕ) (text : List ℕ) → 1 ≤ records → records ≤ 4096 → e ≡ 352 * ((records - 1) / 2 + 1) + 32 * records → text ≡ shown_text start records
     → b ≡ length (soak_body start records) → s ≡ length text → t ≡ sum text % 2 ^ 32 → record { elements = e; bytes = b; shown = s; sum = t } ≡ numbers start records

@@ -15,7 +15,8 @@ use Rattle.constraint_parse.specs.declared.constraint.Constraint.{Constraint}
 use Rattle.constraint_parse.specs.declared.constraint.Item.TheVariants.{Path}
 use Rattle.constraint_parse.specs.declared.constraint.Number.{Number}
 use Rattle.constraint_parse.specs.declared.constraint.Number.TheVariants.{Small}
-use Rattle.soak.specs.Asked.{by, constraint_text, soak_constraint, to}
+use Rattle.soak.specs.Asked.{constraint_text, soak_constraint}
+use Rattle.grid_projection.specs.Worked.{by, to}
 
 spaced : (tokens : List Token) → list_all is_token tokens ≡ true → IsSpaced (flat_map token_bytes tokens) tokens
 spaced [] e = refl

@@ -7,6 +7,7 @@ use Rattle.constraint_parse.specs.declared.constraint.Number.TheVariants.{Small}
 use Rattle.constraint_parse.specs.declared.constraint.RawSlab.{RawSlab}
 use Rattle.dap_http.specs.Texts.{request_text}
 use Rattle.dap_http.specs.declared.kind.Kind.TheVariants.{Dods}
+use Rattle.grid_projection.specs.Worked.{by, to}
 
 abbrev pub file_name : List ℕ
 file_name = codes "soak.nc"
@@ -15,13 +16,6 @@ file_name = codes "soak.nc"
 abbrev pub constraint_text : ℕ → List ℕ
 constraint_text records =
     let last = decimal (records - 1) in codes "s[0:2:" ++ (last ++ (codes "][0:31][1:3:31],i[0:" ++ (last ++ codes "][31:31][0:31]")))
-
--- [a:b] and [a:s:b]
-abbrev pub to : ℕ → ℕ → RawSlab
-to a b = record { first = Small (pos a); middle = None; last = Some (Small (pos b)) }
-
-abbrev pub by : ℕ → ℕ → ℕ → RawSlab
-by a s b = record { first = Small (pos a); middle = Some (Small (pos s)); last = Some (Small (pos b)) }
 
 -- what that text spells
 abbrev pub soak_constraint : ℕ → Constraint

@@ -4,6 +4,7 @@
 use Rattle.std.specs.Prelude.{ℕ, zero, suc, ◌+◌, ◌*◌, ◌/◌, ◌%◌, ◌^◌, List, [], ◌∷◌, ◌++◌, nat_lt, if◌then◌else◌, codes}
 use Rattle.std.specs.Int.{to_be_bytes, w16, w32}
 use Rattle.std.specs.List.{flat_map, range_with_len}
+use Rattle.dap_model.specs.Xdr.{word}
 
 -- the state of the generator behind so many steps (Knuth, MMIX)
 unfoldable pub state : ℕ → ℕ → ℕ
@@ -21,10 +22,6 @@ value_bytes start k = bytes_at (k % 2048) (state start (k + 1))
 -- so many values from the front
 unfoldable pub values : ℕ → ℕ → List ℕ
 values start count = flat_map (value_bytes start) (range_with_len 0 count)
-
--- a number of the header has four bytes
-abbrev pub word : ℕ → List ℕ
-word n = to_be_bytes w32 n
 
 -- a name of one byte, with its length and its padding
 abbrev pub letter : List ℕ → List ℕ

@@ -17,8 +17,8 @@ abbrev pub HeaderIsRead : Type 0
 HeaderIsRead = (start records : ℕ) → records ≤ 4096 → IsHeader (soak_contents records) (take most_header (soak_bytes start records)) (length (soak_bytes start records))
 
 -- over files among which it is, its target has that body as its result
-abbrev pub IsServed : Type 0
-IsServed = (start records : ℕ) (files : Files) → 1 ≤ records → records ≤ 4096 → files file_name ≡ Some (soak_bytes start records)
+abbrev pub BodyIsServed : Type 0
+BodyIsServed = (start records : ℕ) (files : Files) → 1 ≤ records → records ≤ 4096 → files file_name ≡ Some (soak_bytes start records)
     → Results (target records) files (Ok (result_text Dods (soak_body start records)))
 
 -- s has 11 elements of 32 rows of every other record, and i one row of 32 of each

@@ -1,5 +1,5 @@
 //! What the definitions promise. These functions do nothing: their clauses are laws.
-ghost use Rattle.soak.specs.Laws.{BytesAreCounted, ElementsAreCounted, ElementsAreThese, HeaderIsRead, IsRead, IsServed};
+ghost use Rattle.soak.specs.Laws.{BytesAreCounted, ElementsAreCounted, ElementsAreThese, HeaderIsRead, IsRead, BodyIsServed};
 
 /// The generated file is a netCDF classic file.
 pub fn header_is_read()
@@ -8,7 +8,7 @@ pub fn header_is_read()
 
 /// What is asked of it is served.
 pub fn is_served()
-    ensures law { IsServed }
+    ensures law { BodyIsServed }
 {}
 
 /// How many elements are asked for.

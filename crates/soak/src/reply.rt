@@ -11,7 +11,7 @@ use crate::file::soak_file;
 use crate::request::soak_request;
 use dap_outside::{MemFile, MemLink, Shelf, Sink, Source, SureShelf};
 use dap_server::{Ending, Served, serve_connection};
-use dap_types::{Bytes, List, Memory, Name};
+use dap_types::{Bytes, List, Memory, Name, limits};
 use std::alloc::Global;
 use std::thread::Threads;
 
@@ -21,7 +21,7 @@ const WORKERS: u32 = 7;
 /// The bytes that the link takes, in all and at once.
 const ROOM: u32 = 4_194_304;
 
-const PIECE: u32 = 65_536;
+const PIECE: u32 = limits::MOST_PIECE as u32;
 
 /// A shelf that has the file alone.
 fn shelf_of(alloc: Global, start: u64, records: u32) -> Result<SureShelf, Memory>

@@ -9,14 +9,14 @@ use crate::reply::soak_reply;
 use dap_client::{Outcome, read_reply};
 use dap_http::Kind;
 use dap_outside::{MemSink, SureSource};
-use dap_types::{Bytes, List, Memory};
+use dap_types::{Bytes, List, Memory, limits};
 use std::alloc::Global;
 use std::thread::Threads;
 
 /// The bytes that are shown at most, and moved at once.
 const ROOM: u32 = 25_165_824;
 
-const PIECE: u32 = 65_536;
+const PIECE: u32 = limits::MOST_PIECE as u32;
 
 /// Reads the reply to the request for a file of so many records, and says what came. Fails where memory is
 /// wanted.

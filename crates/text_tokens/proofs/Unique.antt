@@ -8,7 +8,7 @@ use Rattle.viable.proofs.Runs.{run_unique, run_valid, run_begins}
 use Rattle.viable.proofs.Pieces.{pieces_unique, pieces_open}
 use Rattle.text_tokens.specs.Tokens.{Token, sign, word, quoted, Placed, is_white, is_sign, is_word_byte, token_bytes, is_token, is_whole, Next, NoToken, IsPart, Reads}
 
-false_true : (b : Bool) → b ≡ true → not b ≡ true → ⊥
+pub false_true : (b : Bool) → b ≡ true → not b ≡ true → ⊥
 false_true true e n = cc
 false_true false e n = cc
 

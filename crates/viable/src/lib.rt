@@ -7,5 +7,5 @@
 mod numeral;
 mod quoted;
 
-pub use numeral::number;
+pub use numeral::{all_digits, number, value_of, wide_value_of};
 pub use quoted::{pieces_end, push_escaped, unescaped};

@@ -6,7 +6,8 @@ ghost use Rattle.std.specs.List.{list_all};
 ghost use Rattle.std.specs.Str.Parse.{digits_value};
 ghost use Rattle.viable.specs.Numerals.{is_numeral};
 
-fn all_digits(word: &[u8]) -> bool
+/// Whether each byte is a decimal digit.
+pub fn all_digits(word: &[u8]) -> bool
     ensures { result ≡ list_all is_ascii_digit word.now }
 {
     word.iter().all(|byte| byte.is_ascii_digit())
@@ -19,7 +20,8 @@ fn is_numeral(word: &[u8], most: usize) -> bool
     !word.is_empty() && all_digits(word) && word.len() <= most
 }
 
-fn value_of(digits: &[u8]) -> u64
+/// The number that at most 19 digits write.
+pub fn value_of(digits: &[u8]) -> u64
     requires { IsTrue (list_all is_ascii_digit digits.now) × (length digits.now ≤ 19) }
     ensures value { result ≡ digits_value 10 digits.now }
     ensures bound { (most : ℕ) → length digits.now ≤ most → result < 10 ^ most }
@@ -27,6 +29,18 @@ fn value_of(digits: &[u8]) -> u64
     let mut value: u64 = 0;
     for digit in digits {
         value = value * 10 + u64::from(*digit - b'0');
+    }
+    value
+}
+
+/// The number that at most 20 digits write.
+pub fn wide_value_of(digits: &[u8]) -> u128
+    requires { IsTrue (list_all is_ascii_digit digits.now) × (length digits.now ≤ 20) }
+    ensures { result ≡ digits_value 10 digits.now }
+{
+    let mut value: u128 = 0;
+    for digit in digits {
+        value = value * 10 + u128::from(*digit - b'0');
     }
     value
 }

@@ -9,7 +9,7 @@ use Rattle.dap_types.specs.WellFormed.{IsWellFormed}
 use Rattle.xdr_fields.specs.Wants.{Want, a_count, a_value, a_byte, a_filler, a_text, a_padding, rows, Steps, array_wants, room, said, says_next, wants, wants_all, wants_of, wants_of_array, wants_of_arrays}
 use Rattle.dap_model.specs.Xdr.{SpellsFields}
 use Rattle.xdr_fields.proofs.Judged.{no_steps}
-use Rattle.xdr_decode.specs.After.{Reads, Stands, StandsAfter, dataset_of}
+use Rattle.xdr_decode.specs.After.{Reads, Stands, DecoderStandsAfter, dataset_of}
 use Rattle.xdr_decode.specs.inner.Places.{HaveMarks, IsOwn, IsPlaced, wants_left}
 use Rattle.xdr_decode.specs.declared.decoder.Decoder.{Decoder}
 use Rattle.xdr_decode.specs.declared.decoder.State.TheVariants as state
@@ -99,8 +99,8 @@ begins_own p ws ms held is none =
     subst (λ h. IsOwn p ws h []) (sym none) (own_none p ws (subst Begin (sym is) (begin_members [] ms)))
 
 pub begins : (r : Decoder) → IsWellFormed (dataset_of r) → r.state ≡ state.Reading → r.held.items ≡ [] → r.taken ≡ r.start → r.start < 2 ^ 64
-    → r.place.stage ≡ stage.Start → wants_left (dataset_of r).members r.place ≡ wants_of (dataset_of r) → IsPlaced (dataset_of r).members r.place → StandsAfter r [] []
-unfolding StandsAfter
+    → r.place.stage ≡ stage.Start → wants_left (dataset_of r).members r.place ≡ wants_of (dataset_of r) → IsPlaced (dataset_of r).members r.place → DecoderStandsAfter r [] []
+unfolding DecoderStandsAfter
 begins r well reading none taken small started left placed =
     let own = begins_own r.place (wants_left (dataset_of r).members r.place) (dataset_of r).members r.held.items left none in
     let read : Reads r [] [] =

@@ -4,11 +4,11 @@ use Rattle.std.proofs.lemmas.Grind.{flat_map-append}
 use Rattle.std.specs.List.{flat_map}
 use Rattle.dap_types.specs.Model.{Dataset, Tree}
 use Rattle.dap_model.proofs.Values.{all_back}
-use Rattle.dap_model.specs.Received.{Fault, EndsAt, IsBadField, IsPrefix}
+use Rattle.dap_model.specs.Received.{Fault, ValuesEndAt, IsBadField, IsPrefix}
 use Rattle.dap_model.specs.Shown.{shown_byte}
 use Rattle.dap_model.specs.Xdr.{Field, text, field_bytes, SpellsField, SpellsFields}
 use Rattle.xdr_fields.proofs.Fronts.{IsPart, shows}
-use Rattle.xdr_fields.proofs.Growing.{prefix_trans, said_join}
+use Rattle.xdr_fields.proofs.Growing.{prefix_trans, said_join, prefix_more, text_bytes}
 use Rattle.xdr_fields.proofs.Judged.{ended_at, is_bad, judge, steps_join}
 use Rattle.xdr_fields.specs.inner.Reached.{IsEnded, IsCut, IsSpoilt}
 use Rattle.xdr_fields.specs.Wants.{Want, a_count, a_value, a_byte, a_filler, a_text, a_padding, rows, Steps, becomes, fault_in, said, says_next, wants_of}
@@ -30,10 +30,6 @@ prefix_of (o ∷ own) (b ∷ x) rest z same le =
     let (k, is) = prefix_of own x rest z (same_rest o b (own ++ rest) (x ++ z) same) (omega (arith, le)) in
     (k, ap (λ c. c ∷ x) (sym (same_first o b (own ++ rest) (x ++ z) same)) ∙ ap (λ l. o ∷ l) is)
 
-text_bytes : (b x : List ℕ) → SpellsField (text b) x → x ≡ b
-unfolding field_bytes
-text_bytes b x is = is
-
 -- a string that goes on is shown further
 first_text : (n : ℕ) (us : List Want) (own rest front tail : List ℕ) (f : Field) (fs : List Field) (vs : List Want) → length own ≤ n → Steps (a_text n ∷ us) (f ∷ fs) vs → SpellsFields (f ∷ fs) front → own ++ rest ≡ front ++ tail
     → IsPrefix (flat_map shown_byte own) (said (a_text n ∷ us) (f ∷ fs))
@@ -48,9 +44,6 @@ first_text n us own rest front tail f fs vs le steps good same = absurd steps.0
 
 nothing : (t : List ℕ) → IsPrefix [] t
 nothing t = (t, refl)
-
-prefix_more : (a b c : List ℕ) → IsPrefix a b → IsPrefix a (b ++ c)
-prefix_more a b c (x, is) = (x ++ c, ap (λ l. l ++ c) is ∙ append_assoc a x c)
 
 -- what was said of what came is a front of what is said of it with what follows
 abbrev Continues : List Want → List ℕ → List Field → List Want → List ℕ → Type 0
@@ -72,7 +65,7 @@ continues (rows above name columns row ∷ us) own rest front tail fs vs last lo
 
 -- in the words of the model
 finish : (d : Dataset) (bs t : List ℕ) (fields : List Field) (vs : List Want) (good last : List ℕ) → Steps (wants_of d) fields vs → SpellsFields fields good → IsPart vs last → IsPrefix t (said (wants_of d) fields ++ says_next vs last)
-    → (HasGood d bs (good ++ last) ⊎ ((ts : List Tree) × EndsAt d ts bs (length (good ++ last)) × IsPrefix (good ++ last) bs)) → ShowsSome d bs t
+    → (HasGood d bs (good ++ last) ⊎ ((ts : List Tree) × ValuesEndAt d ts bs (length (good ++ last)) × IsPrefix (good ++ last) bs)) → ShowsSome d bs t
 finish d bs t fields vs good last steps spelled part front has =
     let shown = shows d fields vs good last steps spelled part in
     record { good = good ++ last; whole = shown.whole; more = shown.more; has_good = has; is_front = shown.is_front; within = prefix_trans t (said (wants_of d) fields ++ says_next vs last) (shown.whole ++ shown.more) front shown.within }
@@ -123,7 +116,7 @@ some_ended d bytes put t bs rest ws own s loose whole front e =
     let (ts, at) = ended_at d bs (record { front = s.front ++ e.front; rest = e.rest; leads = record { fields = s.fields ++ fs; steps = steps; spelled = good }; parts = parts }) in
     let whole' : s.front ++ e.front ≡ (s.front ++ e.front) ++ [] = sym (append-nil (s.front ++ e.front)) in
     finish d bs t (s.fields ++ fs) [] (s.front ++ e.front) [] steps good refl (goes_on d bytes put t ws own s fs [] [] front on)
-    (inr (ts, subst (λ l. EndsAt d ts bs (length l)) whole' at, (e.rest, subst (λ l. bs ≡ l ++ e.rest) whole' parts)))
+    (inr (ts, subst (λ l. ValuesEndAt d ts bs (length l)) whole' at, (e.rest, subst (λ l. bs ≡ l ++ e.rest) whole' parts)))
 
 some_cut : (d : Dataset) (bytes put t bs rest : List ℕ) (ws : List Want) (own : List ℕ) (s : Spelled d bytes put ws own) → IsLoose ws own → bs ≡ s.front ++ (own ++ rest) → IsPrefix t put → IsCut ws (own ++ rest) → ShowsSome d bs t
 some_cut d bytes put t bs rest ws own s loose whole front e =

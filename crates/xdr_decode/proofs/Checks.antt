@@ -10,13 +10,13 @@ use Rattle.dds_text.specs.Reading.{IsDone}
 use Rattle.xdr_decode.proofs.Decoded.{small_refusal}
 use Rattle.std.specs.Prelude.{◌⊎◌}
 use Rattle.dap_outside.specs.Causes.{Rose}
-use Rattle.xdr_decode.specs.After.{EndsBehind, HasFailed, IsFirstBad, Stands, StandsAfter}
+use Rattle.xdr_decode.specs.After.{EndsBehind, HasFailed, IsFirstBad, Stands, DecoderStandsAfter}
 use Rattle.xdr_decode.specs.declared.decoder.Decoder.{Decoder}
 use Rattle.xdr_decode.proofs.OneVerdict.{one_verdict}
 use Rattle.xdr_decode.specs.Checking.{IsChecked, IsGoodAt, Tells}
 use Rattle.xdr_decode.specs.Verdict.{HasHeadOf, HasMore, IsRefusal, IsVerdict, Verdict, budget, good, wrong}
-use Rattle.xdr_decode.specs.declared.bad.Bad.TheVariants.{Cut, Trailing}
-use Rattle.xdr_decode.specs.declared.bad.BadField.{BadField}
+use Rattle.reply_faults.specs.declared.bad.Bad.TheVariants.{Cut, Trailing}
+use Rattle.reply_faults.specs.declared.bad.BadField.{BadField}
 use Rattle.xdr_decode.specs.declared.check.Checked.{Checked}
 use Rattle.xdr_decode.specs.declared.filled.AllRefusal.{AllRefusal}
 use Rattle.xdr_decode.specs.declared.filled.AllRefusal.TheVariants.{Memory, Refused}
@@ -80,10 +80,10 @@ only_checked body (Err (Refused b)) checked refused v is = one_verdict body v (w
 only_checked body (Err Memory) checked refused v is = tt
 
 -- ---- the sink that keeps nothing
-pub not_failed : (r : Decoder) → StandsAfter r [] [] → HasFailed r → ⊥
-unfolding StandsAfter HasFailed
+pub not_failed : (r : Decoder) → DecoderStandsAfter r [] [] → HasFailed r → ⊥
+unfolding DecoderStandsAfter HasFailed
 not_failed r stands failed = subst (λ s. Stands r s [] []) failed stands
 
-pub no_fault : (r : Decoder) → StandsAfter r [] [] → HasFailed r ⊎ Rose 0 0 → ⊥
+pub no_fault : (r : Decoder) → DecoderStandsAfter r [] [] → HasFailed r ⊎ Rose 0 0 → ⊥
 no_fault r stands (inl failed) = not_failed r stands failed
 no_fault r stands (inr rose) = let up : 1 ≤ 0 = omega (arith, rose) in absurd (omega (arith, up))

@@ -12,8 +12,8 @@ use Rattle.xdr_fields.proofs.Judged.{is_bad, is_open}
 use Rattle.xdr_fields.specs.Wants.{wants_of}
 use Rattle.xdr_decode.proofs.OneVerdict.{good_body, small_first}
 use Rattle.xdr_decode.specs.Verdict.{HasHeadOf, HasMore, HasText, IsBadDataLine, IsDataLine, IsGood, IsRefusal, IsVerdict, IsWrong, IsWrongIn, budget, good_of}
-use Rattle.xdr_decode.specs.declared.bad.Bad.{Bad}
-use Rattle.xdr_decode.specs.declared.bad.Bad.TheVariants.{BadDataLine, BadDds, Cut, TooLong, Trailing}
+use Rattle.reply_faults.specs.declared.bad.Bad.{Bad}
+use Rattle.reply_faults.specs.declared.bad.Bad.TheVariants.{BadDataLine, BadDds, Cut, TooLong, Trailing}
 use Rattle.xdr_decode.specs.declared.data_line.LineStop.TheVariants as line_stop
 use Rattle.xdr_decode.specs.declared.filled.AllRefusal.{AllRefusal}
 use Rattle.xdr_decode.specs.declared.filled.AllRefusal.TheVariants.{Refused, Memory}

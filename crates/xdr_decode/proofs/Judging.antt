@@ -10,7 +10,7 @@ use Rattle.dap_model.proofs.FieldKinds.{word_same}
 use Rattle.dap_model.proofs.Values.{whole_low, whole_high}
 use Rattle.dap_model.specs.Received.{bad_count, bad_word, bad_padding, wrong_mark}
 use Rattle.dap_model.specs.Xdr.{count, number, packed, filler, size, padding, mark, word, field_bytes}
-use Rattle.xdr_decode.specs.declared.bad.Bad.TheVariants as bad
+use Rattle.reply_faults.specs.declared.bad.Bad.TheVariants as bad
 use Rattle.xdr_fields.proofs.Decided.{IsWholeType, whole_good, whole_bad, whole_type, count_none, size_none, number_none, text_fault, filler_zeros, padding_zeros, mark_none}
 use Rattle.xdr_fields.specs.Wants.{Want, a_count, a_value, a_byte, a_filler, a_padding, rows, IsTextType}
 use Rattle.xdr_fields.specs.inner.Words.{whole_in}

@@ -1,6 +1,5 @@
 pub mod Asking
 pub mod Judging
-pub mod Passing
 pub mod Spots
 pub mod Texts
 pub mod Standing

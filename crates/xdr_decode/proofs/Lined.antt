@@ -9,6 +9,7 @@ use Rattle.xdr_decode.specs.Verdict.{IsDataLine}
 use Rattle.xdr_decode.specs.declared.data_line.LineStop.{LineStop}
 use Rattle.xdr_decode.specs.declared.data_line.LineStop.TheVariants.{Cut, Differs}
 use Rattle.xdr_decode.specs.inner.Lined.{Behind, EndLines, EndsWhite, IsText, StopsIn, WordLines}
+use Rattle.dap_model.proofs.OneBody.{cons_head, cons_tail}
 
 -- ---- a text, byte by byte
 -- the first bytes are those of the text
@@ -155,13 +156,6 @@ word_end_stop bytes rest (Differs left) is p = record {
       let whole : codes "Data:" ++ (end ++ behind) ≡ codes "Data:" ++ (p.front ++ p.next ∷ after) = sym (append_assoc (codes "Data:") end behind) ∙ ap (λ l. l ++ behind) (sym text_is) ∙ same in
       p.none end behind after is_end (append_cancel_left (codes "Data:") (end ++ behind) (p.front ++ p.next ∷ after) whole);
 }
-
--- ---- the white space
-cons_head : (x y : ℕ) (xs ys : List ℕ) → x ∷ xs ≡ y ∷ ys → x ≡ y
-cons_head x y xs ys e = cc
-
-cons_tail : (x y : ℕ) (xs ys : List ℕ) → x ∷ xs ≡ y ∷ ys → xs ≡ ys
-cons_tail x y xs ys e = cc
 
 not_white : (w x : ℕ) → is_white w ≡ true → is_white x ≡ false → w ≡ x → ⊥
 not_white w x white other same = false≢true (sym other ∙ ap is_white (sym same) ∙ white)

@@ -17,6 +17,7 @@ use Rattle.xdr_decode.specs.inner.Lines.{array_text, cell_text, path_text, shown
 use Rattle.xdr_decode.specs.declared.field.Token.{Token}
 use Rattle.xdr_decode.specs.declared.field.Token.TheVariants as token
 use Rattle.xdr_decode.specs.declared.place.Stage.{Stage}
+use Rattle.xdr_fields.proofs.Judged.{compare}
 
 pub line_of : (t : Token) → ((n : ℕ) → ¬ (t ≡ token.Size n)) → codes " = " ++ (shown_token t ++ codes "\n") ≡ token_text t
 line_of token.Count apart = refl
@@ -40,10 +41,6 @@ indexes_more (d ∷ dims) n some = refl
 pub indexes_none : (dims : List Dim) (n : ℕ) → length dims ≡ 0 → [] ≡ index_texts (sizes_of dims) n
 indexes_none [] n none = refl
 indexes_none (d ∷ dims) n none = absurd (omega (arith, none))
-
-compare : (t : Bool) (a b : ℕ) → nat_lt a b ≡ t → (a < b) ⊎ (b ≤ a)
-compare true a b is = inl (grind (arith, nat_tests))
-compare false a b is = inr (grind (arith, nat_tests))
 
 -- there is no such column
 pub past_all : (at n : ℕ) → (at < n → false ≡ true) → n ≤ at

@@ -18,7 +18,7 @@ use Rattle.xdr_decode.proofs.Rooms.{many}
 use Rattle.xdr_decode.proofs.Spots.{scalar_alone, array_alone, sequence_alone}
 use Rattle.xdr_decode.specs.inner.Asked.{Is}
 use Rattle.xdr_decode.specs.inner.Leaves.{IsLeaf}
-use Rattle.xdr_decode.specs.inner.Moving.{IsSettled, Moves, text_of}
+use Rattle.xdr_decode.specs.inner.Moving.{IsSettled, Moves, string_behind}
 use Rattle.xdr_decode.specs.inner.Places.{AreEmpty, HaveRoom, IsEntered, IsPlaced, IsStage, IsStageAt, IsStageOr, Spot, elements_wants, followed, members_from, of_grid, spot, spot_at, spot_first, spot_of, stage_wants, text_wants, wants_left}
 use Rattle.xdr_decode.specs.declared.field.Token.{Token}
 use Rattle.xdr_decode.specs.declared.field.Token.TheVariants as token
@@ -87,7 +87,7 @@ values_done Text path ns at count apart le = sym (left_none (λ p. a_value p Tex
 values_done Url path ns at count apart le = sym (left_none (λ p. a_value p Url) path ns at count le)
 
 -- behind a value: nothing more of it, or the bytes of a string
-pub value_text : (path : List ℕ) (base : BaseType) (t : Token) (f : Field) → Goes (a_value path base) f → Is t f → text_wants (text_of t) ≡ becomes (a_value path base) f
+pub value_text : (path : List ℕ) (base : BaseType) (t : Token) (f : Field) → Goes (a_value path base) f → Is t f → text_wants (string_behind t) ≡ becomes (a_value path base) f
 value_text path base (token.Whole z) (number b v) goes is = refl
 value_text path base (token.Bits32 n) (number b v) goes is = refl
 value_text path base (token.Bits64 n) (number b v) goes is = refl
@@ -96,12 +96,12 @@ value_text path base t (number b v) goes is = absurd is
 value_text path base t (size m) goes is = absurd is
 value_text path base t f goes is = absurd goes
 
-byte_text : (path : List ℕ) (t : Token) (f : Field) → Goes (a_byte path) f → Is t f → text_wants (text_of t) ≡ becomes (a_byte path) f
+byte_text : (path : List ℕ) (t : Token) (f : Field) → Goes (a_byte path) f → Is t f → text_wants (string_behind t) ≡ becomes (a_byte path) f
 byte_text path (token.Whole z) (packed v) goes is = refl
 byte_text path t (packed v) goes is = absurd is
 byte_text path t f goes is = absurd goes
 
-element_text : (base : BaseType) (path : List ℕ) (t : Token) (f : Field) → Goes (element_want base path) f → Is t f → text_wants (text_of t) ≡ becomes (element_want base path) f
+element_text : (base : BaseType) (path : List ℕ) (t : Token) (f : Field) → Goes (element_want base path) f → Is t f → text_wants (string_behind t) ≡ becomes (element_want base path) f
 element_text Byte path t f goes is = byte_text path t f goes is
 element_text Int16 path t f goes is = value_text path Int16 t f goes is
 element_text UInt16 path t f goes is = value_text path UInt16 t f goes is
@@ -114,7 +114,7 @@ element_text Url path t f goes is = value_text path Url t f goes is
 
 -- a move by what comes first
 moves_by : (above : List ℕ) (m : Member) (old new : Stage) (t : Token) (w : Want) (ws : List Want) → stage_wants above m old ≡ w ∷ ws
-    → ((f : Field) → Goes w f → Is t f → (text_wants (text_of t) ++ stage_wants above m new ≡ becomes w f ++ ws) × IsStageOr m new)
+    → ((f : Field) → Goes w f → Is t f → (text_wants (string_behind t) ++ stage_wants above m new ≡ becomes w f ++ ws) × IsStageOr m new)
     → Moves above m old t new
 moves_by above m old new t w ws is goes u us f is' goes_on read =
     let same = sym is ∙ is' in
@@ -299,7 +299,7 @@ some_left above (sequence name cs) (stage.Cells row at) stays = some_cells (row_
 some_left above m s stays = absurd stays
 
 pub stepped : (ms : Members) (p q r : Place) (t : Token) (s : Stage) (at : Spot) (w : Want) (ws : List Want) (f : Field) → p.text ≡ texts.Nothing → IsPlaced ms p → spot_at ms p ≡ Some at
-    → Moves at.above at.leaf p.stage t s → IsSettled ms q s r → q.text ≡ text_of t → spot_at ms q ≡ Some at → wants_left ms p ≡ w ∷ ws → Goes w f → Is t f → (wants_left ms r ≡ becomes w f ++ ws) × IsPlaced ms r
+    → Moves at.above at.leaf p.stage t s → IsSettled ms q s r → q.text ≡ string_behind t → spot_at ms q ≡ Some at → wants_left ms p ≡ w ∷ ws → Goes w f → Is t f → (wants_left ms r ≡ becomes w f ++ ws) × IsPlaced ms r
 stepped ms p q r t s at w ws f none placed is moves settled read there first goes is_read =
     let (left, stays) = next_some ms p at none is placed in
     let some = some_left at.above at.leaf p.stage stays in
@@ -308,7 +308,7 @@ stepped ms p q r t s at w ws f none placed is moves settled read there first goe
     let others = same_rest some.first w (some.rest ++ at.behind) ws same in
     let (wants, stays') = moves some.first some.rest f some.is (subst (λ x. Goes x f) (sym one) goes) is_read in
     let (left', placed') = settled at there stays' in (
-      left' ∙ ap (λ x. text_wants x ++ (stage_wants at.above at.leaf s ++ at.behind)) read ∙ sym (append_assoc (text_wants (text_of t)) (stage_wants at.above at.leaf s) at.behind)
+      left' ∙ ap (λ x. text_wants x ++ (stage_wants at.above at.leaf s ++ at.behind)) read ∙ sym (append_assoc (text_wants (string_behind t)) (stage_wants at.above at.leaf s) at.behind)
           ∙ ap (λ l. l ++ at.behind) wants ∙ append_assoc (becomes some.first f) some.rest at.behind ∙ ap (λ x. becomes x f ++ (some.rest ++ at.behind)) one ∙ ap (λ l. becomes w f ++ l) others,
       placed',
     )

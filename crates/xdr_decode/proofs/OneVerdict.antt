@@ -4,45 +4,45 @@ use Rattle.std.proofs.lemmas.Bool.{cases_lt}
 use Rattle.std.proofs.lemmas.List.{take-take, take_all}
 use Rattle.std.proofs.Math.Seq.{take-add, take-append_seam}
 use Rattle.dap_types.specs.Model.{Dataset, Tree}
-use Rattle.dap_model.proofs.OneBody.{one_head}
+use Rattle.dap_model.proofs.OneBody.{one_head, cons_head, cons_tail, not_none}
 use Rattle.dap_model.proofs.OneSpelling.{one_spelling}
 use Rattle.dap_model.proofs.OneVerdict.{bad_not_open, ended_not_bad, ended_not_open, one_bad}
 use Rattle.dap_model.specs.Body.{IsBody}
 use Rattle.dap_model.specs.Grammar.{DdsOf}
-use Rattle.dap_model.specs.Received.{EndsAt}
+use Rattle.dap_model.specs.Received.{ValuesEndAt}
 use Rattle.dap_model.specs.Xdr.{Spells}
 use Rattle.dds_text.proofs.OneReading.{bad_not_unfinished, done_not_bad, done_not_unfinished, one_end, one_place}
 use Rattle.dds_text.specs.Reading.{IsBadText, IsDone, IsUnfinished, limit}
 use Rattle.xdr_decode.proofs.Lined.{line_alone}
-use Rattle.xdr_decode.specs.Verdict.{EndsInDataLine, EndsInHead, Gives, HasHeadOf, HasMore, HasText, HasWrongValues, IsBadDataLine, IsBadLine, IsDataLine, IsGood, IsRefusal, IsRefused, IsTooLong, IsVerdict, IsWrong, IsWrongIn, Verdict, budget, good, good_of, kind_of, wrong}
-use Rattle.xdr_decode.specs.declared.bad.Bad.{Bad}
-use Rattle.xdr_decode.specs.declared.bad.Bad.TheVariants.{Cut}
+use Rattle.xdr_decode.specs.Verdict.{EndsInDataLine, EndsInHead, Gives, HasHeadOf, HasMore, HasText, HasWrongValues, IsBadDataLine, IsBadLine, IsDataLine, IsGood, IsRefusal, IsBadBody, IsTooLong, IsVerdict, IsWrong, IsWrongIn, Verdict, budget, good, good_of, kind_of, wrong}
+use Rattle.reply_faults.specs.declared.bad.Bad.{Bad}
+use Rattle.reply_faults.specs.declared.bad.Bad.TheVariants.{Cut}
 use Rattle.xdr_decode.specs.declared.filled.AllRefusal.{AllRefusal}
 use Rattle.xdr_decode.specs.declared.filled.AllRefusal.TheVariants.{Refused, Memory}
 use Rattle.xdr_decode.specs.declared.filled.Filled.{Filled}
 
 -- ---- the values
-more_ends : (d : Dataset) (values : List ℕ) (place : ℕ) → HasMore d values place → (ts : List Tree) × EndsAt d ts values place × (place < length values)
+more_ends : (d : Dataset) (values : List ℕ) (place : ℕ) → HasMore d values place → (ts : List Tree) × ValuesEndAt d ts values place × (place < length values)
 more_ends d values place m =
     let long : length values ≡ length m.whole + length (m.next ∷ m.rest) = ap length m.parts ∙ length-append m.whole (m.next ∷ m.rest) in
     let front : take place values ≡ m.whole = ap (λ n. take n values) m.is_place ∙ ap (take (length m.whole)) m.parts ∙ take-append_seam m.whole (m.next ∷ m.rest) in
     (m.trees, (omega (arith, long, m.is_place), subst (Spells d m.trees) (sym front) m.spelled), omega (arith, long, m.is_place))
 
-spelt_ends : (d : Dataset) (ts : List Tree) (values : List ℕ) → Spells d ts values → EndsAt d ts values (length values)
+spelt_ends : (d : Dataset) (ts : List Tree) (values : List ℕ) → Spells d ts values → ValuesEndAt d ts values (length values)
 spelt_ends d ts values s = (omega arith, subst (Spells d ts) (sym (take_all (length values) values (omega arith))) s)
 
-ends_further : (d : Dataset) (ts us : List Tree) (bs : List ℕ) (n k : ℕ) → EndsAt d ts bs n → EndsAt d us bs (n + k) → k ≡ 0
+ends_further : (d : Dataset) (ts us : List Tree) (bs : List ℕ) (n k : ℕ) → ValuesEndAt d ts bs n → ValuesEndAt d us bs (n + k) → k ≡ 0
 ends_further d ts us bs n k (le, s) (more, r) =
     let none = (one_spelling d ts us (take n bs) (take k (drop n bs)) s (subst (Spells d us) (take-add n k bs) r)).1 in
     omega (arith, ap length none, length-take k (drop n bs), length-drop n bs, more)
 
-ends_once : (d : Dataset) (ts us : List Tree) (bs : List ℕ) (n m : ℕ) → EndsAt d ts bs n → EndsAt d us bs m → n ≤ m → n ≡ m
+ends_once : (d : Dataset) (ts us : List Tree) (bs : List ℕ) (n m : ℕ) → ValuesEndAt d ts bs n → ValuesEndAt d us bs m → n ≤ m → n ≡ m
 ends_once d ts us bs n m a b le =
     let parts : m ≡ n + (m - n) = omega (arith, le) in
-    let none = ends_further d ts us bs n (m - n) a (subst (EndsAt d us bs) parts b) in
+    let none = ends_further d ts us bs n (m - n) a (subst (ValuesEndAt d us bs) parts b) in
     omega (arith, none, le)
 
-ends_same : (d : Dataset) (ts us : List Tree) (bs : List ℕ) (n m : ℕ) → EndsAt d ts bs n → EndsAt d us bs m → n ≡ m
+ends_same : (d : Dataset) (ts us : List Tree) (bs : List ℕ) (n m : ℕ) → ValuesEndAt d ts bs n → ValuesEndAt d us bs m → n ≡ m
 ends_same d ts us bs n m a b = ⊎_elim (λ lt. ends_once d ts us bs n m a b (omega (arith, lt))) (λ le. sym (ends_once d us ts bs m n b a le)) (cases_lt n m)
 
 one_wrong : (d : Dataset) (values : List ℕ) (kind other : Bad) (place spot : ℕ) → IsWrong d values kind place → IsWrong d values other spot → (kind ≡ other) × (place ≡ spot)
@@ -63,17 +63,6 @@ not_both d ts values kind place s (inr (inl (m, k))) =
     let (us, e, less) = more_ends d values place m in
     omega (arith, less, ends_same d us ts values place (length values) e (spelt_ends d ts values s))
 not_both d ts values kind place s (inr (inr (o, p, k))) = ended_not_open d ts values (length values) (spelt_ends d ts values s) o
-
--- ---- the line
-not_none : (xs ys : List ℕ) (x : ℕ) → xs ++ x ∷ ys ≡ [] → ⊥
-not_none [] ys x e = cc
-not_none (z ∷ xs) ys x e = cc
-
-cons_head : (x y : ℕ) (xs ys : List ℕ) → x ∷ xs ≡ y ∷ ys → x ≡ y
-cons_head x y xs ys e = cc
-
-cons_tail : (x y : ℕ) (xs ys : List ℕ) → x ∷ xs ≡ y ∷ ys → xs ≡ ys
-cons_tail x y xs ys e = cc
 
 -- of two fronts the one begins the other
 split_front : (l x front : List ℕ) (next : ℕ) (r : List ℕ) → l ++ x ≡ front ++ next ∷ r → ((u : List ℕ) × (front ≡ l ++ u)) ⊎ ((u : List ℕ) × (l ≡ front ++ next ∷ u))
@@ -234,7 +223,7 @@ body_small bytes d ts b = b.limit
 pub small_first : (bytes : List ℕ) → length bytes < budget → take budget bytes ≡ bytes
 small_first bytes small = take_all budget bytes (omega arith)
 
-good_refused : (bytes : List ℕ) (d : Dataset) (ts : List Tree) (kind : Bad) (place : ℕ) → IsBody bytes d ts → IsRefused bytes kind place → ⊥
+good_refused : (bytes : List ℕ) (d : Dataset) (ts : List Tree) (kind : Bad) (place : ℕ) → IsBody bytes d ts → IsBadBody bytes kind place → ⊥
 good_refused bytes d ts kind place b (inl (w, side)) =
     good_not_wrong bytes d ts kind place (body_good bytes d ts b) (subst (λ l. IsWrongIn l kind place) (small_first bytes (body_small bytes d ts b)) w)
 good_refused bytes d ts kind place b (inr (long, kind_is, place_is)) = omega (arith, long.0, body_small bytes d ts b)
@@ -244,7 +233,7 @@ wrong_long bytes kind place w side (large, inl (d, ts, g)) = good_not_wrong (tak
 wrong_long bytes kind place w (inl small) (large, inr (spot, cut)) = omega (arith, large, small)
 wrong_long bytes kind place w (inr other) (large, inr (spot, cut)) = other (same_wrong (take budget bytes) kind Cut place spot w cut).0
 
-same_refused : (bytes : List ℕ) (kind other : Bad) (place spot : ℕ) → IsRefused bytes kind place → IsRefused bytes other spot → (kind ≡ other) × (place ≡ spot)
+same_refused : (bytes : List ℕ) (kind other : Bad) (place spot : ℕ) → IsBadBody bytes kind place → IsBadBody bytes other spot → (kind ≡ other) × (place ≡ spot)
 same_refused bytes kind other place spot (inl (w, side)) (inl (v, also)) = same_wrong (take budget bytes) kind other place spot w v
 same_refused bytes kind other place spot (inl (w, side)) (inr (long, kind_is, spot_is)) = absurd (wrong_long bytes kind place w side long)
 same_refused bytes kind other place spot (inr (long, kind_is, place_is)) (inl (v, also)) = absurd (wrong_long bytes other spot v also long)

@@ -11,17 +11,17 @@ use Rattle.dap_model.specs.Received.{Fault, IsBadField, IsOpen}
 use Rattle.dap_model.specs.Xdr.{Spells}
 use Rattle.xdr_fields.proofs.Growing.{prefix_trans}
 use Rattle.xdr_decode.specs.Verdict.{kind_of}
-use Rattle.xdr_decode.specs.declared.bad.Bad.TheVariants.{Cut}
-use Rattle.xdr_decode.specs.declared.bad.BadField.{BadField}
+use Rattle.reply_faults.specs.declared.bad.Bad.TheVariants.{Cut}
+use Rattle.reply_faults.specs.declared.bad.BadField.{BadField}
 use Rattle.xdr_decode.proofs.Standing.{ends, opens, puts, stopped}
-use Rattle.xdr_decode.specs.After.{EndsBehind, HasFailed, HasFailedBehind, IsFirstBad, IsStopped, Reads, Stands, StandsAfter, UnlessFault, WhereDone, WhereFault, WhereMore, WhereRefused, dataset_of, start_of, used_of}
+use Rattle.xdr_decode.specs.After.{EndsBehind, HasFailed, HasFailedBehind, IsFirstBad, IsStopped, Reads, Stands, DecoderStandsAfter, UnlessFault, WhereDone, WhereFault, WhereMore, WhereRefused, dataset_of, start_of, used_of}
 use Rattle.xdr_decode.specs.inner.Places.{wants_left}
 use Rattle.std.proofs.Common.{Ok, Err}
 use Rattle.std.proofs.Math.Seq.{take-length}
 use Rattle.dap_outside.specs.Streams.{AppendsFront}
 use Rattle.dap_outside.specs.declared.failed.Failed.{Failed}
 use Rattle.xdr_decode.proofs.Breaking.{some_shown}
-use Rattle.xdr_decode.proofs.Passing.{passed_and_sent, passed_and_stopped, stopped_before}
+use Rattle.dap_outside.proofs.Passing.{passed_and_sent, passed_and_stopped, stopped_before, appends_none}
 use Rattle.xdr_decode.proofs.Turning.{own_loose, stays_ended}
 use Rattle.dap_model.specs.Received.{IsPrefix}
 use Rattle.xdr_decode.specs.After.{place_of}
@@ -104,8 +104,8 @@ abbrev pub AreBytes : List ℕ → Type 0
 AreBytes bytes = All (λ b. b < 256) bytes
 
 pub stands_then : (q : Decoder) (piece bytes put gained : List ℕ) (p : Pushed) → AreBytes bytes → AreBytes piece → IsSaid q piece bytes (put ++ gained) p
-    → UnlessFault (StandsAfter q (bytes ++ used_of p piece) (put ++ gained) × ShowsFront (dataset_of q) (bytes ++ used_of p piece) (put ++ gained)) p
-unfolding StandsAfter
+    → UnlessFault (DecoderStandsAfter q (bytes ++ used_of p piece) (put ++ gained) × ShowsFront (dataset_of q) (bytes ++ used_of p piece) (put ++ gained)) p
+unfolding DecoderStandsAfter
 stands_then q piece bytes put gained (pushed.Done used) all more said = (
   subst (λ s. Stands q s (bytes ++ take used piece) (put ++ gained)) (sym said.3) (said.1, All-append (λ b. b < 256) bytes (take used piece) all (All-take (λ b. b < 256) used piece more)),
   puts q (bytes ++ take used piece) (put ++ gained) said.1,
@@ -225,16 +225,16 @@ pushed_broken q s before now held left piece bytes put e same failed none all go
     }
 
 -- by the state before
-pub reading_of : (r : Decoder) (bytes put : List ℕ) → r.state ≡ state.Reading → StandsAfter r bytes put → Reads r bytes put × AreBytes bytes
-unfolding StandsAfter
+pub reading_of : (r : Decoder) (bytes put : List ℕ) → r.state ≡ state.Reading → DecoderStandsAfter r bytes put → Reads r bytes put × AreBytes bytes
+unfolding DecoderStandsAfter
 reading_of r bytes put is stands = subst (λ s. Stands r s bytes put) is stands
 
-pub refused_of : (r : Decoder) (bad : BadField) (bytes put : List ℕ) → r.state ≡ state.Refused bad → StandsAfter r bytes put → IsStopped r bad bytes put
-unfolding StandsAfter
+pub refused_of : (r : Decoder) (bad : BadField) (bytes put : List ℕ) → r.state ≡ state.Refused bad → DecoderStandsAfter r bytes put → IsStopped r bad bytes put
+unfolding DecoderStandsAfter
 refused_of r bad bytes put is stands = subst (λ s. Stands r s bytes put) is stands
 
-pub failed_of : (r : Decoder) (bytes put : List ℕ) → r.state ≡ state.Failed → StandsAfter r bytes put → ⊥
-unfolding StandsAfter
+pub failed_of : (r : Decoder) (bytes put : List ℕ) → r.state ≡ state.Failed → DecoderStandsAfter r bytes put → ⊥
+unfolding DecoderStandsAfter
 failed_of r bytes put is stands = subst (λ s. Stands r s bytes put) is stands
 
 pub has_failed : (r : Decoder) → r.state ≡ state.Failed → HasFailed r
@@ -245,17 +245,13 @@ pub not_failed : (r : Decoder) (s : State) → r.state ≡ s → ¬ (s ≡ state
 unfolding HasFailed
 not_failed r s is apart failed = apart (sym is ∙ failed)
 
-appends_none : (w : Option (List ℕ)) → Appends w w []
-appends_none None = tt
-appends_none (Some xs) = sym (append-nil xs)
-
 -- a refusal is said again
-pub refused_again : (r : Decoder) (bad : BadField) (bytes put piece : List ℕ) → r.state ≡ state.Refused bad → StandsAfter r bytes put → IsFirstBad (dataset_of r) (start_of r) (bytes ++ piece) bad
+pub refused_again : (r : Decoder) (bad : BadField) (bytes put piece : List ℕ) → r.state ≡ state.Refused bad → DecoderStandsAfter r bytes put → IsFirstBad (dataset_of r) (start_of r) (bytes ++ piece) bad
 refused_again r bad bytes put piece is stands = stopped r bad (bytes ++ piece) put (stopped_more r bad bytes put piece (refused_of r bad bytes put is stands))
 
-pub stands_again : (r : Decoder) (bad : BadField) (bytes put piece : List ℕ) (w : Option (List ℕ)) → r.state ≡ state.Refused bad → StandsAfter r bytes put
-    → (gained : List ℕ) × StandsAfter r (bytes ++ piece) (put ++ gained) × ShowsFront (dataset_of r) (bytes ++ piece) (put ++ gained) × Appends w w gained
-unfolding StandsAfter
+pub stands_again : (r : Decoder) (bad : BadField) (bytes put piece : List ℕ) (w : Option (List ℕ)) → r.state ≡ state.Refused bad → DecoderStandsAfter r bytes put
+    → (gained : List ℕ) × DecoderStandsAfter r (bytes ++ piece) (put ++ gained) × ShowsFront (dataset_of r) (bytes ++ piece) (put ++ gained) × Appends w w gained
+unfolding DecoderStandsAfter
 stands_again r bad bytes put piece w is stands =
     let stop = stopped_more r bad bytes put piece (subst (λ s. Stands r s bytes put) is stands) in (
       [],
@@ -277,9 +273,9 @@ where_more pushed.More P Q f h = tt
 where_more pushed.WriteFault P Q f h = f h
 
 pub stands_pushed : (q : Decoder) (d : Dataset) (before now : Option (List ℕ)) (piece bytes put : List ℕ) (p : Pushed) → dataset_of q ≡ d → AreBytes bytes → AreBytes piece → IsPushed before now q piece bytes put p
-    → UnlessFault ((gained : List ℕ) × StandsAfter q (bytes ++ used_of p piece) (put ++ gained) × ShowsFront d (bytes ++ used_of p piece) (put ++ gained) × Appends before now gained) p
+    → UnlessFault ((gained : List ℕ) × DecoderStandsAfter q (bytes ++ used_of p piece) (put ++ gained) × ShowsFront d (bytes ++ used_of p piece) (put ++ gained) × Appends before now gained) p
 stands_pushed q d before now piece bytes put p same all more is =
-    unless_more p (StandsAfter q (bytes ++ used_of p piece) (put ++ is.gained) × ShowsFront (dataset_of q) (bytes ++ used_of p piece) (put ++ is.gained)) _
+    unless_more p (DecoderStandsAfter q (bytes ++ used_of p piece) (put ++ is.gained) × ShowsFront (dataset_of q) (bytes ++ used_of p piece) (put ++ is.gained)) _
     (λ both. (is.gained, both.0, subst (λ e. ShowsFront e (bytes ++ used_of p piece) (put ++ is.gained)) same both.1, is.sent))
     (stands_then q piece bytes put is.gained p all more is.is_said)
 

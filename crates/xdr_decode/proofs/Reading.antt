@@ -4,16 +4,16 @@ use Rattle.std.proofs.Math.Seq.{take-add}
 use Rattle.std.specs.Prelude.{IsErr}
 use Rattle.dap_types.specs.Model.{Dataset}
 use Rattle.dap_outside.specs.declared.failed.Failed.{Failed}
-use Rattle.xdr_decode.proofs.Passing.{passes_kept, passes_two, front_second}
+use Rattle.dap_outside.proofs.Passing.{passes_kept, passes_two, front_second}
 use Rattle.xdr_decode.specs.After.{IsStopped, Reads, dataset_of}
-use Rattle.xdr_decode.specs.inner.Buffered.{Passes}
+use Rattle.dap_outside.specs.Buffered.{Passes}
 use Rattle.xdr_decode.specs.inner.Turning.{IsBroken, IsGoneThrough, Spelled, Stays, Turns}
 use Rattle.xdr_decode.specs.declared.decoder.Decoder.{Decoder}
 use Rattle.xdr_decode.specs.declared.decoder.Pushed.{Pushed}
 use Rattle.xdr_decode.specs.declared.decoder.Pushed.TheVariants as pushed
 use Rattle.xdr_decode.specs.declared.turn.Turn.{Turn}
 use Rattle.xdr_decode.specs.declared.turn.Turn.TheVariants as turn
-use Rattle.xdr_decode.specs.declared.bad.BadField.{BadField}
+use Rattle.reply_faults.specs.declared.bad.BadField.{BadField}
 
 -- the decoder has come so far, and so much was put
 pub record IsOn (r : Decoder) (before : Option (List ℕ)) (held : List ℕ) (now : Option (List ℕ)) (left bytes put : List ℕ) : Type 0 where

@@ -1,19 +1,19 @@
 -- What a decoder that still reads says of the bytes that it used: their values are ended, or open, and what
 -- it has put is what may be shown of them.
 use Rattle.std.proofs.Common.{◌≡◌, ℕ, ◌+◌, ◌<◌, List, [], ◌∷◌, ◌++◌, length, min, ◌⊎◌, inl, inr, refl, ap, ◌∙◌, sym, subst, arith, append-nil}
-use Rattle.dap_model.specs.Received.{EndsAt, Fault, IsBadField, IsOpen, IsFront, IsPrefix}
+use Rattle.dap_model.specs.Received.{ValuesEndAt, Fault, IsBadField, IsOpen, IsFront, IsPrefix}
 use Rattle.xdr_fields.proofs.Fronts.{IsPart, shows}
 use Rattle.xdr_fields.proofs.Judged.{ended_at, is_open}
 use Rattle.xdr_fields.specs.inner.Reached.{IsEnded}
 use Rattle.xdr_fields.specs.Wants.{Want, a_count, a_value, a_byte, a_filler, a_text, a_padding, rows, Steps, room, wants_of}
 use Rattle.dap_model.proofs.OneVerdict.{one_bad, bad_not_open, ended_not_bad, ended_not_open}
 use Rattle.xdr_decode.specs.Verdict.{kind_of}
-use Rattle.xdr_decode.specs.declared.bad.BadField.{BadField}
-use Rattle.xdr_decode.specs.After.{Reads, IsStopped, IsFirstBad, EndsBehind, Stands, StandsAfter, dataset_of, start_of}
+use Rattle.reply_faults.specs.declared.bad.BadField.{BadField}
+use Rattle.xdr_decode.specs.After.{Reads, IsStopped, IsFirstBad, EndsBehind, Stands, DecoderStandsAfter, dataset_of, start_of}
 use Rattle.std.specs.Option.{option_map_or}
 use Rattle.std.proofs.Common.{Result, Ok, Err, IfOk, IfErr}
 use Rattle.dap_types.specs.Model.{Dataset}
-use Rattle.xdr_decode.specs.declared.bad.Bad.TheVariants.{Cut}
+use Rattle.reply_faults.specs.declared.bad.Bad.TheVariants.{Cut}
 use Rattle.dap_types.specs.Model.{Members}
 use Rattle.xdr_decode.specs.inner.Places.{AsksFirst, IsNext, IsOwn, IsPlaced, spot_at, stage_wants, text_wants, wants_left}
 use Rattle.xdr_decode.specs.declared.decoder.State.TheVariants as state
@@ -42,7 +42,7 @@ ends r bytes put s none =
     let whole : IsEnded (wants_of (dataset_of r)) bytes =
     record { front = s.front; rest = []; leads = record { fields = s.fields; steps = subst (Steps (wants_of (dataset_of r)) s.fields) none s.steps; spelled = s.good }; parts = front ∙ sym (append-nil s.front) } in
     let (ts, at) = ended_at (dataset_of r) bytes whole in
-    (ts, subst (λ n. EndsAt (dataset_of r) ts bytes n) (ap length (sym front)) at)
+    (ts, subst (λ n. ValuesEndAt (dataset_of r) ts bytes n) (ap length (sym front)) at)
 
 pub opens : (r : Decoder) (bytes put : List ℕ) (w : Want) (ws : List Want) → Reads r bytes put → wants_left (dataset_of r).members r.place ≡ w ∷ ws → IsOpen (dataset_of r) bytes
 opens r bytes put w ws s some =
@@ -135,7 +135,7 @@ pub cut_only : {T : Type 0} (d : Dataset) (start : ℕ) (bytes : List ℕ) (r : 
 cut_only d start bytes (Ok x) ends cut open' = absurd (ended_not_open d ends.0 bytes (length bytes) ends.1 open')
 cut_only d start bytes (Err bad) ends cut open' = ap Err cut.1
 
-pub reads_of : (r : Decoder) (bytes put : List ℕ) → (r.state ≡ state.Reading) ⊎ (r.state ≡ state.Failed) → StandsAfter r bytes put → Reads r bytes put
-unfolding StandsAfter
+pub reads_of : (r : Decoder) (bytes put : List ℕ) → (r.state ≡ state.Reading) ⊎ (r.state ≡ state.Failed) → DecoderStandsAfter r bytes put → Reads r bytes put
+unfolding DecoderStandsAfter
 reads_of r bytes put (inl is) stands = (subst (λ s. Stands r s bytes put) is stands).0
 reads_of r bytes put (inr is) stands = absurd (subst (λ s. Stands r s bytes put) is stands)

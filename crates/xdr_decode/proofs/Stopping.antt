@@ -3,8 +3,8 @@ use Rattle.std.proofs.Common.{◌≡◌, ℕ, ◌<◌, List, [], ◌∷◌, ◌+
 use Rattle.dap_model.specs.Xdr.{Field, SpellsField, SpellsFields}
 use Rattle.xdr_fields.proofs.Judged.{leads_nowhere, steps_join}
 use Rattle.xdr_fields.specs.Wants.{Want, Goes, Steps, becomes, room}
-use Rattle.xdr_decode.specs.declared.bad.Bad.{Bad}
-use Rattle.xdr_decode.specs.declared.bad.Bad.TheVariants.{Cut}
+use Rattle.reply_faults.specs.declared.bad.Bad.{Bad}
+use Rattle.reply_faults.specs.declared.bad.Bad.TheVariants.{Cut}
 use Rattle.xdr_decode.specs.declared.field.Token.{Token}
 use Rattle.xdr_decode.specs.declared.values.Stop.{Stop}
 use Rattle.xdr_decode.specs.declared.values.Stop.TheVariants.{Wrong, Memory}

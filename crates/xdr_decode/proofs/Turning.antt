@@ -4,8 +4,8 @@ use Rattle.std.proofs.lemmas.Bool.Decides.{nat_tests}
 use Rattle.std.proofs.lemmas.List.{length-take}
 use Rattle.std.specs.Prelude.{IsErr}
 use Rattle.dap_outside.specs.declared.failed.Failed.{Failed}
-use Rattle.xdr_decode.specs.declared.bad.BadField.{BadField}
-use Rattle.xdr_decode.specs.inner.Buffered.{PassesFront}
+use Rattle.reply_faults.specs.declared.bad.BadField.{BadField}
+use Rattle.dap_outside.specs.Buffered.{PassesFront}
 use Rattle.xdr_decode.specs.declared.turn.Turn.{Turn}
 use Rattle.std.specs.Option.{option_map_or}
 use Rattle.std.proofs.lemmas.Grind.{flat_map-append}
@@ -19,7 +19,7 @@ use Rattle.dap_model.specs.Shown.{shown_byte}
 use Rattle.dap_model.specs.Xdr as xdr
 use Rattle.dap_model.specs.Xdr.{Field, text, field_bytes, SpellsField, SpellsFields, fill}
 use Rattle.xdr_decode.specs.Verdict.{kind_of}
-use Rattle.xdr_decode.specs.declared.bad.Bad.{Bad}
+use Rattle.reply_faults.specs.declared.bad.Bad.{Bad}
 use Rattle.xdr_fields.proofs.Fronts.{shows}
 use Rattle.xdr_fields.proofs.Judged.{is_bad, no_steps, one_step, steps_join}
 use Rattle.xdr_fields.specs.inner.Reached.{IsSpoilt}

@@ -12,7 +12,7 @@ use Rattle.dap_model.specs.Xdr.{Field, number, packed, size, text, padding, mark
 use Rattle.xdr_fields.proofs.Judged.{no_steps, one_step}
 use Rattle.xdr_fields.specs.Wants.{Want, a_byte, a_padding, a_text, a_value, rows, IsTextType, Steps}
 use Rattle.xdr_decode.proofs.Stopping.{spelt_then, stops_behind, stops_short}
-use Rattle.xdr_decode.specs.declared.bad.Bad.TheVariants.{Cut}
+use Rattle.reply_faults.specs.declared.bad.Bad.TheVariants.{Cut}
 use Rattle.xdr_decode.specs.declared.field.Token.{Token}
 use Rattle.xdr_decode.specs.declared.field.Token.TheVariants as token
 use Rattle.xdr_decode.specs.declared.values.Stop.{Stop}

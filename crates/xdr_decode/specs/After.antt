@@ -4,10 +4,10 @@ use Rattle.std.specs.Prelude.{◌≡◌, ℕ, ◌+◌, ◌<◌, ◌^◌, ⊤, Li
 use Rattle.dap_types.specs.Model.{Dataset, Tree}
 use Rattle.dap_types.specs.View.{dataset_view}
 use Rattle.dap_types.specs.WellFormed.{IsWellFormed}
-use Rattle.dap_model.specs.Received.{Fault, EndsAt, IsBadField}
+use Rattle.dap_model.specs.Received.{Fault, ValuesEndAt, IsBadField}
 use Rattle.dap_model.specs.Xdr.{Field, SpellsFields}
 use Rattle.xdr_decode.specs.Verdict.{kind_of}
-use Rattle.xdr_decode.specs.declared.bad.BadField.{BadField}
+use Rattle.reply_faults.specs.declared.bad.BadField.{BadField}
 use Rattle.xdr_fields.specs.Wants.{Steps, said, says_next, wants_of}
 use Rattle.xdr_decode.specs.inner.Places.{HaveMarks, IsOwn, IsPlaced, wants_left}
 use Rattle.xdr_decode.specs.Shown.{ShowsFront}
@@ -57,8 +57,8 @@ Stands r (state.Refused bad) bytes put = IsStopped r bad bytes put
 Stands r state.Failed bytes put = ⊥
 
 -- the decoder has used these bytes, and put this text
-unfoldable pub StandsAfter : Decoder → List ℕ → List ℕ → Type 0
-StandsAfter r bytes put = Stands r r.state bytes put
+unfoldable pub DecoderStandsAfter : Decoder → List ℕ → List ℕ → Type 0
+DecoderStandsAfter r bytes put = Stands r r.state bytes put
 
 -- the sink failed before
 unfoldable pub HasFailed : Decoder → Type 0
@@ -102,4 +102,4 @@ IsFirstBad d start bytes bad = (fault : Fault) × (place : ℕ) × IsBadField d 
 
 -- values end behind the first so many bytes
 abbrev pub EndsBehind : Dataset → List ℕ → ℕ → Type 0
-EndsBehind d bytes n = (ts : List Tree) × EndsAt d ts bytes n
+EndsBehind d bytes n = (ts : List Tree) × ValuesEndAt d ts bytes n

@@ -1,5 +1,4 @@
 pub mod After
-pub mod Bads
 pub mod Checking
 pub mod Shown
 pub mod Verdict

@@ -12,8 +12,8 @@ use Rattle.dap_model.specs.Received.{Fault, bad_count, bad_word, bad_padding, wr
 use Rattle.dap_model.specs.Tokens.{is_white}
 use Rattle.dap_model.specs.Xdr.{Spells}
 use Rattle.dds_text.specs.Reading.{IsBadText, IsUnfinished}
-use Rattle.xdr_decode.specs.declared.bad.Bad.{Bad}
-use Rattle.xdr_decode.specs.declared.bad.Bad.TheVariants.{BadDds, BadDataLine, BadCount, BadWord, BadPadding, WrongMark, Cut, Trailing, TooLong}
+use Rattle.reply_faults.specs.declared.bad.Bad.{Bad}
+use Rattle.reply_faults.specs.declared.bad.Bad.TheVariants.{BadDds, BadDataLine, BadCount, BadWord, BadPadding, WrongMark, Cut, Trailing, TooLong}
 use Rattle.xdr_decode.specs.declared.filled.AllRefusal.{AllRefusal}
 use Rattle.xdr_decode.specs.declared.filled.AllRefusal.TheVariants.{Refused, Memory}
 use Rattle.xdr_decode.specs.declared.filled.Filled.{Filled}
@@ -116,15 +116,15 @@ IsTooLong bytes =
     × (((d : Dataset) × (ts : List Tree) × IsGood (take budget bytes) d ts) ⊎ ((place : ℕ) × IsWrongIn (take budget bytes) Cut place))
 
 -- what is wrong with a body: of more bytes than the budget only so many are looked at
-abbrev pub IsRefused : List ℕ → Bad → ℕ → Type 0
-IsRefused bytes kind place =
+abbrev pub IsBadBody : List ℕ → Bad → ℕ → Type 0
+IsBadBody bytes kind place =
     (IsWrongIn (take budget bytes) kind place × ((length bytes < budget) ⊎ (¬ (kind ≡ Cut))))
     ⊎ (IsTooLong bytes × (kind ≡ TooLong) × (place ≡ budget))
 
 -- the verdict on a body
 abbrev pub IsVerdict : List ℕ → Verdict → Type 0
 IsVerdict bytes (good d ts) = IsBody bytes d ts
-IsVerdict bytes (wrong kind place) = IsRefused bytes kind place
+IsVerdict bytes (wrong kind place) = IsBadBody bytes kind place
 
 -- a dataset and its values, as the verdict on a body
 abbrev pub good_of : Filled → Verdict

@@ -1,5 +1,4 @@
 pub mod Asked
-pub mod Buffered
 pub mod Deciding
 pub mod Leaves
 pub mod Lined

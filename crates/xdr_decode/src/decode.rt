@@ -7,19 +7,19 @@ ghost use Rattle.dap_model.specs.Xdr.{Spells};
 ghost use Rattle.dds_text.specs.Reading.{IsDone};
 ghost use Rattle.xdr_decode.specs.Verdict.{Gives, IsGood, IsRefusal, IsVerdict, Verdict, budget, good_of};
 ghost use Rattle.xdr_decode.specs.declared.filled.AllRefusal.TheVariants.{Refused};
-ghost use Rattle.xdr_decode.specs.declared.bad.Bad.TheVariants.{TooLong};
+ghost use Rattle.reply_faults.specs.declared.bad.Bad.TheVariants.{TooLong};
 ghost use Rattle.xdr_decode.specs.inner.Deciding.{IsRefusalIn, IsValuesRefusal, RanOut};
 
 use crate::data_line::{LineStop, data_line};
 use crate::trees::members;
 use crate::values::Stop;
 use crate::{AllRefusal, Bad, BadField, Filled};
-use dap_types::Dataset;
+use dap_types::{Dataset, limits};
 use dds_text::{DdsReader, DdsStep};
 use std::alloc::Global;
 
 /// A body has fewer bytes.
-const BUDGET: usize = 1 << 40;
+const BUDGET: usize = limits::BODY_LIMIT as usize;
 
 /// This is wrong, at a place.
 pub(crate) fn refused(kind: Bad, place: usize) -> AllRefusal

@@ -5,8 +5,8 @@ ghost use Rattle.dap_outside.specs.Causes.{HasCause, Rose};
 ghost use Rattle.dap_types.specs.View.{dataset_view};
 ghost use Rattle.dap_types.specs.WellFormed.{IsWellFormed};
 ghost use Rattle.xdr_decode.specs.Verdict.{kind_of};
-ghost use Rattle.xdr_decode.specs.declared.bad.Bad.TheVariants.{Cut};
-ghost use Rattle.xdr_decode.specs.After.{EndsBehind, HasFailed, HasFailedBehind, IsFirstBad, Reads, StandsAfter, UnlessFault, WhereDone, WhereFault, WhereMore, WhereRefused, dataset_of, place_of, start_of, used_of};
+ghost use Rattle.reply_faults.specs.declared.bad.Bad.TheVariants.{Cut};
+ghost use Rattle.xdr_decode.specs.After.{EndsBehind, HasFailed, HasFailedBehind, IsFirstBad, Reads, DecoderStandsAfter, UnlessFault, WhereDone, WhereFault, WhereMore, WhereRefused, dataset_of, place_of, start_of, used_of};
 ghost use Rattle.xdr_decode.specs.inner.Pushing.{IsAnswer, IsPushed, state_behind as behind};
 ghost use Rattle.xdr_decode.specs.inner.Turning.{IsGoneThrough, Stays};
 ghost use Rattle.xdr_decode.specs.Shown.{ShowsFront, ShowsSome};
@@ -84,7 +84,7 @@ impl Decoder {
     /// A decoder that has read nothing. Places count from `start`.
     pub fn new(dataset: Dataset, start: u64) -> Decoder
         requires { IsWellFormed (dataset_view dataset) }
-        ensures stands { StandsAfter result [] [] }
+        ensures stands { DecoderStandsAfter result [] [] }
         ensures dataset { dataset_of result ≡ dataset_view dataset }
         ensures start { start_of result ≡ start }
         ensures place { place_of result ≡ start }
@@ -212,24 +212,24 @@ impl Decoder {
     pub fn push<O: Sink>(&mut self, piece: &[u8], out: &mut O) -> Pushed
         requires { place_of self.old + length piece.now ≤ 2 ^ 63 - 1 }
         // Of whatever bytes it stands after, each answer says what they are with the piece.
-        ensures done { (bytes put : List ℕ) → StandsAfter self.old bytes put → WhereDone (λ used.
+        ensures done { (bytes put : List ℕ) → DecoderStandsAfter self.old bytes put → WhereDone (λ used.
             (used ≤ length piece.now) × EndsBehind (dataset_of self.old) (bytes ++ piece.now) (length bytes + used)) result }
-        ensures refused { (bytes put : List ℕ) → StandsAfter self.old bytes put →
+        ensures refused { (bytes put : List ℕ) → DecoderStandsAfter self.old bytes put →
             WhereRefused (IsFirstBad (dataset_of self.old) (start_of self.old) (bytes ++ piece.now)) result }
-        ensures more { (bytes put : List ℕ) → StandsAfter self.old bytes put →
+        ensures more { (bytes put : List ℕ) → DecoderStandsAfter self.old bytes put →
             WhereMore (IsOpen (dataset_of self.old) (bytes ++ piece.now)) result }
 
         // Whatever they are is said, unless the sink fails.
-        ensures ended { (bytes put : List ℕ) (n : ℕ) → StandsAfter self.old bytes put → EndsBehind (dataset_of self.old) (bytes ++ piece.now) n →
+        ensures ended { (bytes put : List ℕ) (n : ℕ) → DecoderStandsAfter self.old bytes put → EndsBehind (dataset_of self.old) (bytes ++ piece.now) n →
             UnlessFault ((used : ℕ) × (result ≡ Pushed.Done used) × (length bytes + used ≡ n)) result }
-        ensures bad { (bytes put : List ℕ) (fault : Fault) (place : ℕ) → StandsAfter self.old bytes put → IsBadField (dataset_of self.old) (bytes ++ piece.now) fault place →
+        ensures bad { (bytes put : List ℕ) (fault : Fault) (place : ℕ) → DecoderStandsAfter self.old bytes put → IsBadField (dataset_of self.old) (bytes ++ piece.now) fault place →
             UnlessFault (result ≡ Pushed.Refused (record { kind = kind_of fault; place = start_of self.old + place })) result }
-        ensures unfinished { (bytes put : List ℕ) → StandsAfter self.old bytes put → IsOpen (dataset_of self.old) (bytes ++ piece.now) →
+        ensures unfinished { (bytes put : List ℕ) → DecoderStandsAfter self.old bytes put → IsOpen (dataset_of self.old) (bytes ++ piece.now) →
             UnlessFault (result ≡ Pushed.More) result }
 
         // It stands after the used bytes then, and has put what the sink gained: what may be shown of them.
-        ensures stands { (bytes put : List ℕ) → StandsAfter self.old bytes put → UnlessFault ((gained : List ℕ) ×
-            StandsAfter self.new (bytes ++ used_of result piece.now) (put ++ gained) × ShowsFront (dataset_of self.old) (bytes ++ used_of result piece.now) (put ++ gained)
+        ensures stands { (bytes put : List ℕ) → DecoderStandsAfter self.old bytes put → UnlessFault ((gained : List ℕ) ×
+            DecoderStandsAfter self.new (bytes ++ used_of result piece.now) (put ++ gained) × ShowsFront (dataset_of self.old) (bytes ++ used_of result piece.now) (put ++ gained)
             × Appends (O.written out.old) (O.written out.new) gained) result }
         ensures dataset { dataset_of self.new ≡ dataset_of self.old }
         ensures start { start_of self.new ≡ start_of self.old }
@@ -239,9 +239,9 @@ impl Decoder {
         // bytes that are pushed are counted all the same.
         ensures fails { WhereFault (HasFailed self.new) result }
         ensures cause { WhereFault (HasFailed self.old ⊎ Rose (O.put_faults out.old) (O.put_faults out.new)) result }
-        ensures some { (bytes put : List ℕ) → StandsAfter self.old bytes put → WhereFault ((gained : List ℕ) ×
+        ensures some { (bytes put : List ℕ) → DecoderStandsAfter self.old bytes put → WhereFault ((gained : List ℕ) ×
             ShowsSome (dataset_of self.old) (bytes ++ piece.now) (put ++ gained) × Appends (O.written out.old) (O.written out.new) gained) result }
-        ensures behind { (bytes put : List ℕ) → StandsAfter self.old bytes put → WhereFault (HasFailedBehind self.new (length (bytes ++ piece.now))) result }
+        ensures behind { (bytes put : List ℕ) → DecoderStandsAfter self.old bytes put → WhereFault (HasFailedBehind self.new (length (bytes ++ piece.now))) result }
         ensures failed { HasFailed self.old → (result ≡ Pushed.WriteFault) × (O.written out.new ≡ O.written out.old) × (O.put_faults out.new ≡ O.put_faults out.old) }
         ensures counted { (n : ℕ) → HasFailedBehind self.old n → HasFailedBehind self.new (n + length piece.now) }
         ensures counts { O.put_faults out.old ≤ O.put_faults out.new }
@@ -261,14 +261,14 @@ impl Decoder {
 
     /// Whether the values are ended: else what is wrong first, or that the bytes end before them.
     pub fn finish(&self) -> Result<(), BadField>
-        ensures ended { (bytes put : List ℕ) → StandsAfter self.now bytes put → IfOk result (λ _. EndsBehind (dataset_of self.now) bytes (length bytes)) }
-        ensures refused { (bytes put : List ℕ) → StandsAfter self.now bytes put → IfErr result (λ bad.
+        ensures ended { (bytes put : List ℕ) → DecoderStandsAfter self.now bytes put → IfOk result (λ _. EndsBehind (dataset_of self.now) bytes (length bytes)) }
+        ensures refused { (bytes put : List ℕ) → DecoderStandsAfter self.now bytes put → IfErr result (λ bad.
             IsFirstBad (dataset_of self.now) (start_of self.now) bytes bad
             ⊎ (IsOpen (dataset_of self.now) bytes × (bad ≡ record { kind = Cut; place = start_of self.now + length bytes }))) }
-        ensures is_ok { (bytes put : List ℕ) → StandsAfter self.now bytes put → EndsBehind (dataset_of self.now) bytes (length bytes) → result ≡ Ok tt }
-        ensures stays { (bytes put : List ℕ) (fault : Fault) (place : ℕ) → StandsAfter self.now bytes put → IsBadField (dataset_of self.now) bytes fault place →
+        ensures is_ok { (bytes put : List ℕ) → DecoderStandsAfter self.now bytes put → EndsBehind (dataset_of self.now) bytes (length bytes) → result ≡ Ok tt }
+        ensures stays { (bytes put : List ℕ) (fault : Fault) (place : ℕ) → DecoderStandsAfter self.now bytes put → IsBadField (dataset_of self.now) bytes fault place →
             result ≡ Err (record { kind = kind_of fault; place = start_of self.now + place }) }
-        ensures cut { (bytes put : List ℕ) → StandsAfter self.now bytes put → IsOpen (dataset_of self.now) bytes →
+        ensures cut { (bytes put : List ℕ) → DecoderStandsAfter self.now bytes put → IsOpen (dataset_of self.now) bytes →
             result ≡ Err (record { kind = Cut; place = start_of self.now + length bytes }) }
 
         // Where the sink failed it never says that they are ended, but that they end behind all that was pushed.

@@ -5,7 +5,6 @@
 //! verdict that `specs/Verdict` and `specs/After` define.
 #![tactic(auto)]
 
-mod bad;
 mod buffer;
 mod check;
 mod data_line;
@@ -21,9 +20,9 @@ mod turn;
 mod value_text;
 mod values;
 
-pub use bad::{Bad, BadField};
 pub use check::{Checked, check_all};
 pub use decode::decode_all;
 pub use decoder::{Decoder, Pushed};
 pub use filled::{AllRefusal, Filled};
+pub use reply_faults::{Bad, BadField};
 pub use value_text::put_shown_text;

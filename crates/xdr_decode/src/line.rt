@@ -5,7 +5,7 @@ ghost use Rattle.dap_outside.specs.Causes.{HasCause};
 ghost use Rattle.dap_types.specs.View.{members_view};
 ghost use Rattle.std.specs.Fmt.{decimal};
 ghost use Rattle.xdr_fields.specs.Wants.{index_texts};
-ghost use Rattle.xdr_decode.specs.inner.Buffered.{Puts};
+ghost use Rattle.dap_outside.specs.Buffered.{Puts};
 ghost use Rattle.xdr_decode.specs.inner.Lines.{array_text, cell_text, column_text, path_text, shown_token, stage_text, token_text};
 
 use crate::buffer::Buffer;

@@ -5,7 +5,7 @@ ghost use Rattle.dap_types.specs.View.{members_view};
 ghost use Rattle.xdr_fields.specs.Wants.{Goes, IsTextType, Want, a_count, becomes, cell_wants, row_path, rows, wants_all, wants_of_array};
 ghost use Rattle.xdr_decode.specs.inner.Asked.{Is, element_ask, width_of};
 ghost use Rattle.xdr_decode.specs.inner.Leaves.{IsLeaf};
-ghost use Rattle.xdr_decode.specs.inner.Moving.{IsSettled, Moves, mark_bytes, text_of};
+ghost use Rattle.xdr_decode.specs.inner.Moving.{IsSettled, Moves, mark_bytes, string_behind};
 ghost use Rattle.xdr_decode.specs.inner.Turning.{IsFresh, MayBeEmpty, WhereBytes, WhereField, rank, stage_rank};
 ghost use Rattle.xdr_decode.specs.inner.Places.{AsksFirst, HaveMarks, HaveRoom, IsEarly, IsNext, IsPlaced, IsStage, IsStageOr, Spot, elements_wants, spot_at, stage_wants, text_behind, wants_left};
 
@@ -258,7 +258,7 @@ impl Place {
 
 /// Behind the length of a string come its bytes.
 fn behind_token(token: Token) -> Text
-    ensures { result ≡ text_of token }
+    ensures { result ≡ string_behind token }
 {
     match token {
         Token::Size(size) => Text::Bytes(size, size),

@@ -8,7 +8,7 @@ ghost use Rattle.dap_types.specs.View.{members_view};
 ghost use Rattle.xdr_fields.specs.Wants.{Goes, Want, says};
 ghost use Rattle.xdr_decode.specs.After.{dataset_of, place_of, start_of};
 ghost use Rattle.xdr_decode.specs.inner.Asked.{Asks, Is, IsElement, width_of};
-ghost use Rattle.xdr_decode.specs.inner.Buffered.{Puts};
+ghost use Rattle.dap_outside.specs.Buffered.{Puts};
 ghost use Rattle.xdr_decode.specs.inner.Places.{IsPlaced, text_behind, wants_left};
 ghost use Rattle.xdr_decode.specs.inner.Turning.{Falls, MayBeEmpty, Stays, Turns, rank, weight};
 

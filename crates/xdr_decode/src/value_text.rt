@@ -1,7 +1,7 @@
 ghost use Rattle.std.specs.Prelude.{◌≡◌, ◌<◌, ◌≤◌, [], ◌∷◌, ◌++◌, ◌%◌, codes, false, IsTrue, IfOk, OnErr, OnOk, length, take};
 ghost use Rattle.std.specs.Fmt.{decimal, signed_decimal};
 ghost use Rattle.std.specs.List.{flat_map};
-ghost use Rattle.xdr_decode.specs.inner.Buffered.{Passes, PassesFront, Puts};
+ghost use Rattle.dap_outside.specs.Buffered.{Passes, PassesFront, Puts};
 ghost use Rattle.dap_model.specs.Shown.{hex, shown_byte, shown_value};
 ghost use Rattle.std.specs.Fmt.{digit_glyph};
 ghost use Rattle.dap_outside.specs.Causes.{HasCause};

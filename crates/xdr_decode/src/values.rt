@@ -6,7 +6,7 @@ ghost use Rattle.dap_types.specs.declared.declarations.Column.{Column as ColumnV
 ghost use Rattle.dap_types.specs.declared.values.Value.TheVariants.{Whole, Text as Characters, Bits32, Bits64};
 ghost use Rattle.dap_model.specs.Fits.{IsOf};
 ghost use Rattle.dap_model.specs.Xdr.{Field, mark as field_of_mark, packed as field_of_byte, padding, text, value_fields};
-ghost use Rattle.xdr_decode.specs.declared.bad.Bad.TheVariants.{Cut};
+ghost use Rattle.reply_faults.specs.declared.bad.Bad.TheVariants.{Cut};
 ghost use Rattle.xdr_decode.specs.declared.values.Stop.TheVariants.{Wrong, Memory};
 ghost use Rattle.xdr_decode.specs.inner.Asked.{Asks, Is};
 ghost use Rattle.xdr_decode.specs.inner.Taken.{IsTaken, Spelt, Stops, element_fields, element_want};

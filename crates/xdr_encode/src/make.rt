@@ -26,14 +26,14 @@ use crate::refusal::BodyRefusal;
 use crate::wanted::marked_leaves;
 use csv_source::Table;
 use dap_outside::Buffer;
-use dap_types::{Bytes, Dataset, List, Memory};
+use dap_types::{Bytes, Dataset, List, Memory, limits};
 use dds_text::{PrintRefusal, print_short};
 use grid_projection::Marks;
 use netcdf_source::Header;
 use std::alloc::Global;
 
 /// The bytes of a batch.
-const ROOM: usize = 65536;
+const ROOM: usize = limits::MOST_PIECE;
 
 /// The DDS of what the marks leave of a dataset. `TooLarge` comes exactly where it has more than
 /// 16,777,216 bytes, and nothing of it is printed then.

@@ -18,13 +18,13 @@ ghost use Rattle.xdr_encode.specs.Wanted.{AreSuited, IsFound, IsLarge, IsUnmarke
 use crate::leaf::Leaf;
 use crate::plans::leaf_of;
 use crate::refusal::BodyRefusal;
-use dap_types::{BaseType, Layout, List, Memory, Slab};
+use dap_types::{BaseType, Layout, List, Memory, Slab, limits};
 use grid_projection::Marks;
 use netcdf_source::Header;
 use std::alloc::Global;
 
 /// The most elements of a leaf.
-const MOST: u64 = 2147483647;
+const MOST: u64 = limits::MOST_ELEMENTS;
 
 /// What is asked of a marked leaf.
 #[derive(Clone, Copy)]

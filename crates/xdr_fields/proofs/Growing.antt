@@ -24,7 +24,7 @@ use Rattle.xdr_fields.specs.Wants.{Want, a_count, a_value, a_byte, a_filler, a_t
 prefix_self : (a : List ℕ) → IsPrefix a a
 prefix_self a = ([], sym (append-nil a))
 
-prefix_more : (a b c : List ℕ) → IsPrefix a b → IsPrefix a (b ++ c)
+pub prefix_more : (a b c : List ℕ) → IsPrefix a b → IsPrefix a (b ++ c)
 prefix_more a b c (x, is) = (x ++ c, ap (λ l. l ++ c) is ∙ append_assoc a x c)
 
 prefix_behind : (a b c : List ℕ) → IsPrefix b c → IsPrefix (a ++ b) (a ++ c)
@@ -202,7 +202,7 @@ abbrev Begins : Field → List ℕ → Type 0
 Begins (text bytes) own = IsPrefix own bytes
 Begins f own = ⊤
 
-text_bytes : (b x : List ℕ) → SpellsField (text b) x → x ≡ b
+pub text_bytes : (b x : List ℕ) → SpellsField (text b) x → x ≡ b
 unfolding field_bytes
 text_bytes b x is = is
 

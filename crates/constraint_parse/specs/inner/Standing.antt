@@ -53,10 +53,10 @@ ReadsCall (ClauseNamed items clauses [] n) = ⊤
 ReadsCall _ = ⊥
 
 -- Behind an item: only its end may stand there.
-abbrev pub StandsAfter : List ℕ → ℕ → List ItemTree → ItemTree → Type 0
-StandsAfter text at items (path front last) =
+abbrev pub StandsBehindItem : List ℕ → ℕ → List ItemTree → ItemTree → Type 0
+StandsBehindItem text at items (path front last) =
     StandsAt text at (Stepped items front last.label last.slabs) × Lacks text at (byte "[") × Lacks text at (byte ".") × (MayCall front last.slabs → Lacks text at (byte "("))
-StandsAfter text at items (call n a) = StandsAt text at (Called items n a)
+StandsBehindItem text at items (call n a) = StandsAt text at (Called items n a)
 
 -- a value is one of what may come next
 abbrev pub ReadsValue : State → Type 0

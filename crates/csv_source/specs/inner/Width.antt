@@ -6,6 +6,7 @@ use Rattle.csv.specs.Reading.{default_config}
 use Rattle.csv.specs.declared.parser.Action.TheVariants as act
 use Rattle.csv.specs.declared.parser.State.{State}
 use Rattle.csv.specs.declared.parser.State.TheVariants as st
+use Rattle.dap_types.specs.Limits.{most_columns}
 use Rattle.csv_source.specs.declared.width.Next.{Next}
 use Rattle.csv_source.specs.declared.width.Next.TheVariants.{Within, FieldEnd, RecordEnd}
 use Rattle.csv_source.specs.declared.width.Place.{Place}
@@ -30,5 +31,5 @@ IsStep s byte RecordEnd = (step default_config s byte).1 ≡ act.EndRecord
 -- whether a file's first record has more than 1,024 fields
 abbrev pub TellsWidth : Bool → List (List (List ℕ)) → Type 0
 TellsWidth wide records =
-    MatchBool wide ((header : List (List ℕ)) × (rows : List (List (List ℕ))) × (records ≡ header ∷ rows) × (1024 < length header))
-    ((header : List (List ℕ)) (rows : List (List (List ℕ))) → records ≡ header ∷ rows → length header ≤ 1024)
+    MatchBool wide ((header : List (List ℕ)) × (rows : List (List (List ℕ))) × (records ≡ header ∷ rows) × (most_columns < length header))
+    ((header : List (List ℕ)) (rows : List (List (List ℕ))) → records ≡ header ∷ rows → length header ≤ most_columns)

@@ -3,12 +3,12 @@ use Rattle.std.specs.Prelude.{◌≡◌, ℕ, ◌≤◌, ◌⊎◌, Bool, List, 
 use Rattle.dap_types.specs.Limits.{body_limit, most_piece}
 use Rattle.dap_model.specs.Received.{HasHead}
 use Rattle.xdr_decode.specs.Verdict.{budget}
-use Rattle.xdr_decode.specs.declared.bad.BadField.{BadField}
+use Rattle.reply_faults.specs.declared.bad.BadField.{BadField}
 use Rattle.dap_http.specs.Delivered.{HasCome, IsBrokenBody, IsWholeBody}
 use Rattle.dap_http.specs.Following.{waiting}
 use Rattle.dap_http.specs.declared.body_parts.BodyParts.{BodyParts}
 use Rattle.dap_http.specs.declared.coding.Coding.{Coding}
-use Rattle.dap_client.specs.Answered.{IsLasting, ShowsBroken, ShowsRefused, ShowsStopped, good_part, text_of}
+use Rattle.dap_client.specs.Answered.{IsLasting, ShowsBroken, ShowsRefused, ShowsStopped, good_part, text_shown}
 use Rattle.dap_client.specs.Outcomes.{outcome_of}
 use Rattle.dap_client.specs.Replies.{Settles, first_of}
 use Rattle.dap_client.specs.Verdict.{Form, Verdict, IsVerdict, bad, dods_form, server_error}
@@ -50,7 +50,7 @@ TakesFewValuesBehind coding bytes = (front more body : List ℕ) → bytes ≡ f
 
 abbrev pub IsToldBehind : Form → Coding → List ℕ → Bool → List ℕ → List ℕ → Outcome → Type 0
 IsToldBehind form coding bytes ended rest text (Complete n) =
-    (body : List ℕ) × (v : Verdict) × IsWholeBody coding bytes ended body rest × IsVerdict form body v × (outcome_of (length body) v ≡ Complete n) × (text ≡ text_of n v)
+    (body : List ℕ) × (v : Verdict) × IsWholeBody coding bytes ended body rest × IsVerdict form body v × (outcome_of (length body) v ≡ Complete n) × (text ≡ text_shown n v)
 IsToldBehind form coding bytes ended rest text (ServerError code message) =
     (body : List ℕ) × IsWholeBody coding bytes ended body rest × IsVerdict form body (server_error (record { code = code; message = message })) × (text ≡ [])
 IsToldBehind form coding bytes ended rest text (BadReply field) =

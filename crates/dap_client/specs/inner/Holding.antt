@@ -1,10 +1,10 @@
 -- How far a body is that is read into memory.
 use Rattle.std.specs.Prelude.{◌≡◌, ◌≢◌, ℕ, ◌<◌, ◌≤◌, ⊤, Bool, true, not, List, ◌++◌, length, take, Result, Ok, Err}
-use Rattle.xdr_decode.specs.declared.bad.BadField.{BadField}
+use Rattle.reply_faults.specs.declared.bad.BadField.{BadField}
 use Rattle.dap_http.specs.Delivered.{HasCome, IsBrokenBody, IsWholeBody}
 use Rattle.dap_http.specs.declared.coding.Coding.{Coding}
 use Rattle.dap_http.specs.declared.kind.Kind.TheVariants.{Ver}
-use Rattle.dap_client.specs.After.{StandsAfter, form_in}
+use Rattle.dap_client.specs.After.{BodyStandsAfter, form_in}
 use Rattle.dap_client.specs.Answered.{IsLasting}
 use Rattle.dap_client.specs.Held.{IsLong, IsNeverLong, SaysOf}
 use Rattle.dap_client.specs.Verdict.{Form, Verdict, IsVerdict, is_fault, is_final}
@@ -19,7 +19,7 @@ use Rattle.dap_client.specs.declared.outcome.Outcome.TheVariants as outcome
 
 -- the reader was given these bytes
 abbrev pub IsAfter : Body → List ℕ → Type 0
-IsAfter reader bytes = (put : List ℕ) × StandsAfter reader bytes put
+IsAfter reader bytes = (put : List ℕ) × BodyStandsAfter reader bytes put
 
 -- as many bytes as the limit came of it, or more, and these alone are bad
 abbrev pub IsFull : Form → ℕ → List ℕ → Type 0

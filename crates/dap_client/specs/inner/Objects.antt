@@ -2,7 +2,7 @@
 use Rattle.std.specs.Prelude.{◌≡◌, ℕ, ◌≤◌, ◌<◌, ⊤, Bool, true, false, List, ◌∷◌, ◌++◌, length, drop, IsTrue}
 use Rattle.std.specs.List.{list_all}
 use Rattle.text_tokens.specs.Tokens.{is_white}
-use Rattle.dap_errors.specs.Reading.{EndsAt, IsBad, limit}
+use Rattle.dap_errors.specs.Reading.{ObjectEndsAt, IsBad, limit}
 use Rattle.dap_errors.specs.declared.object.ErrorObject.{ErrorObject}
 use Rattle.dap_client.specs.declared.object.Object.{Object}
 use Rattle.dap_client.specs.declared.object.Object.TheVariants.{Front, Behind, Bad}
@@ -17,7 +17,7 @@ pub record IsBehind (bytes : List ℕ) (object : ErrorObject) (semicolon : Bool)
   pub behind : ℕ
   pub within : behind ≤ length bytes
   pub long : limit ≤ length bytes
-  pub ends : EndsAt bytes behind object
+  pub ends : ObjectEndsAt bytes behind object
   pub trail : IsTrail semicolon (drop behind bytes)
 
 -- what it says apart from any bytes: a front is shorter than the limit

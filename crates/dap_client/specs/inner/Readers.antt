@@ -5,7 +5,7 @@ use Rattle.dap_types.specs.Model.{Dataset, Tree}
 use Rattle.dap_model.specs.Partly.{ShowsLines}
 use Rattle.dap_model.specs.Shown.{shown}
 use Rattle.xdr_decode.specs.Verdict.{budget}
-use Rattle.xdr_decode.specs.declared.bad.Bad.TheVariants.{Cut}
+use Rattle.reply_faults.specs.declared.bad.Bad.TheVariants.{Cut}
 use Rattle.dap_client.specs.Shows.{BreaksOff, HasFewValues, StopsWithin}
 use Rattle.dap_client.specs.Verdict.{IsVerdict, bad, dods_form, good, server_error}
 use Rattle.dap_client.specs.inner.Stages.{IsQuiet, IsStage, is_open_stage, piece_length}
@@ -31,7 +31,7 @@ abbrev pub HasPutNothing : BodyReader → Type 0
 HasPutNothing r = IsQuiet r.stage
 
 -- the reader was given these bytes, and has put this text
-pub record StandsAfter (reader : BodyReader) (bytes put : List ℕ) : Type 0 where
+pub record ReaderStandsAfter (reader : BodyReader) (bytes put : List ℕ) : Type 0 where
   pub taken : length bytes ≡ taken_of reader
   pub is_stage : IsStage reader.stage bytes put
   pub most : length bytes ≤ budget
@@ -39,7 +39,7 @@ pub record StandsAfter (reader : BodyReader) (bytes put : List ℕ) : Type 0 whe
 
 -- some bytes
 abbrev pub Stands : BodyReader → Type 0
-Stands r = (bytes : List ℕ) × (put : List ℕ) × StandsAfter r bytes put
+Stands r = (bytes : List ℕ) × (put : List ℕ) × ReaderStandsAfter r bytes put
 
 -- the line that says that all came
 abbrev pub completed : ℕ → List ℕ

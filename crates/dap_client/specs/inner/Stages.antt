@@ -14,8 +14,8 @@ use Rattle.dds_text.specs.declared.reader.DdsReader.{DdsReader}
 use Rattle.xdr_decode.specs.After as decoding
 use Rattle.xdr_decode.specs.Shown.{ShowsFront}
 use Rattle.xdr_decode.specs.Verdict.{budget}
-use Rattle.xdr_decode.specs.declared.bad.Bad.TheVariants.{Cut}
-use Rattle.xdr_decode.specs.declared.bad.BadField.{BadField}
+use Rattle.reply_faults.specs.declared.bad.Bad.TheVariants.{Cut}
+use Rattle.reply_faults.specs.declared.bad.BadField.{BadField}
 use Rattle.xdr_decode.specs.declared.decoder.Decoder.{Decoder}
 use Rattle.xdr_decode.specs.Verdict.{HasHeadOf, HasText}
 use Rattle.dap_client.specs.Shows.{Gains, HasFewValues, StopsWithin}
@@ -34,11 +34,11 @@ piece_length = most_piece
 
 -- a reader of the DDS has had these bytes
 abbrev pub HadAll : DdsReader → List ℕ → Type 0
-HadAll reader bytes = reading.StandsAfter reader bytes × (reading.start_of reader ≡ 0)
+HadAll reader bytes = reading.DdsStandsAfter reader bytes × (reading.start_of reader ≡ 0)
 
 -- the bytes are a text, which the reader of the DDS had
 abbrev pub EndsText : DdsReader → List ℕ → Type 0
-EndsText reader bytes = reading.StandsAfter reader bytes × ((d : Dataset) × IsDone bytes (length bytes) d)
+EndsText reader bytes = reading.DdsStandsAfter reader bytes × ((d : Dataset) × IsDone bytes (length bytes) d)
 
 pub record IsFirst (word : FirstWord) (front : List ℕ) (reader : DdsReader) (bytes : List ℕ) : Type 0 where
   pub is_word : IsOpenWord word bytes
@@ -59,7 +59,7 @@ pub record HasValues (decoder : Decoder) (bytes put : List ℕ) : Type 0 where
   pub values : List ℕ
   pub lines : List ℕ
   pub has_head : HasHeadOf bytes (decoding.dataset_of decoder) head values
-  pub stands : decoding.StandsAfter decoder values lines
+  pub stands : decoding.DecoderStandsAfter decoder values lines
   pub starts : decoding.start_of decoder ≡ length head
   pub room : decoding.place_of decoder ≤ length bytes
   pub is_put : put ≡ dds (decoding.dataset_of decoder) ++ lines
@@ -71,7 +71,7 @@ pub record IsInValues (decoder : Decoder) (bytes put : List ℕ) : Type 0 where
   pub shows : ShowsFront (decoding.dataset_of decoder) begun.values begun.lines
 
 -- what is wrong stays, whatever follows
-pub record IsRefused (field : BadField) (bytes put : List ℕ) : Type 0 where
+pub record IsDataRefused (field : BadField) (bytes put : List ℕ) : Type 0 where
   pub stays : (more : List ℕ) → Judges dods_form (bytes ++ more) (bad field.kind field.place)
   pub is_fault : is_fault field.kind ≡ true
   pub shows : ShowsLines (take field.place bytes) put
@@ -89,7 +89,7 @@ IsStage (stage.Error object) bytes put = IsError bytes × IsObjectOf bytes objec
 IsStage (stage.Text reader) bytes put = IsNoError bytes × HadAll reader bytes × IsUnfinished bytes × (put ≡ [])
 IsStage (stage.Line dataset line) bytes put = IsNoError bytes × IsInLine (dataset_view dataset) line bytes × (put ≡ [])
 IsStage (stage.Values decoder) bytes put = IsNoError bytes × IsInValues decoder bytes put
-IsStage (stage.Refused field) bytes put = IsRefused field bytes put
+IsStage (stage.Refused field) bytes put = IsDataRefused field bytes put
 IsStage (stage.Full field) bytes put = IsFull field bytes put
 IsStage stage.Failed bytes put = StopsWithin bytes put
 IsStage stage.Spent bytes put = HasFewValues piece_length bytes × (put ≡ [])

@@ -5,7 +5,7 @@ use Rattle.dap_outside.specs.Streams.{AppendsFront}
 use Rattle.das_text.specs.View.{attributes_view}
 use Rattle.dap_errors.specs.Reading.{limit}
 use Rattle.dap_types.specs.View.{dataset_view}
-use Rattle.xdr_decode.specs.declared.bad.BadField.{BadField}
+use Rattle.reply_faults.specs.declared.bad.BadField.{BadField}
 use Rattle.dap_client.specs.Replies.{first_of}
 use Rattle.dap_client.specs.Verdict.{Form, Verdict, Judges, bad, das_form, dds_form, dods_form, good_das, good_dds, is_fault, server_error}
 use Rattle.dap_client.specs.inner.DasBodies.{IsDasBody}

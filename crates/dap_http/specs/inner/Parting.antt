@@ -1,7 +1,7 @@
 -- What the steps of a reader of a body give.
 use Rattle.std.specs.Prelude.{◌≡◌, ℕ, ◌+◌, ◌-◌, ◌≤◌, ◌⊎◌, Bool, List, [], length, Option, Some, None}
 use Rattle.dap_types.specs.Limits.{body_limit, most_piece}
-use Rattle.dap_http.specs.After.{StandsAfter, used_by}
+use Rattle.dap_http.specs.After.{UnframerStandsAfter, used_by}
 use Rattle.dap_http.specs.Codings.{Goes}
 use Rattle.dap_http.specs.Following.{Arrives, Follows, body_coding}
 use Rattle.dap_http.specs.declared.coding.Coding.{Coding}
@@ -14,7 +14,7 @@ taken_by p = used_by p.unframer + (p.end - p.to)
 
 -- all bytes that were taken are used, and the body goes on
 abbrev pub IsUsedUp : BodyParts → List ℕ → List ℕ → Type 0
-IsUsedUp p bytes body = (p.to ≡ p.end) × StandsAfter p.unframer bytes × Goes (body_coding p) bytes body
+IsUsedUp p bytes body = (p.to ≡ p.end) × UnframerStandsAfter p.unframer bytes × Goes (body_coding p) bytes body
 
 -- nothing was taken, or a piece while the framing went on, of no more bytes than a body may still have
 abbrev pub TakesPiece : Coding → List ℕ → List ℕ → List ℕ → Type 0

@@ -3,9 +3,9 @@ use Rattle.std.proofs.Common.{inl, inr}
 use Rattle.std.specs.Prelude.{◌≡◌, ℕ, ◌<◌, ◌≤◌, ◌⊎◌, Bool, not, ◌&&◌, List, [], ◌++◌, length, drop, Result, Ok, Err, IsTrue}
 use Rattle.std.specs.Str.{bytes_eq, str_eq_ignore_ascii_case}
 use Rattle.httparse.specs.Grammar.{NeverHasResponse, ResponseHead}
-use Rattle.xdr_decode.specs.declared.bad.Bad.{Bad}
+use Rattle.reply_faults.specs.declared.bad.Bad.{Bad}
 use Rattle.dap_http.specs.Fields.{is_named}
-use Rattle.dap_http.specs.Reading.{Answers, IsAnswered}
+use Rattle.dap_http.specs.Reading.{Answers, AnswersFinalHead}
 use Rattle.dap_http.specs.Replies.{Interim, NoMoreReply, ReadsReply, coding_in, is_interim}
 use Rattle.dap_http.specs.Requests.{feeds}
 use Rattle.dap_http.specs.declared.coding.Coding.{Coding}
@@ -59,7 +59,7 @@ Steps bytes kept ended at (step.Done read) = Answers bytes kept ended read
 Steps bytes kept ended at (step.On next) = (kept ≡ bytes) × IsPast bytes next
 
 abbrev pub Settles : List ℕ → ResponseHead → List ℕ → Step → Type 0
-Settles input head rest (step.Done read) = IsAnswered input head rest read
+Settles input head rest (step.Done read) = AnswersFinalHead input head rest read
 Settles input head rest (step.On next) = Unit {0}
 
 -- the answer at a final head

@@ -3,12 +3,13 @@
 use Rattle.std.specs.Prelude.{ℕ, ◌+◌, ◌-◌, ◌*◌, ◌^◌, Bool, true, false, List, [], ◌∷◌, ◌++◌, if◌then◌else◌, ◌==◌, nat_lt, nat_le, ◌&&◌, ◌||◌}
 use Rattle.std.specs.Char.{is_ascii_hexdigit, digit_value}
 use Rattle.httparse.specs.Grammar.{is_ows}
+use Rattle.dap_types.specs.Limits.{most_trailers}
 use Rattle.dap_http.specs.declared.chunk_step.At.{At}
 use Rattle.dap_http.specs.declared.chunk_step.At.TheVariants.{Line, Digits, Blanks, Extension, LineFeed, Data, EndCr, EndLf, Fresh, Trailer, EmptyCr, TrailerCr, Done, Bad}
 
 -- what comes behind a chunk line of that size
 abbrev pub behind_line : ℕ → At
-behind_line size = if size == 0 then Fresh 16384 else Data size
+behind_line size = if size == 0 then Fresh most_trailers else Data size
 
 abbrev pub step_text : ℕ → ℕ → ℕ → At
 step_text n size b =

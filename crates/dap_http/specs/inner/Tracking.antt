@@ -1,7 +1,7 @@
 -- What an unframer knows of the bytes that it has used, and what its answers make of it.
 use Rattle.std.specs.Prelude.{◌≡◌, ℕ, ◌+◌, ◌<◌, ◌≤◌, ◌⊎◌, List, [], ◌++◌, length, take, IsTrue}
-use Rattle.xdr_decode.specs.declared.bad.BadField.{BadField}
-use Rattle.xdr_decode.specs.declared.bad.Bad.TheVariants.{BadChunk}
+use Rattle.reply_faults.specs.declared.bad.BadField.{BadField}
+use Rattle.reply_faults.specs.declared.bad.Bad.TheVariants.{BadChunk}
 use Rattle.dap_http.specs.Codings.{Ends, Fails, Goes}
 use Rattle.dap_http.specs.inner.Steps.{Known, is_open, run, start}
 use Rattle.dap_http.specs.declared.chunk_step.At.TheVariants.{Done, Bad}

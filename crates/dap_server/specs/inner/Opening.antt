@@ -1,5 +1,6 @@
 -- A stored file that was opened, and why none was.
 use Rattle.std.specs.Prelude.{◌≡◌, ℕ, ◌≤◌, ◌*◌, ⊤, List, length, max, Option, Some, None, IsSome, Result, Ok, Err}
+use Rattle.dap_types.specs.Limits.{most_piece}
 use Rattle.dap_outside.specs.Files.{IsBytes, Reads, Told}
 use Rattle.das_text.specs.Model.{Attributes}
 use Rattle.dap_types.specs.Model.{Dataset, Tree}
@@ -36,7 +37,7 @@ IsRead (Some told) bytes = bytes ≡ told
 -- so many bytes are wanted of a file's front: 64 KiB, or twice as many of its first bytes as stop within the
 -- header
 abbrev pub IsWanted : Option (List ℕ) → ℕ → Type 0
-IsWanted content n = (held : List ℕ) × Reads content 0 held × IsCut held × (n ≤ max 65536 (2 * length held))
+IsWanted content n = (held : List ℕ) × Reads content 0 held × IsCut held × (n ≤ max most_piece (2 * length held))
 
 -- The shelf may have a file of this name and these bytes, which are those of the content that is told. So
 -- many bytes has the file.

@@ -1,6 +1,7 @@
 -- How the requests of a connection are served one by one.
 use Rattle.std.specs.Prelude.{◌≡◌, ℕ, ◌+◌, ◌<◌, ◌≤◌, ⊤, ◌⊎◌, Bool, true, false, ◌||◌, List, ◌++◌, MatchBool, Option, Some, None, Result, Err}
 use Rattle.std.specs.Io.KnownBytes.{Appends, Consumes}
+use Rattle.dap_types.specs.Limits.{most_requests}
 use Rattle.dap_errors.specs.Causes.{http_status}
 use Rattle.dap_errors.specs.declared.cause.Cause.{Cause}
 use Rattle.dap_errors.specs.declared.cause.Cause.TheVariants.{OutOfMemory}
@@ -194,5 +195,5 @@ RoseNext (next.Ends served) takes takes' puts puts' = RoseFor served.ending take
 
 -- it is not the last that a connection may have
 abbrev pub GoesOnFew : ℕ → Next → Type 0
-GoesOnFew n (next.GoesOn status) = n + 1 < 1000
+GoesOnFew n (next.GoesOn status) = n + 1 < most_requests
 GoesOnFew n (next.Ends served) = ⊤

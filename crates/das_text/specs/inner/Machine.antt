@@ -6,11 +6,12 @@ use Rattle.dap_types.specs.declared.declarations.BaseType.{BaseType}
 use Rattle.viable.specs.Characters.{byte}
 use Rattle.viable.specs.Quoted.{quoted_value}
 use Rattle.text_tokens.specs.Tokens.{Token, sign, word, quoted}
-use Rattle.das_text.specs.Grammar.{base_of_word, most_depth}
+use Rattle.das_text.specs.Grammar.{base_of_word}
 use Rattle.das_text.specs.Model.{Attributes, Entry, attribute, container, entries_of}
 use Rattle.das_text.specs.declared.entries.Attribute.{Attribute}
 use Rattle.das_text.specs.declared.entries.Word.{Word}
 use Rattle.das_text.specs.declared.entries.Word.TheVariants.{Plain, Quoted}
+use Rattle.dap_types.specs.Limits.{most_depth}
 
 -- the entries before an open container, and its name
 pub record Around : Type 0 where

@@ -57,8 +57,8 @@ abbrev pub IsRead : Front → List ℕ → Type 0
 IsRead f text = IsReadTo f [] text × (f.length ≡ length text)
 
 -- the tokens lead to the end of a dataset, at the last byte
-abbrev pub EndsAt : List ℕ → Dataset → Type 0
-EndsAt text d = (run begun (tokens_of text) ≡ Some (ended d)) × ((front : List ℕ) × (text ≡ front ++ codes ";"))
+abbrev pub EndsDds : List ℕ → Dataset → Type 0
+EndsDds text d = (run begun (tokens_of text) ≡ Some (ended d)) × ((front : List ℕ) × (text ≡ front ++ codes ";"))
 
 -- the first token that does not go on or breaks a rule
 abbrev pub StopsAt : List ℕ → ℕ → Type 0
@@ -69,13 +69,13 @@ StopsAt text place = (before more : List Placed) × (bad : Placed) × (s : State
 abbrev pub IsFound : Front → List ℕ → List ℕ → Found → Type 0
 IsFound f text piece found.Nothing = IsRead f (text ++ piece)
 IsFound f text piece (found.Bad place) = StopsAt (text ++ piece) place
-IsFound f text piece (found.Done used d) = (used ≤ length piece) × EndsAt (text ++ take used piece) (dataset_view d)
+IsFound f text piece (found.Done used d) = (used ≤ length piece) × EndsDds (text ++ take used piece) (dataset_view d)
 
 -- what is found at a byte, at this index of a piece
 abbrev pub IsFoundAt : Front → List ℕ → ℕ → List ℕ → ℕ → Found → Type 0
 IsFoundAt f text b more i found.Nothing = IsReadTo f [] (text ++ b ∷ [])
 IsFoundAt f text b more i (found.Bad place) = StopsAt (text ++ b ∷ more) place
-IsFoundAt f text b more i (found.Done used d) = (used ≡ i + 1) × EndsAt (text ++ b ∷ []) (dataset_view d)
+IsFoundAt f text b more i (found.Done used d) = (used ≡ i + 1) × EndsDds (text ++ b ∷ []) (dataset_view d)
 
 -- the bad token begins within the limit
 abbrev pub IsPlaced : Found → Type 0

@@ -1,9 +1,9 @@
 use dap_http::{Arrived, BodyParts, Coding};
 use dap_outside::SureSource;
 use dap_types::{Bytes, Memory};
+use reply_faults::{Bad, BadField};
 use std::alloc::Global;
 use std::test::Fail;
-use xdr_decode::{Bad, BadField};
 
 /// A coding, the bytes that came with the head, those left in the source, what the first `next` gives
 /// (a part, the end or a fault) and how many bytes wait behind it.

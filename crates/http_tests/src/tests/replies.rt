@@ -2,9 +2,9 @@ use crate::tests::counted::Counted;
 use dap_http::{Coding, ReplyRead, ReplyReader};
 use dap_outside::{MemSource, SureSource};
 use dap_types::{Bytes, List, Memory};
+use reply_faults::{Bad, BadField};
 use std::alloc::{AllocError, Global};
 use std::test::Fail;
-use xdr_decode::{Bad, BadField};
 
 /// What a first read of an input gives that comes in pieces, and how many bytes it keeps.
 fn first(

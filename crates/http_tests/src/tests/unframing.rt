@@ -1,7 +1,7 @@
 use dap_http::{Coding, Unframed, Unframer};
+use reply_faults::{Bad, BadField};
 use std::alloc::{AllocError, Global};
 use std::test::Fail;
-use xdr_decode::{Bad, BadField};
 
 /// The next answer for a piece, within a bound that no test reaches.
 fn next<'p>(unframer: &mut Unframer, piece: &'p [u8]) -> Option<Unframed<'p>> {

@@ -3,7 +3,7 @@
 use Rattle.std.specs.Prelude.{◌≡◌, ◌≢◌, ℕ, ◌+◌, ◌^◌, ◌<◌, ◌≤◌, true, false, List, [], ◌∷◌, ◌++◌, length, map, sum_by}
 use Rattle.std.specs.List.{list_any, AllByRecursion}
 use Rattle.std.specs.Str.{bytes_eq}
-use Rattle.dap_types.specs.Limits.{most_dimensions, most_members}
+use Rattle.dap_types.specs.Limits.{most_dimensions, most_members, most_variable}
 use Rattle.netcdf_source.specs.Grammar.{is_record_dimension}
 use Rattle.netcdf_source.specs.Parts.{length_at, is_record, part, share, shares}
 use Rattle.netcdf_source.specs.declared.header.Contents.{Contents}
@@ -28,13 +28,13 @@ pub record IsVariable (dims : List Dimension) (before : List Variable) (v : Vari
   pub is_new : list_any (bytes_eq v.name) (map (λ b. b.name) before) ≡ false
   pub rank : length v.dimensions ≤ most_dimensions
   pub ids : InTurn (IsId dims) [] v.dimensions
-  pub bytes : part dims v.dimensions v.external_type ≤ 2 ^ 62
-  pub record_bytes : is_record dims v.dimensions ≡ true → shares dims before + share dims v.dimensions v.external_type ≤ 2 ^ 62
+  pub bytes : part dims v.dimensions v.external_type ≤ most_variable
+  pub record_bytes : is_record dims v.dimensions ≡ true → shares dims before + share dims v.dimensions v.external_type ≤ most_variable
   pub place : v.begin < 2 ^ 63
 
 -- a variable's bytes are few enough
 unfoldable pub HasSize : List Dimension → Variable → Type 0
-HasSize dims v = part dims v.dimensions v.external_type ≤ 2 ^ 62
+HasSize dims v = part dims v.dimensions v.external_type ≤ most_variable
 
 unfoldable pub HaveSizes : List Dimension → List Variable → Type 0
 HaveSizes dims vs = AllByRecursion (HasSize dims) vs

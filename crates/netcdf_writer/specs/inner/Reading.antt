@@ -1,12 +1,12 @@
 -- What was taken of a source, and what came of it.
 use Rattle.std.specs.Prelude.{◌≡◌, ℕ, ◌+◌, ◌≤◌, length, Bool, false, List, ◌++◌, Option, Result, Ok, Err, Vec, ⊤, if◌then◌else◌}
 use Rattle.std.specs.Io.KnownBytes.{Consumes, IsAtEnd}
+use Rattle.dap_types.specs.Limits.{most_written}
 use Rattle.dap_client.specs.Verdict.{IsVerdict, dods_form, good, server_error, bad, is_fault}
 use Rattle.dap_client.specs.declared.outcome.Outcome.{Outcome}
 use Rattle.dap_client.specs.declared.outcome.Outcome.TheVariants as outcomes
 use Rattle.dap_types.specs.Model.{Dataset, Tree}
-use Rattle.xdr_decode.specs.declared.bad.BadField.{BadField}
-use Rattle.netcdf_writer.specs.Saved.{most_saved}
+use Rattle.reply_faults.specs.declared.bad.BadField.{BadField}
 use Rattle.netcdf_writer.specs.Saving.{IsBadFront, IsReadWhole, IsTooLarge, TakesFew}
 use Rattle.netcdf_writer.specs.declared.saving.Halt.{Halt}
 use Rattle.netcdf_writer.specs.declared.saving.Halt.TheVariants as halts
@@ -15,7 +15,7 @@ use Rattle.netcdf_writer.specs.declared.stored.Stored.TheVariants.{BodyTooLarge,
 
 -- some bytes were taken behind so many
 abbrev pub TakesSome : ℕ → Option (List ℕ) → Option (List ℕ) → Type 0
-TakesSome held before now = (taken : List ℕ) × Consumes before now taken × (held + length taken ≤ most_saved + 1)
+TakesSome held before now = (taken : List ℕ) × Consumes before now taken × (held + length taken ≤ most_written + 1)
 
 -- one piece more, or nothing is left
 abbrev pub TakesPiece : Option (List ℕ) → Option (List ℕ) → Type 0 → List ℕ → List ℕ → Result Bool Halt → Type 0

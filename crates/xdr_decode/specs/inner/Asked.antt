@@ -6,7 +6,7 @@ use Rattle.dap_types.specs.declared.values.Value.TheVariants as values
 use Rattle.dap_model.specs.Received.{Fault}
 use Rattle.dap_model.specs.Xdr.{Field, count, number, packed, filler, size, padding, mark, SpellsField, fill}
 use Rattle.xdr_decode.specs.Verdict.{kind_of}
-use Rattle.xdr_decode.specs.declared.bad.Bad.{Bad}
+use Rattle.reply_faults.specs.declared.bad.Bad.{Bad}
 use Rattle.xdr_fields.specs.Wants.{Want, a_count, a_value, a_byte, a_filler, a_padding, rows, Goes, fault_in}
 use Rattle.xdr_decode.specs.declared.field.Ask.{Ask}
 use Rattle.xdr_decode.specs.declared.field.Ask.TheVariants.{Count, Value, Packed, Filler, Padding, Mark}

@@ -2,7 +2,7 @@
 use Rattle.std.specs.Prelude.{◌≡◌, ℕ, ◌+◌, ⊤, List, length, Result, Ok, Err}
 use Rattle.dap_types.specs.Model.{Dataset}
 use Rattle.xdr_decode.specs.Verdict.{IsWrong, IsWrongIn}
-use Rattle.xdr_decode.specs.declared.bad.Bad.TheVariants.{Cut}
+use Rattle.reply_faults.specs.declared.bad.Bad.TheVariants.{Cut}
 use Rattle.xdr_decode.specs.declared.filled.AllRefusal.{AllRefusal}
 use Rattle.xdr_decode.specs.declared.filled.AllRefusal.TheVariants.{Refused, Memory}
 use Rattle.xdr_decode.specs.declared.filled.Filled.{Filled}

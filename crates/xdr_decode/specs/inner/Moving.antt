@@ -13,9 +13,9 @@ use Rattle.xdr_decode.specs.declared.place.Text.{Text}
 use Rattle.xdr_decode.specs.declared.place.Text.TheVariants as text
 
 -- behind a length come the bytes of a string
-abbrev pub text_of : Token → Text
-text_of (token.Size n) = text.Bytes n n
-text_of t = text.Nothing
+abbrev pub string_behind : Token → Text
+string_behind (token.Size n) = text.Bytes n n
+string_behind t = text.Nothing
 
 -- how many bytes of rows a token has
 abbrev pub mark_bytes : Token → ℕ
@@ -25,7 +25,7 @@ mark_bytes t = 0
 -- from one stage of a variable to the next: what is still to come of it
 abbrev pub Moves : List ℕ → Member → Stage → Token → Stage → Type 0
 Moves above m old t new = (w : Want) (ws : List Want) (f : Field) → stage_wants above m old ≡ w ∷ ws → Goes w f → Is t f →
-    (text_wants (text_of t) ++ stage_wants above m new ≡ becomes w f ++ ws) × IsStageOr m new
+    (text_wants (string_behind t) ++ stage_wants above m new ≡ becomes w f ++ ws) × IsStageOr m new
 
 -- the variable at a place is at this stage
 abbrev pub IsSettled : Members → Place → Stage → Place → Type 0

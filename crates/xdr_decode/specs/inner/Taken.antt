@@ -6,7 +6,7 @@ use Rattle.dap_types.specs.declared.declarations.BaseType.TheVariants.{Byte}
 use Rattle.dap_types.specs.declared.declarations.Dim.{Dim}
 use Rattle.dap_types.specs.declared.values.Value.{Value}
 use Rattle.dap_model.specs.Xdr.{Field, packed, value_fields, SpellsFields}
-use Rattle.xdr_decode.specs.declared.bad.Bad.TheVariants.{Cut}
+use Rattle.reply_faults.specs.declared.bad.Bad.TheVariants.{Cut}
 use Rattle.xdr_decode.specs.declared.field.Token.{Token}
 use Rattle.xdr_decode.specs.declared.values.Stop.{Stop}
 use Rattle.xdr_decode.specs.declared.values.Stop.TheVariants.{Wrong, Memory}

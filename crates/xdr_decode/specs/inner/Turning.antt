@@ -6,7 +6,7 @@ use Rattle.dap_model.specs.Xdr.{Field, SpellsFields}
 use Rattle.dap_outside.specs.declared.failed.Failed.{Failed}
 use Rattle.xdr_fields.specs.Wants.{Want, a_text, Steps, room, said, says_next, wants_of}
 use Rattle.xdr_decode.specs.After.{IsStopped, Reads, dataset_of, place_of, start_of}
-use Rattle.xdr_decode.specs.inner.Buffered.{Puts}
+use Rattle.dap_outside.specs.Buffered.{Puts}
 use Rattle.xdr_decode.specs.inner.Places.{HaveMarks, IsPlaced, Spot, spot_at, wants_left}
 use Rattle.xdr_decode.specs.declared.decoder.Decoder.{Decoder}
 use Rattle.xdr_decode.specs.declared.decoder.Pushed.{Pushed}

@@ -1,5 +1,5 @@
 use Rattle.std.proofs.Common.{◌+◌, ◌++◌, ap, subst, sym}
-use Rattle.xdr_decode.specs.declared.bad.Bad.TheVariants.{Trailing}
+use Rattle.reply_faults.specs.declared.bad.Bad.TheVariants.{Trailing}
 use Rattle.dap_client.proofs.DdsBodies.{stray_on, white_on}
 use Rattle.dap_types.specs.View.{dataset_view}
 use Rattle.dap_client.specs.Verdict.{JudgesDds, bad}

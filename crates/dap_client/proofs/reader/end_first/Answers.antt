@@ -1,7 +1,7 @@
 use Rattle.std.proofs.Common.{◌+◌, ◌++◌, [], refl, sym, ap, subst, ◌∙◌, inl}
 use Rattle.std.proofs.Common.{append-nil}
 use Rattle.dap_model.specs.Tokens.{tokens_of}
-use Rattle.xdr_decode.specs.declared.bad.Bad.TheVariants.{Cut}
+use Rattle.reply_faults.specs.declared.bad.Bad.TheVariants.{Cut}
 use Rattle.dap_client.proofs.Filling.{first_bad, first_cut}
 use Rattle.dap_client.proofs.Texts.{done_token, few_nothing, open_no_head}
 use Rattle.dap_client.specs.inner.Readers.{IsEnded, WhereWriteFault}

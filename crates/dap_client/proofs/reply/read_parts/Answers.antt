@@ -5,7 +5,7 @@ use Rattle.dap_http.specs.Following.{Follows, IsInTime, body_coding, part_of, wa
 use Rattle.dap_http.specs.declared.body_parts.Arrived.TheVariants.{Part, ReadFault as SourceFault}
 use Rattle.dap_http.specs.declared.body_parts.BodyParts.{BodyParts}
 use Rattle.dap_http.specs.declared.coding.Coding.{Coding}
-use Rattle.dap_client.specs.After.{IsBrokenOff, IsFinished, IsPushed, StandsAfter, form_in}
+use Rattle.dap_client.specs.After.{IsBrokenOff, IsFinished, IsPushed, BodyStandsAfter, form_in}
 use Rattle.dap_client.specs.Replies.{Spoils, form_of}
 use Rattle.dap_client.specs.Verdict.{Form}
 use Rattle.dap_client.specs.inner.Behind.{TellsBehind}
@@ -191,7 +191,7 @@ loop-reader-preserved g c =
         λ bytes first begun.
             part-in-time (body_coding c.args.parts.now) (bytes ++ (t ++ u)) body (part_of c.next.new.self)
             (time-on (body_coding c.args.parts.now) (body_coding c.loop-reader.parts) bytes t u body c.loop-reader.invariant.coding (times (bytes ++ t) body (on bytes first)) (kept bytes first begun)),
-        subst (λ (l : List ℕ). StandsAfter c.push.new.self (body ++ l) (x ++ y)) piece pushed,
+        subst (λ (l : List ℕ). BodyStandsAfter c.push.new.self (body ++ l) (x ++ y)) piece pushed,
       );
       short = c.in_default.ensures.open refl;
       kind = c.push.ensures.kind ∙ c.loop-reader.invariant.kind;

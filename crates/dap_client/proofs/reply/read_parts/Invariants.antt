@@ -1,7 +1,7 @@
 use Rattle.std.proofs.Common.{◌≡◌, ◌≤◌, ◌<◌, ◌^◌, ◌++◌, ◌+◌, ◌-◌, ℕ, List, [], IsTrue}
 use Rattle.std.specs.Io.KnownBytes.{Appends, Consumes}
 use Rattle.dap_http.specs.Following.{Follows, IsInTime, body_coding}
-use Rattle.dap_client.specs.After.{StandsAfter}
+use Rattle.dap_client.specs.After.{BodyStandsAfter}
 use Rattle.dap_client.proofs.reply.read_parts.Given as goal
 
 abbrev pub invariant-loop-reader : goal.invariant-loop-reader
@@ -14,7 +14,7 @@ invariant-loop-reader g l =
           × Appends (to.written l.fn.out) (to.written l.out) text
           × ((bytes : List ℕ) → Follows l.fn.parts bytes [] → Follows l.parts (bytes ++ taken) body)
           × ((bytes : List ℕ) → Follows l.fn.parts bytes [] → IsInTime (body_coding l.fn.parts) bytes [] → IsInTime (body_coding l.fn.parts) (bytes ++ taken) body)
-          × StandsAfter l.reader body text;
+          × BodyStandsAfter l.reader body text;
       short : l.reader.taken < 2 ^ 40;
       kind : l.reader.kind ≡ l.fn.reader.kind;
       coding : body_coding l.parts ≡ body_coding l.fn.parts;

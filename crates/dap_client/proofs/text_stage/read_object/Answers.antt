@@ -1,4 +1,5 @@
+use Rattle.std.proofs.Common.{◌++◌}
 use Rattle.dap_client.proofs.text_stage.read_object.Goals as goal
 
-pub returns-in-Ok-Bad : goal.returns-in-Ok-Bad
-returns-in-Ok-Bad c form bytes is error o = c.bad_error.ensures form _ error (rw c.in-Ok-Bad.field-0-is at (c.in-Ok-Bad.ensures.object bytes is o))
+pub returns : goal.returns
+returns c form bytes is error o = c.in_object.ensures form (bytes ++ c.args.piece.now) (c.read_object.ensures bytes is error o)

@@ -1,4 +1,4 @@
 use Rattle.dap_client.proofs.text_stage.wait.Goals as goal
 
-pub returns-in-Ok-read : goal.returns-in-Ok-read
-returns-in-Ok-read c form bytes long word kept o = (word, c.in-Ok.ensures bytes kept, c.in-Ok-read.ensures form bytes long o)
+pub returns-in-Ok : goal.returns-in-Ok
+returns-in-Ok c form bytes long word kept o = (word, kept, c.in-Ok.ensures form bytes long o)

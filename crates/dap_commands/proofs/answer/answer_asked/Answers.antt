@@ -9,6 +9,7 @@ use Rattle.xdr_encode.specs.Bodies.{MayAsk, cost_in, text_in}
 use Rattle.std.specs.Prelude.{map}
 use Rattle.join_source.specs.Bodies as join
 use Rattle.join_source.specs.Pieces.{AreTold}
+use Rattle.dap_client.proofs.Told.{rose_later}
 use Rattle.dap_commands.proofs.Answering as answering
 use Rattle.dap_commands.specs.Answer.{status_for}
 use Rattle.dap_commands.specs.Lines.{IsSaid}
@@ -40,7 +41,7 @@ returns-in-Body-clause-says g c =
 pub returns-in-Body-clause-only : goal.returns-in-Body-clause-only
 returns-in-Body-clause-only g c = λ r must still quiet had.
     answering.body_only (Rose (g.S.Shelf.faults c.args.shelf.now) (g.S.Shelf.faults c.put_body.new.shelf)) (Rose (g.O.Sink.put_faults c.args.out.now) (g.O.Sink.put_faults c.put_body.new.out)) c.put_body.result c.put_body.ensures.is_put
-    (λ is. answering.rose_later (g.S.Shelf.faults c.args.shelf.now) (g.S.Shelf.faults c.prepare.new.shelf) (g.S.Shelf.faults c.put_body.new.shelf) c.in-Body.ensures.later (c.put_body.ensures.read_fault is))
+    (λ is. rose_later (g.S.Shelf.faults c.args.shelf.now) (g.S.Shelf.faults c.prepare.new.shelf) (g.S.Shelf.faults c.put_body.new.shelf) c.in-Body.ensures.later (c.put_body.ensures.read_fault is))
     c.put_body.ensures.write_fault still quiet
     ∙ sym (ap status_for (c.in-Body.ensures.only r (answering.must_give _ c.args.target.now (asked_of c.args.asked.now) r c.requires.is_asked must)).1)
 
@@ -65,7 +66,7 @@ returns-in-Joined-clause-says g c =
 pub returns-in-Joined-clause-only : goal.returns-in-Joined-clause-only
 returns-in-Joined-clause-only g c = λ r must still quiet had.
     answering.body_only (Rose (g.S.Shelf.faults c.args.shelf.now) (g.S.Shelf.faults c.put_joined.new.shelf)) (Rose (g.O.Sink.put_faults c.args.out.now) (g.O.Sink.put_faults c.put_joined.new.out)) c.put_joined.result c.put_joined.ensures.is_put
-    (λ is. answering.rose_later (g.S.Shelf.faults c.args.shelf.now) (g.S.Shelf.faults c.prepare.new.shelf) (g.S.Shelf.faults c.put_joined.new.shelf) c.in-Joined.ensures.later (c.put_joined.ensures.read_fault is))
+    (λ is. rose_later (g.S.Shelf.faults c.args.shelf.now) (g.S.Shelf.faults c.prepare.new.shelf) (g.S.Shelf.faults c.put_joined.new.shelf) c.in-Joined.ensures.later (c.put_joined.ensures.read_fault is))
     c.put_joined.ensures.write_fault still quiet
     ∙ sym (ap status_for (c.in-Joined.ensures.only r (answering.must_give _ c.args.target.now (asked_of c.args.asked.now) r c.requires.is_asked must)).1)
 

@@ -1,7 +1,7 @@
 use Rattle.std.proofs.Common.{◌%◌, ◌++◌, drop, refl, ap, sym, ◌∙◌}
 use Rattle.dap_model.specs.Shown.{index_text}
 use Rattle.xdr_fields.specs.Wants.{index_texts}
-use Rattle.xdr_decode.proofs.Passing.{front_as, front_first, passes_kept, puts_as, puts_failed, puts_two}
+use Rattle.dap_outside.proofs.Passing.{front_as, front_first, passes_kept, puts_as, puts_failed, puts_two}
 use Rattle.std.proofs.Common.{append-nil, min}
 use Rattle.dap_types.specs.Model.{product}
 use Rattle.xdr_decode.proofs.Lines.{indexes_none, indexes_put, sizes_of}

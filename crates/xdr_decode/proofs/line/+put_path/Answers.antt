@@ -1,6 +1,6 @@
 use Rattle.std.proofs.Common.{◌∷◌, ◌++◌, [], codes, drop, slice_get, ap, sym, ◌∙◌}
 use Rattle.std.specs.Option.{option_map_or}
-use Rattle.xdr_decode.proofs.Passing.{front_as, front_first, passes_kept, puts_as, puts_failed, puts_two}
+use Rattle.dap_outside.proofs.Passing.{front_as, front_first, passes_kept, puts_as, puts_failed, puts_two}
 use Rattle.xdr_decode.specs.inner.Lines.{array_text, cell_text, path_text}
 use Rattle.std.proofs.Common.{append-nil, get_or, length-drop, arith}
 use Rattle.dap_types.proofs.Views.{view-Base, view-Array, view-Structure, view-Grid, view-Sequence}

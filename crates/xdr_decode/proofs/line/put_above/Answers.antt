@@ -1,5 +1,5 @@
 use Rattle.std.proofs.Common.{codes}
-use Rattle.xdr_decode.proofs.Passing.{puts_two}
+use Rattle.dap_outside.proofs.Passing.{puts_two}
 use Rattle.xdr_decode.proofs.line.put_above.Goals as goal
 
 pub returns-clause-puts : goal.returns-clause-puts

@@ -1,6 +1,6 @@
 use Rattle.std.proofs.Common.{◌++◌, codes, ap, sym}
 use Rattle.dap_model.specs.Shown.{index_text}
-use Rattle.xdr_decode.proofs.Passing.{front_as, front_first, puts_as, puts_failed, puts_two}
+use Rattle.dap_outside.proofs.Passing.{front_as, front_first, puts_as, puts_failed, puts_two}
 use Rattle.xdr_decode.specs.inner.Lines.{cell_text, column_text}
 use Rattle.xdr_decode.proofs.line.put_cell.Goals as goal
 

@@ -1,6 +1,6 @@
 use Rattle.std.proofs.Common.{codes}
 use Rattle.std.specs.Fmt.{decimal}
-use Rattle.xdr_decode.proofs.Passing.{puts_two}
+use Rattle.dap_outside.proofs.Passing.{puts_two}
 use Rattle.xdr_decode.proofs.line.put_closed.Goals as goal
 
 pub returns-clause-puts : goal.returns-clause-puts

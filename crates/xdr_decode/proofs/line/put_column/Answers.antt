@@ -1,6 +1,6 @@
 use Rattle.std.proofs.Common.{◌++◌, [], length, ap, sym, ◌∙◌}
 use Rattle.std.specs.Option.{option_map_or}
-use Rattle.xdr_decode.proofs.Passing.{passes_kept}
+use Rattle.dap_outside.proofs.Passing.{passes_kept}
 use Rattle.std.proofs.lemmas.Option.{slice_get_past}
 use Rattle.std.proofs.Common.{append-nil}
 use Rattle.xdr_decode.proofs.Lines.{past_all}

@@ -1,4 +1,4 @@
-use Rattle.xdr_decode.proofs.Passing.{front_first, puts_failed, puts_two}
+use Rattle.dap_outside.proofs.Passing.{front_first, puts_failed, puts_two}
 use Rattle.xdr_decode.specs.inner.Lines.{stage_text}
 use Rattle.dap_types.specs.Model.{sizes}
 use Rattle.xdr_decode.proofs.line.put_element.Goals as goal

@@ -1,5 +1,5 @@
 use Rattle.std.proofs.Common.{codes}
-use Rattle.xdr_decode.proofs.Passing.{front_first, puts_failed, puts_two}
+use Rattle.dap_outside.proofs.Passing.{front_first, puts_failed, puts_two}
 use Rattle.xdr_decode.specs.inner.Lines.{shown_token}
 use Rattle.xdr_decode.proofs.line.put_ended.Goals as goal
 

@@ -1,6 +1,6 @@
 use Rattle.std.proofs.Common.{◌++◌, codes, sym, append_assoc}
 use Rattle.std.specs.Fmt.{decimal}
-use Rattle.xdr_decode.proofs.Passing.{front_first, puts_as, puts_failed, puts_two}
+use Rattle.dap_outside.proofs.Passing.{front_first, puts_as, puts_failed, puts_two}
 use Rattle.xdr_decode.proofs.line.put_index.Goals as goal
 
 pub returns-in_err-put-clause-puts : goal.returns-in_err-put-clause-puts

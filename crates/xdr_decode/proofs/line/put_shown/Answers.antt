@@ -1,5 +1,5 @@
 use Rattle.std.proofs.Common.{ap, sym}
-use Rattle.xdr_decode.proofs.Passing.{puts_as}
+use Rattle.dap_outside.proofs.Passing.{puts_as}
 use Rattle.xdr_decode.specs.inner.Lines.{shown_token}
 use Rattle.xdr_decode.proofs.line.put_shown.Goals as goal
 

@@ -1,4 +1,4 @@
-use Rattle.xdr_decode.proofs.Passing.{puts_as}
+use Rattle.dap_outside.proofs.Passing.{puts_as}
 use Rattle.xdr_decode.proofs.Lines.{line_of}
 use Rattle.xdr_decode.proofs.line.put_value.Goals as goal
 

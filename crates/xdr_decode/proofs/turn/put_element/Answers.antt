@@ -1,6 +1,6 @@
 use Rattle.std.proofs.Common.{◌++◌}
 use Rattle.dap_types.specs.View.{members_view}
-use Rattle.xdr_decode.proofs.Passing.{front_as, front_first, puts_as, puts_failed, puts_two}
+use Rattle.dap_outside.proofs.Passing.{front_as, front_first, puts_as, puts_failed, puts_two}
 use Rattle.xdr_decode.proofs.Paths.{says_all}
 use Rattle.xdr_decode.specs.inner.Lines.{path_text, token_text}
 use Rattle.xdr_fields.specs.Wants.{says}

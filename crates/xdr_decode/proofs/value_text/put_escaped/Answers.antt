@@ -1,6 +1,6 @@
 use Rattle.std.proofs.Common.{sym, ◌∙◌}
 use Rattle.dap_outside.proofs.Transfers.{part_within}
-use Rattle.xdr_decode.proofs.Passing.{front_as, front_second, passes_as, passes_two, puts_failed}
+use Rattle.dap_outside.proofs.Passing.{front_as, front_second, passes_as, passes_two, puts_failed}
 use Rattle.xdr_decode.proofs.Texts.{part-rest, shown-more, shown-parts}
 use Rattle.xdr_decode.proofs.value_text.put_escaped.Goals as goal
 

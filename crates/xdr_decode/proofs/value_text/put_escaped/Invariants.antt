@@ -1,7 +1,7 @@
 use Rattle.std.proofs.Common.{length, ◌-◌, ◌≡◌, ◌≤◌, take}
 use Rattle.std.specs.List.{flat_map}
 use Rattle.dap_model.specs.Shown.{shown_byte}
-use Rattle.xdr_decode.specs.inner.Buffered.{Passes}
+use Rattle.dap_outside.specs.Buffered.{Passes}
 use Rattle.xdr_decode.proofs.value_text.put_escaped.Given as goal
 
 abbrev pub invariant-loop-at : goal.invariant-loop-at

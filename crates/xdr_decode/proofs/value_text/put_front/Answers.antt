@@ -2,7 +2,7 @@ use Rattle.std.proofs.Common.{ap, sym, ◌∙◌, ◌++◌, drop}
 use Rattle.std.specs.List.{flat_map}
 use Rattle.dap_model.specs.Shown.{shown_byte}
 use Rattle.dap_outside.proofs.Fronts.{on_err}
-use Rattle.xdr_decode.proofs.Passing.{front_as, front_first}
+use Rattle.dap_outside.proofs.Passing.{front_as, front_first}
 use Rattle.xdr_decode.proofs.Texts.{shown-parts}
 use Rattle.xdr_decode.proofs.value_text.put_front.Goals as goal
 

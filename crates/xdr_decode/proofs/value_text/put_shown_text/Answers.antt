@@ -1,5 +1,5 @@
 use Rattle.dap_outside.proofs.Fronts.{on_err}
-use Rattle.xdr_decode.proofs.Passing.{sent_or_stopped, stopped_before}
+use Rattle.dap_outside.proofs.Passing.{sent_or_stopped, stopped_before}
 use Rattle.xdr_decode.proofs.value_text.put_shown_text.Goals as goal
 
 pub returns-in_err-put_escaped-clause-err : goal.returns-in_err-put_escaped-clause-err

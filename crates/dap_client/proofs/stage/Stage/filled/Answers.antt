@@ -2,7 +2,7 @@ use Rattle.std.proofs.Common.{sym, ap, subst}
 use Rattle.dap_client.proofs.Filling.{full_in_line, full_values, unfinished_not_full}
 use Rattle.dap_client.proofs.Waiting.{where_never}
 use Rattle.dap_client.specs.inner.Stages.{IsFull, IsStage, WhereFailed, is_open_stage}
-use Rattle.xdr_decode.specs.declared.bad.Bad.TheVariants.{TooLong}
+use Rattle.reply_faults.specs.declared.bad.Bad.TheVariants.{TooLong}
 use Rattle.dap_client.proofs.stage.Stage.filled.Goals as goal
 
 pub returns-in-First-clause-stage : goal.returns-in-First-clause-stage

@@ -1,4 +1,4 @@
-use Rattle.dap_http.proofs.NameText.{name-text}
+use Rattle.target_names.proofs.NameText.{name-text}
 use Rattle.dap_http.proofs.target.Target.name_of.Goals as goal
 
 pub unreachable-requires : goal.unreachable-requires

@@ -1,7 +1,7 @@
 use Rattle.std.proofs.Common.{◌≡◌, ℕ, arith, ap, sym, inr, ◌∙◌, Err}
 use Rattle.std.proofs.lemmas.Bool.{true≢false}
-use Rattle.xdr_decode.specs.declared.bad.BadField.{BadField as Wrong}
-use Rattle.xdr_decode.specs.declared.bad.Bad.TheVariants.{Cut}
+use Rattle.reply_faults.specs.declared.bad.BadField.{BadField as Wrong}
+use Rattle.reply_faults.specs.declared.bad.Bad.TheVariants.{Cut}
 use Rattle.dap_http.specs.inner.Tracking.{wrong_at}
 use Rattle.dap_http.specs.inner.Steps.{is_open}
 use Rattle.dap_http.specs.declared.chunk_step.At.TheVariants.{Done, Bad}

@@ -1,6 +1,6 @@
 use Rattle.std.proofs.Common.{sym, ◌∙◌, ◌++◌, ◌≡◌, ◌<◌, ◌≤◌, length, length-append, arith}
 use Rattle.dap_types.specs.View.{dataset_view}
-use Rattle.dds_text.specs.After.{StandsAfter}
+use Rattle.dds_text.specs.After.{DdsStandsAfter}
 use Rattle.dds_text.specs.Reading.{limit}
 use Rattle.dds_text.proofs.Pushed.{below, too_long, bad_token, goes_on, piece_goes_on, ends_behind, done_piece}
 use Rattle.dds_text.proofs.reader.DdsReader.answer.Goals as goal
@@ -11,7 +11,7 @@ returns-then-self-eq-LIMIT-clause-answers c = λ bytes clip rest is_open found c
     c.refuse.ensures.answers bytes (clip ++ rest) (too_long c.args.self.now.front bytes clip rest read (sym read.1 ∙ c.if-self-eq-LIMIT.true))
 
 pub returns-else-self-eq-LIMIT-clause-answers : goal.returns-else-self-eq-LIMIT-clause-answers
-unfolding StandsAfter
+unfolding DdsStandsAfter
 returns-else-self-eq-LIMIT-clause-answers c = λ bytes clip rest is_open found clipped.
     let read = rw c.in-Nothing.is at found in
     let n : c.args.self.now.front.length ≡ length (bytes ++ clip) = read.1 in
@@ -25,7 +25,7 @@ returns-in-Bad-clause-answers c = λ bytes clip rest is_open found clipped.
     c.refuse-in-Bad.ensures.answers bytes (clip ++ rest) (bad_token bytes clip rest c.in-Bad.place clipped.0 stops)
 
 pub returns-in-Done-clause-answers : goal.returns-in-Done-clause-answers
-unfolding StandsAfter
+unfolding DdsStandsAfter
 returns-in-Done-clause-answers c = λ bytes clip rest is_open found clipped.
     let (within, ends) = rw c.in-Done.is at found in
     let behind = ends_behind bytes clip rest c.in-Done.used (dataset_view c.in-Done.dataset) clipped.0 within ends in

@@ -1,5 +1,5 @@
 use Rattle.std.proofs.Common.{refl, subst, List, ℕ, ◌-◌, take, drop, take-append-drop}
-use Rattle.dds_text.specs.After.{StandsAfter, IsSpent, Answers}
+use Rattle.dds_text.specs.After.{DdsStandsAfter, IsSpent, Answers}
 use Rattle.dds_text.specs.Reading.{limit}
 use Rattle.dds_text.specs.inner.Standing.{IsFound}
 use Rattle.dds_text.proofs.Pushed.{clipped_at}
@@ -10,7 +10,7 @@ unfolding IsSpent
 returns-in-Err-clause-spends c = refl
 
 pub returns-in-Ok-clause-answers : goal.returns-in-Ok-clause-answers
-unfolding StandsAfter
+unfolding DdsStandsAfter
 returns-in-Ok-clause-answers c = λ bytes is_open stands.
     let (read, short) = rw is_open at stands in
     let room = limit - c.args.self.now.front.length in

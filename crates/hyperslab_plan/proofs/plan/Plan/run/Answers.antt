@@ -1,5 +1,5 @@
 use Rattle.std.proofs.Common.{◌≡◌, ◌+◌, ◌*◌, ◌<◌, ◌≤◌, arith, sym, ap, ◌∙◌, subst}
-use Rattle.hyperslab_plan.specs.Batches.{run_of, BeginsAt, EndsAt}
+use Rattle.hyperslab_plan.specs.Batches.{run_of, ElementBeginsAt, ElementEndsAt}
 use Rattle.hyperslab_plan.specs.Plans.{place_of}
 use Rattle.hyperslab_plan.proofs.MadeLemmas.{run-made, run-into, chosen_one, chosen_other}
 use Rattle.hyperslab_plan.proofs.RunLemmas.{run-in_raw, fills, begins, ends, run-first, run-short}
@@ -30,10 +30,10 @@ pub returns-clause-fills : goal.returns-clause-fills
 returns-clause-fills c = fills c.args.self.now c.args.batch.now c.requires.batch
 
 pub returns-clause-begins : goal.returns-clause-begins
-returns-clause-begins c = subst (BeginsAt c.args.self.now c.args.batch.now) (ap (λ r. r.at) (sym (returns-clause-is_run c))) (begins c.args.self.now c.args.batch.now c.args.k c.requires.batch c.requires.run)
+returns-clause-begins c = subst (ElementBeginsAt c.args.self.now c.args.batch.now) (ap (λ r. r.at) (sym (returns-clause-is_run c))) (begins c.args.self.now c.args.batch.now c.args.k c.requires.batch c.requires.run)
 
 pub returns-clause-ends : goal.returns-clause-ends
-returns-clause-ends c = subst (λ r. EndsAt c.args.self.now c.args.batch.now (r.at + r.len)) (sym (returns-clause-is_run c)) (ends c.args.self.now c.args.batch.now c.args.k c.requires.batch c.requires.run)
+returns-clause-ends c = subst (λ r. ElementEndsAt c.args.self.now c.args.batch.now (r.at + r.len)) (sym (returns-clause-is_run c)) (ends c.args.self.now c.args.batch.now c.args.k c.requires.batch c.requires.run)
 
 pub returns-clause-inside : goal.returns-clause-inside
 returns-clause-inside c = subst (λ r. r.into + r.len ≤ c.args.batch.now.raw_len) (sym (returns-clause-is_run c)) (run-in_raw c.args.self.now c.args.batch.now c.args.k c.requires.batch c.requires.run)

@@ -1,4 +1,4 @@
-use Rattle.xdr_decode.proofs.Passing.{puts_sent}
+use Rattle.dap_outside.proofs.Passing.{puts_sent}
 use Rattle.xdr_decode.proofs.buffer.Buffer.put.Goals as goal
 
 pub returns-then-text-gt-ROOM-clause-puts : goal.returns-then-text-gt-ROOM-clause-puts

@@ -1,7 +1,7 @@
 use Rattle.std.proofs.Common.{◌≡◌, ◌+◌, ◌∙◌, [], ◌++◌, length, length-append, take, ap, refl, sym, arith, append-nil}
 use Rattle.std.proofs.lemmas.List.{length-take}
 use Rattle.xdr_fields.specs.Wants.{says}
-use Rattle.xdr_decode.proofs.Passing.{passes_kept}
+use Rattle.dap_outside.proofs.Passing.{passes_kept}
 use Rattle.xdr_decode.proofs.Turning.{breaks, turn_bad, turn_held, turn_short, turns_failed, weight_falls}
 use Rattle.xdr_decode.proofs.decoder.Decoder.field.Goals as goal
 use Rattle.xdr_decode.specs.After.{dataset_of}

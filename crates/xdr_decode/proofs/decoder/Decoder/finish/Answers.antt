@@ -4,22 +4,22 @@ use Rattle.xdr_decode.proofs.Pushing.{cut_behind, failed_of, not_failed}
 use Rattle.xdr_decode.proofs.Standing.{bad_never, cut_only, ends_only, reads_of, refuses, stopped, stopped_same, stopped_not_open, stopped_not_ended}
 use Rattle.xdr_decode.proofs.decoder.Decoder.finish.Goals as goal
 use Rattle.xdr_decode.specs.declared.decoder.State.TheVariants as state
-use Rattle.xdr_decode.specs.After.{Stands, StandsAfter, dataset_of, start_of}
+use Rattle.xdr_decode.specs.After.{Stands, DecoderStandsAfter, dataset_of, start_of}
 
 pub returns-in-Refused-clause-refused : goal.returns-in-Refused-clause-refused
-unfolding StandsAfter
+unfolding DecoderStandsAfter
 returns-in-Refused-clause-refused c = λ bytes put stands. inl (stopped c.args.self.now c.in-Refused.bad bytes put (subst (λ s. Stands c.args.self.now s bytes put) c.in-Refused.is stands))
 
 pub returns-in-Refused-clause-is_ok : goal.returns-in-Refused-clause-is_ok
-unfolding StandsAfter
+unfolding DecoderStandsAfter
 returns-in-Refused-clause-is_ok c = λ bytes put stands ended. absurd (stopped_not_ended c.args.self.now c.in-Refused.bad bytes put _ (subst (λ s. Stands c.args.self.now s bytes put) c.in-Refused.is stands) ended)
 
 pub returns-in-Refused-clause-stays : goal.returns-in-Refused-clause-stays
-unfolding StandsAfter
+unfolding DecoderStandsAfter
 returns-in-Refused-clause-stays c = λ bytes put fault place stands is. ap Err (stopped_same c.args.self.now c.in-Refused.bad bytes put fault place (subst (λ s. Stands c.args.self.now s bytes put) c.in-Refused.is stands) is)
 
 pub returns-in-Refused-clause-cut : goal.returns-in-Refused-clause-cut
-unfolding StandsAfter
+unfolding DecoderStandsAfter
 returns-in-Refused-clause-cut c = λ bytes put stands is. absurd (stopped_not_open c.args.self.now c.in-Refused.bad bytes put (subst (λ s. Stands c.args.self.now s bytes put) c.in-Refused.is stands) is)
 
 pub returns-in-Reading : goal.returns-in-Reading

@@ -1,5 +1,5 @@
 use Rattle.std.proofs.Common.{ap, refl, ◌∙◌}
-use Rattle.xdr_decode.specs.declared.bad.Bad.TheVariants.{Cut}
+use Rattle.reply_faults.specs.declared.bad.Bad.TheVariants.{Cut}
 use Rattle.xdr_decode.proofs.Standing.{cut_place, ends_next, opens_next}
 use Rattle.xdr_decode.proofs.decoder.Decoder.reached.Goals as goal
 
