@@ -35,6 +35,7 @@ pub mod Found
 pub mod MemberNames
 pub mod ListNames
 pub mod OpeningLists
+pub mod AskedBefore
 pub mod JoinedSending
 pub mod JoinsGiven
 pub mod ListForms

@@ -201,7 +201,7 @@ of_small size small =
     let test : nat_lt 65536 size ≡ false = grind (arith, nat_tests) in
     rw test refl
 
-of_any : (size : ℕ) → most_of_size size ≤ 65536
+pub of_any : (size : ℕ) → most_of_size size ≤ 65536
 of_any size = go (nat_lt 65536 size) refl where
   go : (b : Bool) → nat_lt 65536 size ≡ b → cond b 0 size ≤ 65536
   go true is = omega arith

@@ -1,4 +1,4 @@
--- No target is refused for a failed read.
+-- No target is refused for a failed read, and no query for a line of a list.
 use Rattle.std.proofs.Common.{◌≡◌, ℕ, ◌+◌, Bool, true, false, List, [], ◌∷◌, ◌++◌, length, Option, Some, None, option_map, Result, Ok, Err, if◌then◌else◌, nat_lt, refl, sym, subst, inl, inr}
 use Rattle.std.specs.Option.{option_or}
 use Rattle.dap_types.specs.Model.{Dataset}
@@ -23,6 +23,7 @@ use Rattle.dap_model.specs.Dds.{dds}
 use Rattle.dap_http.specs.Targets.{Asked}
 use Rattle.dap_http.specs.declared.kind.Kind.TheVariants.{Dds, Das, Dods, Ver}
 use Rattle.dap_server.specs.Connections.{has_failed}
+use Rattle.dap_server.specs.Costs.{IsBehindLines}
 use Rattle.dap_server.specs.Files.{Files, Form, Stored, IsStored, joined, netcdf, saved, table}
 use Rattle.dap_server.specs.Joins.{AreJoined, IsJoined, IsMember, Lists, Member, Members}
 use Rattle.dap_outside.specs.Files.{Told}
@@ -33,60 +34,67 @@ use Rattle.dap_server.specs.Steps.{Is, Then, found_or, unless}
 abbrev pub IsCalm : Cause → Type 0
 IsCalm why = has_failed (Err why) ≡ 0
 
+-- nor that of a line
+abbrev pub NoLine : Cause → Type 0
+NoLine why = (count : ℕ) → IsBehindLines why count → ⊥
+
+abbrev IsOfQuery : Cause → Type 0
+IsOfQuery why = IsCalm why × NoLine why
+
 -- ---- constraints
 
 some-inj : (a b : Cause) → Some a ≡ Some b → a ≡ b
 some-inj a b is = cc is
 
-none-there : (k : Cause) → None ≡ Some k → IsCalm k
+none-there : (k : Cause) → None ≡ Some k → IsOfQuery k
 none-there k is = cc is
 
-abbrev AreCalm : List Test → Type 0
-AreCalm [] = Unit {0}
-AreCalm (t ∷ ts) = ((spot : Spot) → IsCalm (t.cause spot)) × AreCalm ts
+abbrev AreOfQuery : List Test → Type 0
+AreOfQuery [] = Unit {0}
+AreOfQuery (t ∷ ts) = ((spot : Spot) → IsOfQuery (t.cause spot)) × AreOfQuery ts
 
-one-calm : (there : Bool) (why : Cause) (rest : Option Cause) (k : Cause) → IsCalm why → (rest ≡ Some k → IsCalm k) → (if there then Some why else rest) ≡ Some k → IsCalm k
-one-calm true why rest k calm more is = subst IsCalm (some-inj why k is) calm
-one-calm false why rest k calm more is = more is
+one-query : (there : Bool) (why : Cause) (rest : Option Cause) (k : Cause) → IsOfQuery why → (rest ≡ Some k → IsOfQuery k) → (if there then Some why else rest) ≡ Some k → IsOfQuery k
+one-query true why rest k calm more is = subst IsOfQuery (some-inj why k is) calm
+one-query false why rest k calm more is = more is
 
-first-calm : (ts : List Test) (spot : Spot) (k : Cause) → AreCalm ts → first_there ts spot ≡ Some k → IsCalm k
-first-calm [] spot k calm is = none-there k is
-first-calm (t ∷ ts) spot k (calm, more) is = one-calm t.is_there (t.cause spot) (first_there ts spot) k (calm spot) (first-calm ts spot k more) is
+first-query : (ts : List Test) (spot : Spot) (k : Cause) → AreOfQuery ts → first_there ts spot ≡ Some k → IsOfQuery k
+first-query [] spot k calm is = none-there k is
+first-query (t ∷ ts) spot k (calm, more) is = one-query t.is_there (t.cause spot) (first_there ts spot) k (calm spot) (first-query ts spot k more) is
 
-found-calm : (before : Marks) (found : Option Found) (steps : List Step) → AreCalm (found_tests before found steps)
-found-calm before None steps = ((λ s. refl), tt)
-found-calm before (Some w) steps = ((λ s. refl), ((λ s. refl), ((λ s. refl), ((λ s. refl), ((λ s. refl), ((λ s. refl), tt))))))
+found-query : (before : Marks) (found : Option Found) (steps : List Step) → AreOfQuery (found_tests before found steps)
+found-query before None steps = ((λ s. (refl, λ n b. b)), tt)
+found-query before (Some w) steps = ((λ s. (refl, λ n b. b)), ((λ s. (refl, λ n b. b)), ((λ s. (refl, λ n b. b)), ((λ s. (refl, λ n b. b)), ((λ s. (refl, λ n b. b)), ((λ s. (refl, λ n b. b)), tt))))))
 
-item-calm : (d : Dataset) (before : Marks) (n : ℕ) (item : Item) (k : Cause) → item_cause d before n item ≡ Some k → IsCalm k
-item-calm d before n item k is = first-calm (item_tests d before n item) _ k ((λ s. refl), ((λ s. refl), found-calm before _ _)) is
+item-query : (d : Dataset) (before : Marks) (n : ℕ) (item : Item) (k : Cause) → item_cause d before n item ≡ Some k → IsOfQuery k
+item-query d before n item k is = first-query (item_tests d before n item) _ k ((λ s. (refl, λ n b. b)), ((λ s. (refl, λ n b. b)), found-query before _ _)) is
 
-either : (a b : Option Cause) (k : Cause) → (a ≡ Some k → IsCalm k) → (b ≡ Some k → IsCalm k) → option_or a b ≡ Some k → IsCalm k
+either : (a b : Option Cause) (k : Cause) → (a ≡ Some k → IsOfQuery k) → (b ≡ Some k → IsOfQuery k) → option_or a b ≡ Some k → IsOfQuery k
 either None b k first second is = second is
 either (Some c) b k first second is = first is
 
-items-calm : (d : Dataset) (earlier items : List Item) (k : Cause) → items_cause d earlier items ≡ Some k → IsCalm k
-items-calm d earlier [] k is = none-there k is
-items-calm d earlier (item ∷ items) k is =
+items-query : (d : Dataset) (earlier items : List Item) (k : Cause) → items_cause d earlier items ≡ Some k → IsOfQuery k
+items-query d earlier [] k is = none-there k is
+items-query d earlier (item ∷ items) k is =
     either (item_cause d (marked_by d earlier) (length earlier + 1) item) (items_cause d (earlier ++ item ∷ []) items) k
-    (item-calm d (marked_by d earlier) (length earlier + 1) item k) (items-calm d (earlier ++ item ∷ []) items k) is
+    (item-query d (marked_by d earlier) (length earlier + 1) item k) (items-query d (earlier ++ item ∷ []) items k) is
 
-scalar-calm : (inside : Bool) (column : Option Column) (values : List Constant) → AreCalm (scalar_tests inside column values)
-scalar-calm inside None values = ((λ s. refl), tt)
-scalar-calm inside (Some c) values = ((λ s. refl), ((λ s. refl), ((λ s. refl), ((λ s. refl), tt))))
+scalar-query : (inside : Bool) (column : Option Column) (values : List Constant) → AreOfQuery (scalar_tests inside column values)
+scalar-query inside None values = ((λ s. (refl, λ n b. b)), tt)
+scalar-query inside (Some c) values = ((λ s. (refl, λ n b. b)), ((λ s. (refl, λ n b. b)), ((λ s. (refl, λ n b. b)), ((λ s. (refl, λ n b. b)), tt))))
 
-compared-calm : (inside : Bool) (found : Option Found) (values : List Constant) → AreCalm (compared_tests inside found values)
-compared-calm inside None values = ((λ s. refl), tt)
-compared-calm inside (Some w) values = scalar-calm inside (scalar_of w.variable) values
+compared-query : (inside : Bool) (found : Option Found) (values : List Constant) → AreOfQuery (compared_tests inside found values)
+compared-query inside None values = ((λ s. (refl, λ n b. b)), tt)
+compared-query inside (Some w) values = scalar-query inside (scalar_of w.variable) values
 
-clause-calm : (d : Dataset) (n : ℕ) (clause : Clause) (k : Cause) → clause_cause d n clause ≡ Some k → IsCalm k
-clause-calm d n clause k is = first-calm (clause_tests d n clause) _ k ((λ s. refl), ((λ s. refl), compared-calm _ _ _)) is
+clause-query : (d : Dataset) (n : ℕ) (clause : Clause) (k : Cause) → clause_cause d n clause ≡ Some k → IsOfQuery k
+clause-query d n clause k is = first-query (clause_tests d n clause) _ k ((λ s. (refl, λ n b. b)), ((λ s. (refl, λ n b. b)), compared-query _ _ _)) is
 
-clauses-calm : (d : Dataset) (n : ℕ) (clauses : List Clause) (k : Cause) → clauses_cause d n clauses ≡ Some k → IsCalm k
-clauses-calm d n [] k is = none-there k is
-clauses-calm d n (clause ∷ clauses) k is = either (clause_cause d n clause) (clauses_cause d (n + 1) clauses) k (clause-calm d n clause k) (clauses-calm d (n + 1) clauses k) is
+clauses-query : (d : Dataset) (n : ℕ) (clauses : List Clause) (k : Cause) → clauses_cause d n clauses ≡ Some k → IsOfQuery k
+clauses-query d n [] k is = none-there k is
+clauses-query d n (clause ∷ clauses) k is = either (clause_cause d n clause) (clauses_cause d (n + 1) clauses) k (clause-query d n clause k) (clauses-query d (n + 1) clauses k) is
 
-cause-calm : (d : Dataset) (c : Constraint) (k : Cause) → cause d c ≡ Some k → IsCalm k
-cause-calm d c k is = either (items_cause d [] c.items) (clauses_cause d 1 c.clauses) k (items-calm d [] c.items k) (clauses-calm d 1 c.clauses k) is
+cause-query : (d : Dataset) (c : Constraint) (k : Cause) → cause d c ≡ Some k → IsOfQuery k
+cause-query d c k is = either (items_cause d [] c.items) (clauses_cause d 1 c.clauses) k (items-query d [] c.items k) (clauses-query d 1 c.clauses k) is
 
 -- ---- steps
 
@@ -96,10 +104,10 @@ failed-with V c = Err c
 err-inj : (V : Type 0) (a b : Cause) → failed-with V a ≡ failed-with V b → a ≡ b
 err-inj V a b is = cc is
 
-then-calm : {V W : Type 0} (first : Result V Cause → Type 0) (next : V → Result W Cause → Type 0) (k : Cause)
-    → ((c : Cause) → first (Err c) → IsCalm c) → ((v : V) → next v (Err k) → IsCalm k) → Then first next (Err k) → IsCalm k
-then-calm {V} {W} first next k one other (inl (v, f, n)) = other v n
-then-calm {V} {W} first next k one other (inr (c, f, is)) = subst IsCalm (sym (err-inj W k c is)) (one c f)
+then-so : {V W : Type 0} (P : Cause → Type 0) (first : Result V Cause → Type 0) (next : V → Result W Cause → Type 0) (k : Cause)
+    → ((c : Cause) → first (Err c) → P c) → ((v : V) → next v (Err k) → P k) → Then first next (Err k) → P k
+then-so {V} {W} P first next k one other (inl (v, f, n)) = other v n
+then-so {V} {W} P first next k one other (inr (c, f, is)) = subst P (sym (err-inj W k c is)) (one c f)
 
 found-or-calm : {V : Type 0} (o : Option V) (c : Cause) → Err c ≡ found_or o NoFile → IsCalm c
 found-or-calm {V} None c is = subst IsCalm (sym (err-inj V c NoFile is)) refl
@@ -113,13 +121,13 @@ member-calm told line name c (inr (file, why, found, bad, is)) = subst IsCalm (s
 members-calm : (told : Told) (line : ℕ) (names : List (List ℕ)) (c : Cause) → Members told line names (Err c) → IsCalm c
 members-calm told line [] c is = cc is
 members-calm told line (name ∷ names) c is =
-    then-calm (IsMember told line name) (λ (m : Member). Then (Members told (line + 1) names) (λ (ms : List Member). Is (Ok (m ∷ ms)))) c (member-calm told line name)
-    (λ m e. then-calm (Members told (line + 1) names) (λ (ms : List Member). Is (Ok (m ∷ ms))) c (members-calm told (line + 1) names) (λ ms n. cc n) e) is
+    then-so IsCalm (IsMember told line name) (λ (m : Member). Then (Members told (line + 1) names) (λ (ms : List Member). Is (Ok (m ∷ ms)))) c (member-calm told line name)
+    (λ m e. then-so IsCalm (Members told (line + 1) names) (λ (ms : List Member). Is (Ok (m ∷ ms))) c (members-calm told (line + 1) names) (λ ms n. cc n) e) is
 
 join-calm : (told : Told) (name bytes : List ℕ) (c : Cause) → IsJoined told name bytes (Err c) → IsCalm c
 join-calm told name bytes c is =
-    then-calm (Lists bytes) (λ (names : List (List ℕ)). Then (Members told 1 names) (AreJoined name)) c (λ k (refusal, why, l, there, e). subst IsCalm (sym e) refl)
-    (λ names e. then-calm (Members told 1 names) (AreJoined name) c (members-calm told 1 names) (λ ms (refusal, why, l, there, f). subst IsCalm (sym f) refl) e) is
+    then-so IsCalm (Lists bytes) (λ (names : List (List ℕ)). Then (Members told 1 names) (AreJoined name)) c (λ k (refusal, why, l, there, e). subst IsCalm (sym e) refl)
+    (λ names e. then-so IsCalm (Members told 1 names) (AreJoined name) c (members-calm told 1 names) (λ ms (refusal, why, l, there, f). subst IsCalm (sym f) refl) e) is
 
 stored-calm : (told : Told) (form : Form) (name bytes : List ℕ) (c : Cause) → IsStored told form name bytes (Err c) → IsCalm c
 stored-calm told netcdf name bytes c (refusal, why, first, there, is) = subst IsCalm (sym is) refl
@@ -129,34 +137,47 @@ stored-calm told joined name bytes c is = join-calm told name bytes c is
 
 opens-calm : (told : Told) (files : Files) (name : List ℕ) (c : Cause) → OpensAmong told files name (Err c) → IsCalm c
 opens-calm told files name c is =
-    then-calm (Is (found_or (file_named files name) NoFile)) (λ (file : File). IsStored told file.form name file.bytes) c (λ k e. found-or-calm (file_named files name) k e) (λ (file : File) e. stored-calm told file.form name file.bytes c e) is
+    then-so IsCalm (Is (found_or (file_named files name) NoFile)) (λ (file : File). IsStored told file.form name file.bytes) c (λ k e. found-or-calm (file_named files name) k e) (λ (file : File) e. stored-calm told file.form name file.bytes c e) is
 
-reads-calm : (query : List ℕ) (c : Cause) → Reads query (Err c) → IsCalm c
-reads-calm query c (place, fault, is) = subst IsCalm (sym is) refl
+reads-query : (query : List ℕ) (c : Cause) → Reads query (Err c) → IsOfQuery c
+reads-query query c (place, fault, is) = subst IsOfQuery (sym is) (refl, λ n b. b)
 
-unless-calm : {V : Type 0} (o : Option Cause) (v : V) (c : Cause) → ((k : Cause) → o ≡ Some k → IsCalm k) → Err c ≡ unless o v → IsCalm c
-unless-calm {V} None v c calm is = cc is
-unless-calm {V} (Some k) v c calm is = subst IsCalm (sym (err-inj V c k is)) (calm k refl)
+unless-so : {V : Type 0} (o : Option Cause) (v : V) (c : Cause) → ((k : Cause) → o ≡ Some k → IsOfQuery k) → Err c ≡ unless o v → IsOfQuery c
+unless-so {V} None v c of_query is = cc is
+unless-so {V} (Some k) v c of_query is = subst IsOfQuery (sym (err-inj V c k is)) (of_query k refl)
 
-leaves-calm : (s : Stored) (query : List ℕ) (c : Cause) → Leaves s query (Err c) → IsCalm c
-leaves-calm s query c is = then-calm (Reads query) (λ (x : Constraint). Is (unless (cause s.dataset x) (left_of s x))) c (reads-calm query) (λ (k : Constraint) e. unless-calm (cause s.dataset k) (left_of s k) c (cause-calm s.dataset k) e) is
+leaves-query : (s : Stored) (query : List ℕ) (c : Cause) → Leaves s query (Err c) → IsOfQuery c
+leaves-query s query c is =
+    then-so IsOfQuery (Reads query) (λ (x : Constraint). Is (unless (cause s.dataset x) (left_of s x))) c (reads-query query) (λ (k : Constraint) e. unless-so (cause s.dataset k) (left_of s k) c (cause-query s.dataset k) e) is
 
-large-calm : (large : Bool) (c : Cause) (t : Text) → Err c ≡ (if large then Err (TooLarge 0) else Ok t) → IsCalm c
-large-calm true c t is = subst IsCalm (sym (err-inj Text c (TooLarge 0) is)) refl
-large-calm false c t is = cc is
+large-query : (large : Bool) (c : Cause) (t : Text) → Err c ≡ (if large then Err (TooLarge 0) else Ok t) → IsOfQuery c
+large-query true c t is = subst IsOfQuery (sym (err-inj Text c (TooLarge 0) is)) (refl, λ n b. b)
+large-query false c t is = cc is
 
-leaf-calm : (o : Option ℕ) (k : Cause) → option_map (λ leaf. TooLarge leaf) o ≡ Some k → IsCalm k
-leaf-calm None k is = cc is
-leaf-calm (Some leaf) k is = subst IsCalm (some-inj (TooLarge leaf) k is) refl
+leaf-query : (o : Option ℕ) (k : Cause) → option_map (λ leaf. TooLarge leaf) o ≡ Some k → IsOfQuery k
+leaf-query None k is = cc is
+leaf-query (Some leaf) k is = subst IsOfQuery (some-inj (TooLarge leaf) k is) (refl, λ n b. b)
+
+dds-query : (s : Stored) (query : List ℕ) (c : Cause) → DdsAnswers s query (Err c) → IsOfQuery c
+dds-query s query c is =
+    then-so IsOfQuery (Leaves s query) (λ (left : Left). Is (dds_text left.dataset)) c (leaves-query s query) (λ (left : Left) m. large-query (nat_lt 16777216 (length (dds left.dataset))) c (result_text Dds (dds left.dataset)) m) is
+
+dods-query : (s : Stored) (query : List ℕ) (c : Cause) → DodsAnswers s query (Err c) → IsOfQuery c
+dods-query s query c is =
+    then-so IsOfQuery (Leaves s query) (λ (left : Left). Is (dods_text left)) c (leaves-query s query)
+    (λ (left : Left) m. unless-so (option_map (λ leaf. TooLarge leaf) (too_large left.dataset)) (result_text Dods (body left.dataset left.trees)) c (leaf-query (too_large left.dataset)) m) is
+
+pub dds-no-line : (s : Stored) (query : List ℕ) (c : Cause) → DdsAnswers s query (Err c) → NoLine c
+dds-no-line s query c is = (dds-query s query c is).1
+
+pub dods-no-line : (s : Stored) (query : List ℕ) (c : Cause) → DodsAnswers s query (Err c) → NoLine c
+dods-no-line s query c is = (dods-query s query c is).1
 
 -- what a target asks of files has no cause of a failed read
 pub refused-calm : (told : Told) (files : Files) (a : Asked) (c : Cause) → AnswersAmong told a.kind files a.name a.query (Err c) → IsCalm c
 refused-calm told files a c is = go a.kind is where
   go : (kind : Rattle.dap_http.specs.declared.kind.Kind.Kind) → AnswersAmong told kind files a.name a.query (Err c) → IsCalm c
   go Ver e = cc e
-  go Das e = then-calm (OpensAmong told files a.name) (λ (s : Stored). Is (das_text s)) c (opens-calm told files a.name) (λ s n. cc n) e
-  go Dds e = then-calm (OpensAmong told files a.name) (λ (s : Stored). DdsAnswers s a.query) c (opens-calm told files a.name)
-      (λ s n. then-calm (Leaves s a.query) (λ (left : Left). Is (dds_text left.dataset)) c (leaves-calm s a.query) (λ (left : Left) m. large-calm (nat_lt 16777216 (length (dds left.dataset))) c (result_text Dds (dds left.dataset)) m) n) e
-  go Dods e = then-calm (OpensAmong told files a.name) (λ (s : Stored). DodsAnswers s a.query) c (opens-calm told files a.name)
-      (λ s n. then-calm (Leaves s a.query) (λ (left : Left). Is (dods_text left)) c (leaves-calm s a.query)
-      (λ (left : Left) m. unless-calm (option_map (λ leaf. TooLarge leaf) (too_large left.dataset)) (result_text Dods (body left.dataset left.trees)) c (leaf-calm (too_large left.dataset)) m) n) e
+  go Das e = then-so IsCalm (OpensAmong told files a.name) (λ (s : Stored). Is (das_text s)) c (opens-calm told files a.name) (λ s n. cc n) e
+  go Dds e = then-so IsCalm (OpensAmong told files a.name) (λ (s : Stored). DdsAnswers s a.query) c (opens-calm told files a.name) (λ s n. (dds-query s a.query c n).0) e
+  go Dods e = then-so IsCalm (OpensAmong told files a.name) (λ (s : Stored). DodsAnswers s a.query) c (opens-calm told files a.name) (λ s n. (dods-query s a.query c n).0) e

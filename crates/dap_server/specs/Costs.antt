@@ -1,8 +1,11 @@
 -- What answering a target may ask of a shelf (this project's).
-use Rattle.std.specs.Prelude.{◌≡◌, ℕ, ◌+◌, ◌*◌, Bool, true, false, ◌&&◌, List, [], ◌∷◌, ◌++◌, length, min, nat_lt, if◌then◌else◌, codes, is_some, Option, Some, None, Result, Ok, Err}
+use Rattle.std.specs.Prelude.{◌≡◌, ℕ, ◌+◌, ◌*◌, ◌≤◌, Bool, true, false, ◌&&◌, List, [], ◌∷◌, ◌++◌, length, min, nat_lt, if◌then◌else◌, codes, is_some, Option, Some, None, Result, Ok, Err}
 use Rattle.std.specs.Option.{option_map_or}
 use Rattle.dap_types.specs.Limits.{most_header, most_lines, most_piece, most_saved, most_table}
 use Rattle.dap_outside.specs.Files.{Told}
+use Rattle.dap_errors.specs.declared.cause.Cause.{Cause}
+use Rattle.dap_errors.specs.declared.cause.Cause.TheVariants.{Damaged}
+use Rattle.dap_errors.specs.declared.file_cause.FileCause.TheVariants.{BadMember, NoMember}
 use Rattle.dap_model.specs.Dds.{dds}
 use Rattle.dap_model.specs.Filter.{Marks, constrained}
 use Rattle.netcdf_source.specs.Header.{IsHeader}
@@ -38,6 +41,17 @@ asks_shelf a = is_of_file a.kind && is_some (form_of a.name)
 -- of so many files that are joined: their list, and the front of each
 abbrev pub most_of_joined : ℕ → ℕ
 most_of_joined count = most_piece + count * most_header
+
+-- where a line of a list is told, so many lines' files were read: those before a line that names none, and that
+-- of a line whose file has no header with them
+abbrev pub IsBehindLines : Cause → ℕ → Type 0
+IsBehindLines (Damaged (NoMember line)) count = line ≡ count + 1
+IsBehindLines (Damaged (BadMember line)) count = line ≡ count
+IsBehindLines other count = ⊥
+
+-- then their list and the front of each were asked at most
+abbrev pub IsAskedBefore : Cause → ℕ → ℕ → Type 0
+IsAskedBefore cause before now = (count : ℕ) → IsBehindLines cause count → now ≤ before + most_of_joined count
 
 -- the most that is read before an answer: the front of a netCDF file, another file whole, or a list and the
 -- front of each file that it names

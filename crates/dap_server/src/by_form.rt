@@ -2,8 +2,8 @@
 
 ghost use Rattle.std.specs.Prelude.{◌≡◌, ◌≢◌, ◌+◌, ◌≤◌, ℕ, List, IfOk, IfErr, IsTrue, Ok, Err, None, Some, is_some};
 ghost use Rattle.dap_outside.specs.Causes.{Rose};
-ghost use Rattle.dap_server.specs.Costs.{most_first};
-ghost use Rattle.dap_server.specs.Files.{form_of, is_joined};
+ghost use Rattle.dap_server.specs.Costs.{IsAskedBefore, most_first};
+ghost use Rattle.dap_server.specs.Files.{form_of, is_joined, joined};
 ghost use Rattle.dap_server.specs.Results.{result_text};
 ghost use Rattle.dap_server.specs.inner.Opening.{StaysBut, WhereFault, WhereRefused};
 ghost use Rattle.dap_server.specs.inner.Preparing.{MayGiveAs};
@@ -39,6 +39,7 @@ pub fn das_by_form<S: Shelf>(alloc: Global, shelf: &mut S, name: &str) -> Result
     ensures stays { StaysBut result (S.faults shelf.old) (S.faults shelf.new) }
     ensures files { S.files shelf.new ≡ S.files shelf.old }
     ensures asked { S.asked shelf.new ≤ S.asked shelf.old + most_first (S.files shelf.old) name.now }
+    ensures asked_before { form_of name.now ≡ Some joined → IfErr result (WhereRefused (λ why. IsAskedBefore why (S.asked shelf.old) (S.asked shelf.new))) }
     ensures untouched { form_of name.now ≡ None → shelf.new ≡ shelf.old }
 {
     if is_list(name) {
@@ -61,6 +62,7 @@ pub fn dds_by_form<S: Shelf>(
     ensures stays { StaysBut result (S.faults shelf.old) (S.faults shelf.new) }
     ensures files { S.files shelf.new ≡ S.files shelf.old }
     ensures asked { S.asked shelf.new ≤ S.asked shelf.old + most_first (S.files shelf.old) name.now }
+    ensures asked_before { form_of name.now ≡ Some joined → IfErr result (WhereRefused (λ why. IsAskedBefore why (S.asked shelf.old) (S.asked shelf.new))) }
     ensures untouched { form_of name.now ≡ None → shelf.new ≡ shelf.old }
 {
     if is_list(name) {

@@ -2,7 +2,7 @@
 
 ghost use Rattle.std.specs.Prelude.{◌≡◌, ◌+◌, ◌≤◌, ℕ, List, length, IfOk, IfErr, Ok, Err, Some};
 ghost use Rattle.dap_outside.specs.Causes.{Rose};
-ghost use Rattle.dap_server.specs.Costs.{most_first, most_of_joined};
+ghost use Rattle.dap_server.specs.Costs.{IsAskedBefore, most_first, most_of_joined};
 ghost use Rattle.dap_server.specs.Files.{form_of, joined};
 ghost use Rattle.dap_server.specs.Prepared.{IsJoinedFor};
 ghost use Rattle.dap_server.specs.Results.{result_text};
@@ -28,6 +28,7 @@ pub fn joined_das<S: Shelf>(alloc: Global, shelf: &mut S, name: &str) -> Result<
     ensures stays { StaysBut result (S.faults shelf.old) (S.faults shelf.new) }
     ensures files { S.files shelf.new ≡ S.files shelf.old }
     ensures asked { S.asked shelf.new ≤ S.asked shelf.old + most_first (S.files shelf.old) name.now }
+    ensures asked_before { IfErr result (WhereRefused (λ why. IsAskedBefore why (S.asked shelf.old) (S.asked shelf.new))) }
 {
     let (joined, _files) = open_joined(alloc, shelf, name)?;
     Ok(joined_das_text(alloc, &joined)?)
@@ -48,6 +49,7 @@ pub fn joined_dds<S: Shelf>(
     ensures stays { StaysBut result (S.faults shelf.old) (S.faults shelf.new) }
     ensures files { S.files shelf.new ≡ S.files shelf.old }
     ensures asked { S.asked shelf.new ≤ S.asked shelf.old + most_first (S.files shelf.old) name.now }
+    ensures asked_before { IfErr result (WhereRefused (λ why. IsAskedBefore why (S.asked shelf.old) (S.asked shelf.new))) }
 {
     let (joined, _files) = open_joined(alloc, shelf, name)?;
     joined_dds_text(alloc, &joined, query)
@@ -68,6 +70,7 @@ pub fn joined_dods<S: Shelf>(
     ensures stays { StaysBut result (S.faults shelf.old) (S.faults shelf.new) }
     ensures files { S.files shelf.new ≡ S.files shelf.old }
     ensures asked { S.asked shelf.new ≤ S.asked shelf.old + most_first (S.files shelf.old) name.now }
+    ensures asked_before { IfErr result (WhereRefused (λ why. IsAskedBefore why (S.asked shelf.old) (S.asked shelf.new))) }
     ensures asked_lines { IfOk result (λ p. S.asked shelf.new ≤ S.asked shelf.old + most_of_joined (length p.1)) }
 {
     let (joined, files) = open_joined(alloc, shelf, name)?;

@@ -8,7 +8,7 @@ ghost use Rattle.netcdf_source.specs.Header.{IsHeader};
 ghost use Rattle.join_source.specs.Names.{is_member_name};
 ghost use Rattle.dap_server.specs.Headers.{IsHeaderCause, front};
 ghost use Rattle.dap_server.specs.Joins.{IsMember, Member, Members};
-ghost use Rattle.dap_server.specs.inner.Members.{AreFilesOf, AreHeadersOf, bad_member, IsFileOf, IsHeaderOf, most_in_line, most_in_lines};
+ghost use Rattle.dap_server.specs.inner.Members.{AreFilesOf, AreHeadersOf, AsksLine, AsksLines, bad_member, IsFileOf, IsHeaderOf, most_in_line, most_in_lines};
 ghost use Rattle.dap_server.specs.inner.Opening.{IsRead, StaysBut, WhereFault, WhereRefused};
 
 use crate::front::open_netcdf;
@@ -41,6 +41,7 @@ fn text_of(name: &[u8]) -> &str
 fn find_member<S: Shelf>(shelf: &mut S, name: &str, line: u32) -> Result<S::File, Stop>
     ensures found { IfOk result (λ file. Finds (S.files shelf.old) (S.name_of shelf.new) (S.content shelf.new) name.now (Some file)) }
     ensures refused { IfErr result (WhereRefused (λ cause. IsMember (S.files shelf.old) line name.now (Err cause))) }
+    ensures missing { IfErr result (WhereRefused (λ cause. cause ≡ Cause.Damaged (FileCause.NoMember line))) }
     ensures why { IfErr result (WhereFault (Rose (S.faults shelf.old) (S.faults shelf.new))) }
     ensures later { S.faults shelf.old ≤ S.faults shelf.new }
     ensures stays { StaysBut result (S.faults shelf.old) (S.faults shelf.new) }
@@ -110,6 +111,7 @@ fn open_member<S: Shelf>(
     ensures contents { S.content shelf.new ≡ S.content shelf.old }
     ensures sizes { S.size_of shelf.new ≡ S.size_of shelf.old }
     ensures asked { S.asked shelf.new ≤ S.asked shelf.old + most_in_line (S.files shelf.old) name.now }
+    ensures asked_before { IfErr result (WhereRefused (λ cause. AsksLine line cause (S.asked shelf.old) (S.asked shelf.new))) }
 {
     let mut file = find_member(shelf, text_of(name), line)?;
     let header = member_header(alloc, shelf, &mut file, line)?;
@@ -134,6 +136,7 @@ pub fn open_members<S: Shelf>(
     ensures contents { S.content shelf.new ≡ S.content shelf.old }
     ensures sizes { S.size_of shelf.new ≡ S.size_of shelf.old }
     ensures asked { S.asked shelf.new ≤ S.asked shelf.old + most_in_lines (S.files shelf.old) names.now }
+    ensures asked_before { IfErr result (WhereRefused (λ cause. AsksLines cause (S.asked shelf.old) (S.asked shelf.new))) }
 {
     let mut headers = List::new(alloc);
     let mut files = List::new(alloc);

@@ -5,8 +5,8 @@ ghost use Rattle.dap_errors.specs.declared.cause.Cause.{Cause};
 ghost use Rattle.dap_outside.specs.Causes.{Rose};
 ghost use Rattle.dap_outside.specs.Files.{IsBytes};
 ghost use Rattle.xdr_encode.specs.Bodies.{FitsFile, HasNoFile, MayAsk, cost_in, text_in};
-ghost use Rattle.dap_server.specs.Costs.{IsCost, IsCostAt, asks_shelf, most_first, most_of_joined};
-ghost use Rattle.dap_server.specs.Files.{form_of, is_read_first, saved};
+ghost use Rattle.dap_server.specs.Costs.{IsAskedBefore, IsCost, IsCostAt, asks_shelf, most_first, most_of_joined};
+ghost use Rattle.dap_server.specs.Files.{form_of, is_read_first, joined, saved};
 ghost use Rattle.dap_server.specs.Prepared.{IsFor, IsJoinedFor, IsOver, MayGive, MustGive, WhereBody, WhereJoined, WhereNoShelfFault, WhereRefuse, WhereSaved, WhereShelfFault, WhereText, asked_of};
 ghost use Rattle.saved_source.specs.Bodies.{Sends};
 ghost use Rattle.dap_server.specs.Results.{Text, result_text};
@@ -91,6 +91,7 @@ fn data_answer<R: Threads + Sync, S: Shelf>(
     ensures kept { WhereNoShelfFault result (S.faults shelf.new ≡ S.faults shelf.old) }
     ensures files { S.files shelf.new ≡ S.files shelf.old }
     ensures asked { S.asked shelf.new ≤ S.asked shelf.old + most_first (S.files shelf.old) name.now }
+    ensures asked_before { form_of name.now ≡ Some joined → WhereRefuse result (λ cause. IsAskedBefore cause (S.asked shelf.old) (S.asked shelf.new)) }
     ensures asked_lines { WhereJoined result (λ body files. S.asked shelf.new ≤ S.asked shelf.old + most_of_joined (length files)) }
     ensures untouched { form_of name.now ≡ None → shelf.new ≡ shelf.old }
 {
@@ -120,6 +121,7 @@ fn answer_of<R: Threads + Sync, S: Shelf>(
     ensures kept { WhereNoShelfFault result (S.faults shelf.new ≡ S.faults shelf.old) }
     ensures files { S.files shelf.new ≡ S.files shelf.old }
     ensures asked { S.asked shelf.new ≤ S.asked shelf.old + most_first (S.files shelf.old) target.now.name }
+    ensures asked_before { form_of target.now.name ≡ Some joined → WhereRefuse result (λ cause. IsAskedBefore cause (S.asked shelf.old) (S.asked shelf.new)) }
     ensures asked_lines { WhereJoined result (λ body files. S.asked shelf.new ≤ S.asked shelf.old + most_of_joined (length files)) }
     ensures untouched { asks_shelf (asked_of target.now) ≡ false → shelf.new ≡ shelf.old }
 {
@@ -186,6 +188,9 @@ pub fn prepare<R: Threads + Sync, S: Shelf>(
 
     // Of joined files no more than their list and the front of each, also where the shelf tells no files.
     ensures asked_lines { WhereJoined result (λ body files. S.asked shelf.new ≤ S.asked shelf.old + most_of_joined (length files)) }
+
+    // Where a line of a list is told, its list and the front of each file up to that line.
+    ensures asked_before { form_of target.now.name ≡ Some joined → WhereRefuse result (λ cause. IsAskedBefore cause (S.asked shelf.old) (S.asked shelf.new)) }
 
     ensures untouched { asks_shelf (asked_of target.now) ≡ false → shelf.new ≡ shelf.old }
 {

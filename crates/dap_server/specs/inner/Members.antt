@@ -1,13 +1,14 @@
 -- The files of the lines of a list, as a shelf gives them.
-use Rattle.std.specs.Prelude.{◌≡◌, ℕ, ◌*◌, List, length, min, Option, Some, None, IsSome}
+use Rattle.std.specs.Prelude.{◌≡◌, ◌≤◌, ℕ, ◌+◌, ◌*◌, List, length, min, Option, Some, None, IsSome}
 use Rattle.std.specs.List.{AllZip}
 use Rattle.std.specs.Option.{option_map_or}
 use Rattle.dap_types.specs.Limits.{most_header}
 use Rattle.dap_outside.specs.Files.{Told}
 use Rattle.netcdf_source.specs.File.{FileHeader}
+use Rattle.dap_errors.specs.declared.cause.Cause.{Cause}
 use Rattle.dap_errors.specs.declared.cause.Cause.TheVariants.{Damaged}
 use Rattle.dap_errors.specs.declared.file_cause.FileCause.TheVariants.{BadMember}
-use Rattle.dap_server.specs.Costs.{most_of_names}
+use Rattle.dap_server.specs.Costs.{IsBehindLines, most_of_names}
 use Rattle.dap_server.specs.Joins.{Member}
 use Rattle.dap_server.specs.inner.Opening.{IsRead}
 use Rattle.dap_server.specs.declared.no_answer.Stop.{Stop}
@@ -36,6 +37,13 @@ most_in_line (Some files) name = option_map_or (λ file. min (length file) most_
 abbrev pub most_in_lines : Told → List (List ℕ) → ℕ
 most_in_lines None names = length names * most_header
 most_in_lines (Some files) names = most_of_names files names
+
+-- where a line is told, the fronts of so many files were asked in it and before it
+abbrev pub AsksLine : ℕ → Cause → ℕ → ℕ → Type 0
+AsksLine line cause before now = (count : ℕ) → IsBehindLines cause count → now + line * most_header ≤ before + (count + 1) * most_header
+
+abbrev pub AsksLines : Cause → ℕ → ℕ → Type 0
+AsksLines cause before now = (count : ℕ) → IsBehindLines cause count → now ≤ before + count * most_header
 
 -- the stop of a line whose file has no header for that stop
 abbrev pub bad_member : ℕ → Stop → Stop

@@ -15,3 +15,9 @@ returns-then-is_list-clause-why g c = with_form (form_of c.args.name.now) _ c.jo
 
 pub returns-then-is_list-clause-untouched : goal.returns-then-is_list-clause-untouched
 returns-then-is_list-clause-untouched g c = λ none. not_formless (form_of c.args.name.now) (list_form (form_of c.args.name.now) (sym c.is_list.ensures ∙ c.if-is_list.true)) none
+
+pub returns-then-is_list-clause-asked_before : goal.returns-then-is_list-clause-asked_before
+returns-then-is_list-clause-asked_before g c = λ form. c.joined_das.ensures.asked_before
+
+pub returns-clause-asked_before : goal.returns-clause-asked_before
+returns-clause-asked_before g c = λ form. absurd (no_list_form (form_of c.args.name.now) (sym c.is_list.ensures ∙ c.if-is_list.false) form)

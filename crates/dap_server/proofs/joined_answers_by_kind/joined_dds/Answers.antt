@@ -1,7 +1,11 @@
 use Rattle.std.proofs.Common.{rules, Err}
 use Rattle.dap_http.specs.declared.kind.Kind.TheVariants.{Dds}
+use Rattle.dap_server.proofs.AskedBefore.{left_asked}
 use Rattle.dap_server.proofs.JoinsGiven as given
 use Rattle.dap_server.proofs.Making as making
+use Rattle.dap_server.proofs.Refusals.{dds-no-line}
+use Rattle.join_source.specs.Joins.{members_in, name_in}
+use Rattle.dap_server.specs.Joins.{stored_together}
 use Rattle.dap_server.specs.Results.{DdsAnswers, result_text}
 use Rattle.dap_server.specs.inner.Opening.{WhereRefused}
 use Rattle.dap_server.specs.inner.Preparing.{MayGiveAs}
@@ -26,3 +30,8 @@ returns-clause-why g c = making.no_fault c.joined_dds_text.result _ c.joined_dds
 
 pub returns-clause-stays : goal.returns-clause-stays
 returns-clause-stays g c = making.still_stays c.joined_dds_text.result _ _ c.in_ok-joined.ensures.stays
+
+pub returns-clause-asked_before : goal.returns-clause-asked_before
+returns-clause-asked_before g c =
+    left_asked (λ s. DdsAnswers s c.args.query.now) (stored_together (name_in c.in_ok-joined.joined) (members_in c.in_ok-joined.joined)) c.joined_dds_text.result _ _
+    (λ s cause. dds-no-line s c.args.query.now cause) c.joined_dds_text.ensures.refused

@@ -1,6 +1,9 @@
 use Rattle.std.proofs.Common.{rules, arith, Err, Some, subst}
+use Rattle.dap_server.proofs.AskedBefore.{missing_line, spoiled_line}
 use Rattle.dap_server.proofs.Found.{by_text, first_read, read_member, spoiled}
+use Rattle.dap_server.proofs.JoinedSending.{for_refused}
 use Rattle.dap_server.specs.Joins.{IsMember}
+use Rattle.dap_server.specs.inner.Members.{AsksLine}
 use Rattle.dap_server.specs.inner.Opening.{WhereRefused}
 use Rattle.dap_server.proofs.members.open_member.Goals as goal
 
@@ -40,3 +43,15 @@ returns-clause-asked g c =
 
 pub returns-in_err-file-clause-asked : goal.returns-in_err-file-clause-asked
 returns-in_err-file-clause-asked g c = omega (arith, c.in_err-file.ensures.asked)
+
+pub returns-in_err-file-clause-asked_before : goal.returns-in_err-file-clause-asked_before
+returns-in_err-file-clause-asked_before g c =
+    let stop : WhereRefused (λ cause. AsksLine c.args.line cause (g.S.Shelf.asked c.args.shelf.now) (g.S.Shelf.asked c.find_member.new.shelf)) c.in_err-file.field-0.0 =
+    for_refused (λ cause is. missing_line c.args.line cause _ _ c.in_err-file.ensures.asked is) c.in_err-file.field-0.0 c.in_err-file.ensures.missing in
+    search (rules, stop)
+
+pub returns-in_err-header-clause-asked_before : goal.returns-in_err-header-clause-asked_before
+returns-in_err-header-clause-asked_before g c =
+    let stop : WhereRefused (λ cause. AsksLine c.args.line cause (g.S.Shelf.asked c.args.shelf.now) (g.S.Shelf.asked c.member_header.new.shelf)) c.in_err-header.field-0.0 =
+    for_refused (λ cause (bytes, why, read, is, e). spoiled_line c.args.line cause _ _ (omega (arith, c.in_err-header.ensures.asked, c.in_ok-file.ensures.asked)) e) c.in_err-header.field-0.0 c.in_err-header.ensures.refused in
+    search (rules, stop)

@@ -1,8 +1,11 @@
-use Rattle.std.proofs.Common.{◌∙◌, ◌≤◌, ap, Err, arith, length, rules, subst, sym}
+use Rattle.std.proofs.Common.{◌∙◌, ◌+◌, ◌≤◌, ap, Err, arith, length, rules, subst, sym}
+use Rattle.dap_server.proofs.AskedBefore as before
+use Rattle.dap_server.proofs.JoinedSending.{for_refused}
 use Rattle.dap_server.proofs.ListNames.{AreNames}
 use Rattle.dap_server.proofs.OpeningLists as opening
+use Rattle.dap_server.specs.Costs.{IsAskedBefore}
 use Rattle.dap_server.specs.Joins.{Members}
-use Rattle.dap_server.specs.inner.Joining.{MayOpen}
+use Rattle.dap_server.specs.inner.Joining.{MayOpen, most_of_size}
 use Rattle.dap_server.specs.inner.Members.{most_in_lines}
 use Rattle.dap_server.specs.inner.Opening.{WhereRefused}
 use Rattle.dap_server.proofs.open_joined.open_joined.Goals as goal
@@ -99,3 +102,28 @@ returns-clause-asked_lines g c =
     (subst (λ ns. opening.Lines (g.S.Shelf.files c.open_list.new.shelf) (g.S.Shelf.content c.open_members.new.shelf) (g.S.Shelf.size_of c.open_members.new.shelf) ns c.in_ok-members.members.headers c.in_ok-members.members.files) c.items.ensures c.in_ok-members.ensures.members) in
     let lines = ap (most_in_lines (g.S.Shelf.files c.open_list.new.shelf)) c.items.ensures in
     omega (arith, most, lines, c.in_ok-members.ensures.asked, c.in_ok-names.ensures.asked, c.in_ok-list.ensures.asked)
+
+pub returns-in_err-list-clause-asked_before : goal.returns-in_err-list-clause-asked_before
+returns-in_err-list-clause-asked_before g c =
+    let stop : WhereRefused (λ cause. IsAskedBefore cause (g.S.Shelf.asked c.args.shelf.now) (g.S.Shelf.asked c.find.new.shelf)) c.in_err-list.field-0.0 =
+    for_refused (λ cause (is, missing). before.no_line cause _ _ (before.no_file cause is)) c.in_err-list.field-0.0 c.in_err-list.ensures.refused in
+    search (rules, stop)
+
+pub returns-in_err-names-clause-asked_before : goal.returns-in_err-names-clause-asked_before
+returns-in_err-names-clause-asked_before g c =
+    let stop : WhereRefused (λ cause. IsAskedBefore cause (g.S.Shelf.asked c.args.shelf.now) (g.S.Shelf.asked c.open_list.new.shelf)) c.in_err-names.field-0.0 =
+    for_refused (λ cause (bytes, read, lists). before.no_line cause _ _ (before.no_list bytes cause lists)) c.in_err-names.field-0.0 c.in_err-names.ensures.refused in
+    search (rules, stop)
+
+pub returns-in_err-members-clause-asked_before : goal.returns-in_err-members-clause-asked_before
+returns-in_err-members-clause-asked_before g c =
+    let listed : g.S.Shelf.asked c.open_list.new.shelf ≤ g.S.Shelf.asked c.args.shelf.now + most_of_size (g.S.Shelf.size_of c.find.new.shelf c.in_ok-list.list) = omega (arith, c.in_ok-names.ensures.asked, c.in_ok-list.ensures.asked) in
+    let stop : WhereRefused (λ cause. IsAskedBefore cause (g.S.Shelf.asked c.args.shelf.now) (g.S.Shelf.asked c.open_members.new.shelf)) c.in_err-members.field-0.0 =
+    for_refused (λ cause lines. before.with_list (g.S.Shelf.size_of c.find.new.shelf c.in_ok-list.list) _ _ _ cause listed lines) c.in_err-members.field-0.0 c.in_err-members.ensures.asked_before in
+    search (rules, stop)
+
+pub returns-in_err-joined-clause-asked_before : goal.returns-in_err-joined-clause-asked_before
+returns-in_err-joined-clause-asked_before g c =
+    let stop : WhereRefused (λ cause. IsAskedBefore cause (g.S.Shelf.asked c.args.shelf.now) (g.S.Shelf.asked c.open_members.new.shelf)) c.in_err-joined.field-0.0 =
+    for_refused (λ cause is. before.no_line cause _ _ (before.not_together _ _ _ _ _ _ c.args.name.now cause c.in_ok-members.ensures.members is)) c.in_err-joined.field-0.0 c.in_err-joined.ensures.refused in
+    search (rules, stop)

@@ -1,7 +1,10 @@
 use Rattle.dap_http.specs.declared.kind.Kind.TheVariants.{Das, Dds, Dods, Ver}
-use Rattle.std.proofs.Common.{refl}
+use Rattle.std.proofs.Common.{◌∙◌, ap, refl}
+use Rattle.dap_server.proofs.AskedBefore.{text_refuses}
 use Rattle.dap_server.proofs.JoinsMade.{made_for, text_no_files}
 use Rattle.dap_server.proofs.Making as making
+use Rattle.dap_server.specs.Costs.{IsAskedBefore}
+use Rattle.dap_server.specs.Files.{form_of}
 use Rattle.dap_server.proofs.preparing.answer_of.Goals as goal
 
 pub returns-in-Ver-clause-made : goal.returns-in-Ver-clause-made
@@ -58,3 +61,21 @@ returns-in-Dds-clause-asked_lines g c = text_no_files _ Dds c.dds_by_form.result
 
 pub returns-in-Dods-clause-asked_lines : goal.returns-in-Dods-clause-asked_lines
 returns-in-Dods-clause-asked_lines g c = c.data_answer.ensures.asked_lines
+
+pub returns-in-Ver-clause-asked_before : goal.returns-in-Ver-clause-asked_before
+returns-in-Ver-clause-asked_before g c = λ form.
+    text_refuses (λ cause. IsAskedBefore cause (g.S.Shelf.asked c.args.shelf.now) (g.S.Shelf.asked c.args.shelf.now)) Ver c.version_answer.result c.text_prepared.result c.text_prepared.ensures
+    (making.no_refusal c.version_answer.result _ c.version_answer.ensures.refused)
+
+pub returns-in-Das-clause-asked_before : goal.returns-in-Das-clause-asked_before
+returns-in-Das-clause-asked_before g c = λ form.
+    text_refuses (λ cause. IsAskedBefore cause (g.S.Shelf.asked c.args.shelf.now) (g.S.Shelf.asked c.das_by_form.new.shelf)) Das c.das_by_form.result c.text_prepared-in-Das.result c.text_prepared-in-Das.ensures
+    (c.das_by_form.ensures.asked_before (ap form_of c.as_str-name.ensures ∙ form))
+
+pub returns-in-Dds-clause-asked_before : goal.returns-in-Dds-clause-asked_before
+returns-in-Dds-clause-asked_before g c = λ form.
+    text_refuses (λ cause. IsAskedBefore cause (g.S.Shelf.asked c.args.shelf.now) (g.S.Shelf.asked c.dds_by_form.new.shelf)) Dds c.dds_by_form.result c.text_prepared-in-Dds.result c.text_prepared-in-Dds.ensures
+    (c.dds_by_form.ensures.asked_before (ap form_of c.as_str-name.ensures ∙ form))
+
+pub returns-in-Dods-clause-asked_before : goal.returns-in-Dods-clause-asked_before
+returns-in-Dods-clause-asked_before g c = λ form. c.data_answer.ensures.asked_before (ap form_of c.as_str-name.ensures ∙ form)

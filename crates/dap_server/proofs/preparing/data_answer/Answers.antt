@@ -1,8 +1,9 @@
 use Rattle.std.proofs.Common.{◌∙◌, ◌+◌, ◌≤◌, length, sym}
+use Rattle.dap_server.proofs.AskedBefore.{join_refuses}
 use Rattle.dap_server.proofs.JoinsMade.{body_no_files, join_files, join_made, join_stays, with_form}
 use Rattle.dap_server.proofs.ListForms.{list_form, no_list_form, not_formless}
 use Rattle.dap_server.proofs.Making as making
-use Rattle.dap_server.specs.Costs.{most_of_joined}
+use Rattle.dap_server.specs.Costs.{IsAskedBefore, most_of_joined}
 use Rattle.dap_server.specs.Files.{form_of}
 use Rattle.dap_server.proofs.preparing.data_answer.Goals as goal
 
@@ -38,3 +39,10 @@ returns-then-is_list-clause-asked_lines g c =
 
 pub returns-clause-asked_lines : goal.returns-clause-asked_lines
 returns-clause-asked_lines g c = body_no_files _ c.dods_answer.result c.body_prepared.result c.body_prepared.ensures
+
+pub returns-then-is_list-clause-asked_before : goal.returns-then-is_list-clause-asked_before
+returns-then-is_list-clause-asked_before g c = λ form.
+    join_refuses (λ cause. IsAskedBefore cause (g.S.Shelf.asked c.args.shelf.now) (g.S.Shelf.asked c.joined_dods.new.shelf)) c.joined_dods.result c.join_prepared.result c.join_prepared.ensures c.joined_dods.ensures.asked_before
+
+pub returns-clause-asked_before : goal.returns-clause-asked_before
+returns-clause-asked_before g c = λ form. absurd (no_list_form (form_of c.args.name.now) (sym c.is_list.ensures ∙ c.if-is_list.false) form)

@@ -54,3 +54,6 @@ returns-clause-shelf_fault g c = c.answer_of.ensures.made.shelf_fault
 
 pub returns-clause-asked_lines : goal.returns-clause-asked_lines
 returns-clause-asked_lines g c = c.answer_of.ensures.asked_lines
+
+pub returns-clause-asked_before : goal.returns-clause-asked_before
+returns-clause-asked_before g c = c.answer_of.ensures.asked_before
