@@ -29,12 +29,12 @@ lifted form c reply behind rest text ended (ServerError code message) has (body,
 lifted form c reply behind rest text ended (BadReply field) has (inl b) =
     inl (record {
       body = b.body;
-      brings = (c, b.front, b.behind, subst (λ (t : List ℕ). HasCoding reply c t) b.parts has, b.comes);
+      brings = (c, b.brings.0, b.brings.1, subst (λ (t : List ℕ). HasCoding reply c t) b.brings.2 has, b.brings.3);
       lasting = b.lasting;
       shows = b.shows;
     })
 lifted form c reply behind rest text ended (BadReply field) has (inr (inl b)) =
-    inr (inl (record { body = b.body; delivers = record { coding = c; behind = behind; has_coding = has; is_whole = b.is_whole }; verdict = b.verdict; shows = b.shows }))
+    inr (inl (record { body = b.body; delivers = record { coding = c; behind = behind; has_coding = has; is_whole = b.delivers }; verdict = b.verdict; shows = b.shows }))
 lifted form c reply behind rest text ended (BadReply field) has (inr (inr b)) =
     inr (inr (record { body = b.body; wrong = b.wrong; front = b.front; breaks = inr (c, behind, has, b.breaks); verdict = b.verdict; is_first = b.is_first; shows = b.shows }))
 lifted form c reply behind rest text ended ReadFault has (body, come, shows) = (body, inl (c, behind, has, come), shows)

@@ -18,7 +18,7 @@ use Rattle.dap_client.proofs.OneVerdict.{one_verdict}
 use Rattle.dap_client.proofs.TextBodies.{goes_first}
 use Rattle.dap_client.specs.Answered.{BringsBad, IsLasting, Tells}
 use Rattle.dap_client.specs.Outcomes.{Answers, outcome_of}
-use Rattle.dap_client.specs.Replies.{IsReplyVerdict, first_of}
+use Rattle.dap_client.specs.Replies.{BringsFirst, IsReplyVerdict, first_of}
 use Rattle.dap_client.specs.Verdict.{Form, IsVerdict, Judges, JudgesDas, JudgesDasText, JudgesDds, JudgesDods, JudgesError, Verdict, bad, das_form, dds_form, dods_form, is_final, server_error}
 use Rattle.dap_client.specs.declared.outcome.Outcome.{Outcome}
 use Rattle.dap_client.specs.declared.outcome.Outcome.TheVariants.{Complete, ServerError, BadReply, ReadFault, WriteFault, LinkFault, Memory}
@@ -90,7 +90,7 @@ by_verdict : (n m : ℕ) (v w : Verdict) (o : Outcome) → (n ≡ m) × (v ≡ w
 by_verdict n m v w o (lengths, same) told = sym told ∙ ap (λ k. outcome_of k w) (sym lengths) ∙ ap (outcome_of n) (sym same)
 
 brought : (form : Form) (taken more : List ℕ) (coding : Coding) (behind text : List ℕ) (n : ℕ) (v : Verdict) (field : BadField) → HasCoding (taken ++ more) coding behind → IsReplyVerdict form (taken ++ more) n v
-    → BringsBad form taken field text → BadReply field ≡ outcome_of n v
+    → BringsBad form (λ body. BringsFirst taken body) field text → BadReply field ≡ outcome_of n v
 brought form taken more coding behind text n v field has given b = go given
   where
     c : Coding

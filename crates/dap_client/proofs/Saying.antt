@@ -23,7 +23,7 @@ use Rattle.dap_model.specs.Tokens.{Token, tokens_of}
 use Rattle.dap_client.specs.Answered.{BringsBad, Tells}
 use Rattle.dap_client.specs.Fetched.{IsFirst, SaysVerdict}
 use Rattle.dap_client.specs.Outcomes.{outcome_of}
-use Rattle.dap_client.specs.Replies.{IsReplyVerdict, first_of}
+use Rattle.dap_client.specs.Replies.{BringsFirst, IsReplyVerdict, first_of}
 use Rattle.dap_client.specs.Verdict.{Form, Judges, JudgesDas, JudgesDasText, JudgesDds, JudgesError, Verdict, IsVerdict, bad, das_form, dds_form, dods_form, is_fault, is_final, server_error}
 use Rattle.dap_client.specs.declared.outcome.Outcome.{Outcome}
 use Rattle.dap_client.specs.declared.outcome.Outcome.TheVariants.{Complete, ServerError, BadReply, ReadFault, WriteFault, LinkFault, Memory}
@@ -149,7 +149,7 @@ first-is kind place wrong is = sym (ap (λ b. if b then bad kind place else bad 
 
 -- ---- what is told of a reply
 
-brought : (form : Form) (bytes more : List ℕ) (field : BadField) (text : List ℕ) → BringsBad form bytes field text → (n : ℕ) × IsReplyVerdict form (bytes ++ more) n (bad field.kind field.place)
+brought : (form : Form) (bytes more : List ℕ) (field : BadField) (text : List ℕ) → BringsBad form (λ body. BringsFirst bytes body) field text → (n : ℕ) × IsReplyVerdict form (bytes ++ more) n (bad field.kind field.place)
 brought form bytes more field text b = go (comes coding front (after ++ more) b.body come) where
   coding : Coding
   coding = b.brings.0

@@ -57,11 +57,8 @@ part-told form p r bytes body put ended (BadReply field) follows small time (wit
     let n = 2 ^ 40 - length body in
     let o = opened p bytes (body ++ part) follows in
     inl (record {
-      front = o.used;
-      behind = waiting p;
       body = body ++ part;
-      parts = o.parts;
-      comes = come-now p bytes (body ++ part) o;
+      brings = (o.used, waiting p, o.parts, come-now p bytes (body ++ part) o);
       lasting = λ more. subst (λ (t : List ℕ). IsVerdict form t (bad field.kind field.place)) (sym (ap (λ t. t ++ more) (joined body part n) ∙ append_assoc (body ++ take n part) (drop n part) more)) (lasting (drop n part ++ more));
       shows = subst (λ (t : List ℕ). ShowsRefused form t put) (sym (ap (take field.place) (joined body part n) ∙ take-append-le field.place (body ++ take n part) (drop n part) within)) shows;
     })
@@ -90,7 +87,7 @@ pub end-told : (form : Form) (p : BodyParts) (bytes body put : List ℕ) (ended 
     → IsFinished form body put outcome → TellsBehind form (body_coding p) bytes ended p put outcome
 end-told form p bytes body put ended (Complete n) whole small time (v, is, told, text) = (body, v, whole, is, told, text)
 end-told form p bytes body put ended (ServerError code message) whole small time (is, nothing) = (body, whole, is, nothing)
-end-told form p bytes body put ended (BadReply field) whole small time (is, shows) = inr (inl (record { body = body; is_whole = whole; verdict = is; shows = shows }))
+end-told form p bytes body put ended (BadReply field) whole small time (is, shows) = inr (inl (record { body = body; delivers = whole; verdict = is; shows = shows }))
 end-told form p bytes body put ended ReadFault whole small time none = absurd none
 end-told form p bytes body put ended LinkFault whole small time none = absurd none
 end-told form p bytes body put ended WriteFault whole small time shows = unput-whole form (body_coding p) bytes (waiting p) body put ended small whole shows

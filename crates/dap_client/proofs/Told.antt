@@ -16,7 +16,7 @@ use Rattle.reply_faults.specs.declared.bad.BadField.{BadField}
 use Rattle.dap_client.proofs.Filling.{budget_is, values_lines}
 use Rattle.dap_client.proofs.OneVerdict.{one_verdict}
 use Rattle.dap_client.specs.Outcomes.{Answers, OnBadReply, OnComplete, OnLinkFault, OnMemory, OnReadFault, OnServerError, OnWriteFault, WhereNothingPut, WhereWhole, outcome_of}
-use Rattle.dap_client.specs.Shows.{BreaksOff, Gains, HasFewValues, StopsWithin, Takes}
+use Rattle.dap_client.specs.Shows.{BreaksOff, Gains, HasFewValues, IsWrongTaken, StopsWithin, Takes}
 use Rattle.dap_client.specs.Verdict.{Verdict, IsVerdict, bad, dods_form, good, server_error}
 use Rattle.dap_client.specs.inner.Readers.{HasFailed, IsFinished, Stands, ReaderStandsAfter, StaysBadReply, is_open, taken_of}
 use Rattle.dap_client.specs.inner.Showing.{Reads, ReadsOn}
@@ -131,10 +131,6 @@ on_server_error left now written text Closed ReadFault e = tt
 on_server_error left now written text Closed LinkFault e = tt
 on_server_error left now written text Closed WriteFault e = tt
 on_server_error left now written text Closed Memory e = tt
-
--- the bytes that were taken are all, or what is wrong stays so
-abbrev pub IsWrongTaken : Type 0 → Type 0 → BadField → List ℕ → Type 0
-IsWrongTaken Ended AtEnd field taken = (Ended × AtEnd × IsVerdict dods_form taken (bad field.kind field.place)) ⊎ ((more : List ℕ) → IsVerdict dods_form (taken ++ more) (bad field.kind field.place))
 
 pub on_bad_reply : (left now written text : Option (List ℕ)) (Closed Ended AtEnd : Type 0) (o : Outcome) → Ends left now written text Closed o → Closed ⊎ (Ended × AtEnd)
     → OnBadReply (λ field. Takes left now (λ taken. IsWrongTaken Ended AtEnd field taken × Gains written text (ShowsLines (take field.place taken)))) o

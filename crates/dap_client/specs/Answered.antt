@@ -77,26 +77,26 @@ TakesFewValues reply = (front more : List ℕ) → reply ≡ front ++ more → B
 abbrev pub IsLasting : Form → List ℕ → BadField → Type 0
 IsLasting form body field = (more : List ℕ) → IsVerdict form (body ++ more) (bad field.kind field.place)
 
-pub record BringsBad (form : Form) (reply : List ℕ) (field : BadField) (text : List ℕ) : Type 0 where
+pub record BringsBad (form : Form) (Brings : List ℕ → Type 0) (field : BadField) (text : List ℕ) : Type 0 where
   pub body : List ℕ
-  pub brings : BringsFirst reply body
+  pub brings : Brings body
   pub lasting : IsLasting form body field
   pub shows : ShowsRefused form (take field.place body) text
 
 -- the body has ended, and is bad
-pub record DeliversBad (form : Form) (reply : List ℕ) (ended : Bool) (rest : List ℕ) (field : BadField) (text : List ℕ) : Type 0 where
+pub record DeliversBad (form : Form) (Ends : List ℕ → Type 0) (field : BadField) (text : List ℕ) : Type 0 where
   pub body : List ℕ
-  pub delivers : Delivers reply ended body rest
+  pub delivers : Ends body
   pub verdict : IsVerdict form body (bad field.kind field.place)
   pub shows : ShowsRefused form (take field.place body) text
 
 -- the heads are wrong, or the framing is bad or cut; what is wrong with the bytes of the body that came
 -- goes first
-pub record BreaksBad (form : Form) (reply : List ℕ) (ended : Bool) (field : BadField) (text : List ℕ) : Type 0 where
+pub record BreaksBad (form : Form) (Breaks : List ℕ → BadField → Type 0) (field : BadField) (text : List ℕ) : Type 0 where
   pub body : List ℕ
   pub wrong : BadField
   pub front : Verdict
-  pub breaks : BreaksOff reply ended body wrong
+  pub breaks : Breaks body wrong
   pub verdict : IsVerdict form body front
   pub is_first : bad field.kind field.place ≡ first_of front wrong
   pub shows : ShowsRefused form (good_part front body) text
@@ -111,7 +111,8 @@ Tells form reply ended rest text (Complete n) =
 Tells form reply ended rest text (ServerError code message) =
     (body : List ℕ) × Delivers reply ended body rest × IsVerdict form body (server_error (record { code = code; message = message })) × (text ≡ [])
 Tells form reply ended rest text (BadReply field) =
-    BringsBad form reply field text ⊎ (DeliversBad form reply ended rest field text ⊎ BreaksBad form reply ended field text)
+    BringsBad form (λ body. BringsFirst reply body) field text
+    ⊎ (DeliversBad form (λ body. Delivers reply ended body rest) field text ⊎ BreaksBad form (λ body wrong. BreaksOff reply ended body wrong) field text)
 Tells form reply ended rest text ReadFault =
     (body : List ℕ) × Brings reply body × ShowsStopped form body text
 Tells form reply ended rest text WriteFault = ShowsUnput form reply ended rest text

@@ -7,6 +7,8 @@ use Rattle.std.specs.Option.{option_map}
 use Rattle.std.specs.Io.KnownBytes.{Appends, Consumes}
 use Rattle.dap_outside.specs.Causes.{Rose}
 use Rattle.dap_outside.specs.Links.{IsNew, LinkState}
+use Rattle.dap_outside.specs.declared.streams.Source.{Ghosts as Reading}
+use Rattle.dap_outside.specs.declared.streams.Sink.{Ghosts as Writing}
 use Rattle.dap_outside.specs.Streams.{AppendsFront}
 use Rattle.dap_http.specs.Delivered.{Delivers}
 use Rattle.dap_http.specs.Texts.{request_text}
@@ -117,6 +119,17 @@ AreGood form (suc n) bytes =
     (m : ℕ) × (v : Verdict) × (rest : List ℕ) × IsFirst form bytes v m rest × IsTrue (is_complete (outcome_of m v)) × AreGood form n rest
 
 -- ---- The link and the sink.
+
+-- what a link tells, and how often it failed
+abbrev pub link_state : {L : Type 0} → Reading L → Writing L → L → LinkState
+link_state source sink l = record {
+  whole = source.whole l;
+  left = source.left l;
+  ended = source.ended l;
+  written = sink.written l;
+  take_faults = source.take_faults l;
+  put_faults = sink.put_faults l;
+}
 
 -- what a sink has, and how often it failed
 pub record SinkState : Type 0 where

@@ -6,7 +6,8 @@ use Rattle.dap_model.specs.Partly.{ShowsPart}
 use Rattle.dap_model.specs.Received.{IsPrefix}
 use Rattle.dap_model.specs.Shown.{shown}
 use Rattle.xdr_decode.specs.Verdict.{HasHeadOf}
-use Rattle.dap_client.specs.Verdict.{IsVerdict, dods_form, good}
+use Rattle.reply_faults.specs.declared.bad.BadField.{BadField}
+use Rattle.dap_client.specs.Verdict.{IsVerdict, bad, dods_form, good}
 
 -- the sink gained a text that is so
 abbrev pub Gains : Option (List ℕ) → Option (List ℕ) → (List ℕ → Type 0) → Type 0
@@ -27,6 +28,11 @@ BreaksOff bytes text = StopsWithin bytes text ⊎ StopsWithinShown bytes text
 -- behind a good `Data:` line came at most so many bytes
 abbrev pub HasFewValues : ℕ → List ℕ → Type 0
 HasFewValues most bytes = (d : Dataset) (head values : List ℕ) → HasHeadOf bytes d head values → length values ≤ most
+
+-- the bytes that were taken are all, or what is wrong stays so, whatever follows them
+abbrev pub IsWrongTaken : Type 0 → Type 0 → BadField → List ℕ → Type 0
+IsWrongTaken Ended AtEnd field taken =
+    (Ended × AtEnd × IsVerdict dods_form taken (bad field.kind field.place)) ⊎ ((more : List ℕ) → IsVerdict dods_form (taken ++ more) (bad field.kind field.place))
 
 -- some bytes were taken of a source, and are so
 abbrev pub Takes : Option (List ℕ) → Option (List ℕ) → (List ℕ → Type 0) → Type 0

@@ -3,7 +3,7 @@
 ghost use Rattle.std.specs.Prelude.{◌≡◌, ◌≢◌, ◌≤◌, ◌⊎◌, ◌∷◌, [], None, IfOk, length};
 ghost use Rattle.dap_outside.specs.Causes.{Rose};
 ghost use Rattle.dap_http.specs.declared.kind.Kind.TheVariants.{Ver};
-ghost use Rattle.dap_client.specs.Fetched.{Fetches, IsAsked, IsReadFrom, IsUnasked, IsUrl, count_of, is_complete, parts_of, requests_text};
+ghost use Rattle.dap_client.specs.Fetched.{Fetches, IsAsked, IsReadFrom, IsUnasked, IsUrl, count_of, is_complete, link_state, parts_of, requests_text};
 ghost use Rattle.dap_client.specs.Following.{pending};
 ghost use Rattle.dap_client.specs.Replies.{form_of};
 
@@ -113,12 +113,12 @@ fn ask<L: Link, O: Sink>(
     requires open { replies.old.stopped ≡ None }
     requires none { pending replies.old ≡ [] }
     requires some { 1 ≤ count }
-    ensures asked { IsUnasked requests.now (record { whole = L.whole link.old; left = L.left link.old; ended = L.ended link.old; written = L.written link.old; take_faults = L.take_faults link.old; put_faults = L.put_faults link.old })
-        (record { whole = L.whole link.new; left = L.left link.new; ended = L.ended link.new; written = L.written link.new; take_faults = L.take_faults link.new; put_faults = L.put_faults link.new })
+    ensures asked { IsUnasked requests.now (link_state L.Source L.Sink link.old)
+        (link_state L.Source L.Sink link.new)
         (record { written = O.written out.old; faults = O.put_faults out.old }) (record { written = O.written out.new; faults = O.put_faults out.new }) result
         ⊎ IsAsked (form_of kind) count requests.now
-        (record { whole = L.whole link.old; left = L.left link.old; ended = L.ended link.old; written = L.written link.old; take_faults = L.take_faults link.old; put_faults = L.put_faults link.old })
-        (record { whole = L.whole link.new; left = L.left link.new; ended = L.ended link.new; written = L.written link.new; take_faults = L.take_faults link.new; put_faults = L.put_faults link.new })
+        (link_state L.Source L.Sink link.old)
+        (link_state L.Source L.Sink link.new)
         (record { written = O.written out.old; faults = O.put_faults out.old }) (record { written = O.written out.new; faults = O.put_faults out.new }) result }
     ensures no_link { result.last ≢ Outcome.LinkFault }
     ensures later { O.put_faults out.old ≤ O.put_faults out.new }
@@ -150,7 +150,7 @@ pub fn fetch_all<C: Dial, O: Sink>(
     requires url { IsUrl url.now }
     requires some { 1 ≤ length ces.now }
     requires many { length ces.now ≤ 16 }
-    ensures fetches { Fetches (λ l. record { whole = C.Wire.whole l; left = C.Wire.left l; ended = C.Wire.ended l; written = C.Wire.written l; take_faults = C.Wire.take_faults l; put_faults = C.Wire.put_faults l }) (parts_of url.now) kind ces.now
+    ensures fetches { Fetches (link_state C.Wire.Source C.Wire.Sink) (parts_of url.now) kind ces.now
         (record { back = C.back dial.old; faults = C.faults dial.old }) (record { back = C.back dial.new; faults = C.faults dial.new })
         (record { written = O.written out.old; faults = O.put_faults out.old }) (record { written = O.written out.new; faults = O.put_faults out.new }) result }
     ensures link_fault { result.last ≡ Outcome.LinkFault → Rose (C.faults dial.old) (C.faults dial.new) }
@@ -196,7 +196,7 @@ pub fn fetch<C: Dial, O: Sink>(
 ) -> Outcome
     requires kind { kind ≢ Ver }
     requires url { IsUrl url.now }
-    ensures fetches { Fetches (λ l. record { whole = C.Wire.whole l; left = C.Wire.left l; ended = C.Wire.ended l; written = C.Wire.written l; take_faults = C.Wire.take_faults l; put_faults = C.Wire.put_faults l }) (parts_of url.now) kind (ce.now ∷ [])
+    ensures fetches { Fetches (link_state C.Wire.Source C.Wire.Sink) (parts_of url.now) kind (ce.now ∷ [])
         (record { back = C.back dial.old; faults = C.faults dial.old }) (record { back = C.back dial.new; faults = C.faults dial.new })
         (record { written = O.written out.old; faults = O.put_faults out.old }) (record { written = O.written out.new; faults = O.put_faults out.new })
         (record { whole = count_of result; last = result }) }

@@ -7,7 +7,7 @@ ghost use Rattle.dap_types.specs.Limits.{body_limit};
 ghost use Rattle.dap_types.specs.Model.{Dataset, Tree};
 ghost use Rattle.dap_errors.specs.declared.object.ErrorObject.{ErrorObject};
 ghost use Rattle.dap_client.specs.Outcomes.{Answers, OnBadReply, OnComplete, OnLinkFault, OnMemory, OnReadFault, OnServerError, OnWriteFault, WhereNothingPut, WhereWhole};
-ghost use Rattle.dap_client.specs.Shows.{BreaksOff, Gains, HasFewValues, StopsWithin, Takes};
+ghost use Rattle.dap_client.specs.Shows.{BreaksOff, Gains, HasFewValues, IsWrongTaken, StopsWithin, Takes};
 ghost use Rattle.dap_client.specs.inner.Readers.{HasFailed, HasPutNothing, Stands, ReaderStandsAfter, is_open, taken_of};
 ghost use Rattle.dap_client.specs.inner.Showing.{EndsReading, Reads, ReadsOn};
 ghost use Rattle.dap_client.specs.Verdict.{Verdict, IsVerdict, bad, dods_form, good, server_error};
@@ -123,9 +123,7 @@ pub fn show<I: Source, O: Sink>(alloc: Global, source: &mut I, out: &mut O) -> O
 
     // What is wrong is so of all bytes of a source that is at its end, or stays so, whatever follows
     // those that were taken. The sink gained what may be shown of the bytes before it.
-    ensures bad_reply { OnBadReply (λ field. Takes (I.left source.old) (I.left source.new) (λ taken.
-        ((IsTrue (I.ended source.new) × IsAtEnd (I.left source.new) × IsVerdict dods_form taken (bad field.kind field.place))
-        ⊎ ((more : List ℕ) → IsVerdict dods_form (taken ++ more) (bad field.kind field.place)))
+    ensures bad_reply { OnBadReply (λ field. Takes (I.left source.old) (I.left source.new) (λ taken. IsWrongTaken (IsTrue (I.ended source.new)) (IsAtEnd (I.left source.new)) field taken
         × Gains (O.written out.old) (O.written out.new) (ShowsLines (take field.place taken)))) result }
 
     // Whatever the verdict on the bytes is, it is told, but for a fault or want of memory.

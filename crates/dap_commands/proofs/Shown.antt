@@ -7,11 +7,11 @@ use Rattle.dap_model.specs.Partly.{ShowsLines}
 use Rattle.dap_model.specs.Shown.{shown}
 use Rattle.reply_faults.specs.declared.bad.BadField.{BadField}
 use Rattle.dap_client.specs.Outcomes.{outcome_of}
-use Rattle.dap_client.specs.Shows.{Gains, Takes}
+use Rattle.dap_client.specs.Shows.{Gains, IsWrongTaken, Takes}
 use Rattle.dap_client.specs.Verdict.{Verdict, IsVerdict, bad, dods_form, good, good_das, good_dds, server_error}
 use Rattle.dap_client.specs.declared.outcome.Outcome.TheVariants as outcome
 use Rattle.dap_commands.specs.Lines.{bad_reply_line, line_of, server_error_line}
-use Rattle.dap_commands.specs.Show.{IsFor, IsWrongTaken, ShowSays, status_for}
+use Rattle.dap_commands.specs.Show.{IsFor, ShowSays, status_for}
 use Rattle.dap_commands.specs.declared.status.Status.{Status}
 use Rattle.dap_commands.specs.declared.status.Status.TheVariants.{Complete, Words, Unsaved, Refused, Damaged, BadReply, ServerError, ReadFault, WriteFault, LinkFault, Memory}
 

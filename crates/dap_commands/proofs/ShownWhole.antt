@@ -5,6 +5,7 @@ use Rattle.dap_types.specs.Model.{Dataset, Tree}
 use Rattle.dap_model.specs.Shown.{shown}
 use Rattle.dap_client.proofs.Bodies.{body_good, good_is_body}
 use Rattle.dap_client.proofs.OneVerdict.{one_verdict}
+use Rattle.dap_client.specs.Shows.{IsWrongTaken}
 use Rattle.dap_client.specs.Verdict.{IsVerdict, bad, dods_form, good}
 use Rattle.reply_faults.specs.declared.bad.Bad.{Bad}
 use Rattle.reply_faults.specs.declared.bad.Bad.TheVariants.{TooLong}
@@ -12,7 +13,7 @@ use Rattle.reply_faults.specs.declared.bad.BadField.{BadField}
 use Rattle.dap_commands.specs.ClientHalf.{IsResponse, IsShown, IsShownTooLong, Response, Showing, Shows, text_of}
 use Rattle.dap_commands.specs.Lines.{bad_reply_line}
 use Rattle.dap_commands.specs.ServerHalf.{SaysLine}
-use Rattle.dap_commands.specs.Show.{IsWrongTaken, ShowSays}
+use Rattle.dap_commands.specs.Show.{ShowSays}
 use Rattle.dap_commands.specs.declared.status.Status.{Status}
 use Rattle.dap_commands.specs.declared.status.Status.TheVariants.{BadReply, Complete}
 

@@ -9,7 +9,7 @@ use Rattle.dap_types.specs.Model.{Dataset, Tree}
 use Rattle.dap_model.specs.Partly.{ShowsLines}
 use Rattle.dap_model.specs.Shown.{shown}
 use Rattle.reply_faults.specs.declared.bad.BadField.{BadField}
-use Rattle.dap_client.specs.Shows.{BreaksOff, Gains, HasFewValues, StopsWithin, Takes}
+use Rattle.dap_client.specs.Shows.{BreaksOff, Gains, HasFewValues, IsWrongTaken, StopsWithin, Takes}
 use Rattle.dap_client.specs.Verdict.{Verdict, IsVerdict, bad, dods_form, good, good_das, good_dds, server_error}
 use Rattle.dap_commands.specs.Lines.{bad_reply_line, server_error_line}
 use Rattle.dap_commands.specs.declared.status.Status.{Status}
@@ -29,11 +29,6 @@ IsFor v ReadFault = ⊤
 IsFor v WriteFault = ⊤
 IsFor v Memory = ⊤
 IsFor v status = status ≡ status_for v
-
--- the bytes that were taken are all, or what is wrong stays so, whatever follows them
-abbrev pub IsWrongTaken : Type 0 → Type 0 → BadField → List ℕ → Type 0
-IsWrongTaken Ended AtEnd field taken =
-    (Ended × AtEnd × IsVerdict dods_form taken (bad field.kind field.place)) ⊎ ((more : List ℕ) → IsVerdict dods_form (taken ++ more) (bad field.kind field.place))
 
 -- By the status, of the bytes that the input had left and has left now, of whether its end mark stands and
 -- nothing is left, of what the output gained, and of the line that says what is wrong.

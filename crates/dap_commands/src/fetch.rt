@@ -4,7 +4,7 @@ ghost use Rattle.std.specs.Prelude.{◌≡◌, ◌≢◌, ◌↔◌, ◌≤◌, 
 ghost use Rattle.dap_outside.specs.Causes.{Rose};
 ghost use Rattle.dap_http.specs.Urls.{UrlParts, url_of};
 ghost use Rattle.dap_http.specs.declared.kind.Kind.TheVariants.{Ver};
-ghost use Rattle.dap_client.specs.Fetched.{IsUrl, parts_of};
+ghost use Rattle.dap_client.specs.Fetched.{IsUrl, link_state, parts_of};
 ghost use Rattle.dap_commands.specs.Fetch.{FetchSays, SaysWhy, status_of};
 ghost use Rattle.dap_commands.specs.Lines.{IsSaid};
 
@@ -77,7 +77,7 @@ fn fetch_url<O: Sink, E: Sink, C: Dial>(
     requires url { IsUrl url.now }
     requires some { 1 ≤ length ces.now }
     requires many { length ces.now ≤ 16 }
-    ensures says { FetchSays (λ l. record { whole = C.Wire.whole l; left = C.Wire.left l; ended = C.Wire.ended l; written = C.Wire.written l; take_faults = C.Wire.take_faults l; put_faults = C.Wire.put_faults l }) (parts_of url.now) kind ces.now
+    ensures says { FetchSays (link_state C.Wire.Source C.Wire.Sink) (parts_of url.now) kind ces.now
         (record { back = C.back dial.old; faults = C.faults dial.old }) (record { back = C.back dial.new; faults = C.faults dial.new })
         (record { written = O.written out.old; faults = O.put_faults out.old }) (record { written = O.written out.new; faults = O.put_faults out.new })
         (λ line. IsSaid line (E.put_faults err.old) (E.put_faults err.new) (E.written err.old) (E.written err.new)) result }
@@ -111,7 +111,7 @@ pub fn fetch<O: Sink, E: Sink, C: Dial>(
     requires some { 1 ≤ length ces.now }
     requires many { length ces.now ≤ 16 }
     ensures says { (u : UrlParts) → url_of url.now ≡ Some u →
-        FetchSays (λ l. record { whole = C.Wire.whole l; left = C.Wire.left l; ended = C.Wire.ended l; written = C.Wire.written l; take_faults = C.Wire.take_faults l; put_faults = C.Wire.put_faults l }) u kind ces.now
+        FetchSays (link_state C.Wire.Source C.Wire.Sink) u kind ces.now
         (record { back = C.back dial.old; faults = C.faults dial.old }) (record { back = C.back dial.new; faults = C.faults dial.new })
         (record { written = O.written out.old; faults = O.put_faults out.old }) (record { written = O.written out.new; faults = O.put_faults out.new })
         (λ line. IsSaid line (E.put_faults err.old) (E.put_faults err.new) (E.written err.old) (E.written err.new)) result }

@@ -8,6 +8,7 @@ ghost use Rattle.dap_http.specs.Urls.{is_host};
 ghost use Rattle.dap_gateway.specs.Backed.{AreBacked};
 ghost use Rattle.dap_gateway.specs.Pairs.{pairs, room_of};
 ghost use Rattle.dap_commands.specs.Relay.{IsRelayed, RelayedLink, Relays, RelaysFrom, TellsWritten, ending_name, history_of, relay_line, source_name};
+ghost use Rattle.dap_client.specs.Fetched.{link_state};
 
 use crate::lines::put_each;
 use crate::status::Status;
@@ -69,9 +70,9 @@ fn relay_next<D: Door, C: Dial>(
     ensures relayed { IfOk result (λ relayed. (r : RelayedLink D.Wire C.Wire C) × (r.relayed ≡ relayed)
         × (r.dial ≡ dial.old) × (r.dial_then ≡ dial.new) × (r.pairs ≡ pairs cache.old) × (r.pairs_then ≡ pairs cache.new)
         × (D.back door.new ≡ option_map (λ links. links ++ r.back ∷ []) (D.back door.old))
-        × IsRelayed (record { door_link = λ l. record { whole = D.Wire.whole l; left = D.Wire.left l; ended = D.Wire.ended l; written = D.Wire.written l; take_faults = D.Wire.take_faults l; put_faults = D.Wire.put_faults l }; dial_link = λ l. record { whole = C.Wire.whole l; left = C.Wire.left l; ended = C.Wire.ended l; written = C.Wire.written l; take_faults = C.Wire.take_faults l; put_faults = C.Wire.put_faults l }; dial = λ d. record { back = C.back d; faults = C.faults d }; host = host.now; port = upport; room = room_of cache.old }) r) }
-    ensures backed { TellsWritten (record { door_link = λ l. record { whole = D.Wire.whole l; left = D.Wire.left l; ended = D.Wire.ended l; written = D.Wire.written l; take_faults = D.Wire.take_faults l; put_faults = D.Wire.put_faults l }; dial_link = λ l. record { whole = C.Wire.whole l; left = C.Wire.left l; ended = C.Wire.ended l; written = C.Wire.written l; take_faults = C.Wire.take_faults l; put_faults = C.Wire.put_faults l }; dial = λ d. record { back = C.back d; faults = C.faults d }; host = host.now; port = upport; room = room_of cache.old })
-        → AreBacked host.now upport (history_of (record { door_link = λ l. record { whole = D.Wire.whole l; left = D.Wire.left l; ended = D.Wire.ended l; written = D.Wire.written l; take_faults = D.Wire.take_faults l; put_faults = D.Wire.put_faults l }; dial_link = λ l. record { whole = C.Wire.whole l; left = C.Wire.left l; ended = C.Wire.ended l; written = C.Wire.written l; take_faults = C.Wire.take_faults l; put_faults = C.Wire.put_faults l }; dial = λ d. record { back = C.back d; faults = C.faults d }; host = host.now; port = upport; room = room_of cache.old }) dial.old) (pairs cache.old) → AreBacked host.now upport (history_of (record { door_link = λ l. record { whole = D.Wire.whole l; left = D.Wire.left l; ended = D.Wire.ended l; written = D.Wire.written l; take_faults = D.Wire.take_faults l; put_faults = D.Wire.put_faults l }; dial_link = λ l. record { whole = C.Wire.whole l; left = C.Wire.left l; ended = C.Wire.ended l; written = C.Wire.written l; take_faults = C.Wire.take_faults l; put_faults = C.Wire.put_faults l }; dial = λ d. record { back = C.back d; faults = C.faults d }; host = host.now; port = upport; room = room_of cache.old }) dial.new) (pairs cache.new) }
+        × IsRelayed (record { door_link = link_state D.Wire.Source D.Wire.Sink; dial_link = link_state C.Wire.Source C.Wire.Sink; dial = λ d. record { back = C.back d; faults = C.faults d }; host = host.now; port = upport; room = room_of cache.old }) r) }
+    ensures backed { TellsWritten (record { door_link = link_state D.Wire.Source D.Wire.Sink; dial_link = link_state C.Wire.Source C.Wire.Sink; dial = λ d. record { back = C.back d; faults = C.faults d }; host = host.now; port = upport; room = room_of cache.old })
+        → AreBacked host.now upport (history_of (record { door_link = link_state D.Wire.Source D.Wire.Sink; dial_link = link_state C.Wire.Source C.Wire.Sink; dial = λ d. record { back = C.back d; faults = C.faults d }; host = host.now; port = upport; room = room_of cache.old }) dial.old) (pairs cache.old) → AreBacked host.now upport (history_of (record { door_link = link_state D.Wire.Source D.Wire.Sink; dial_link = link_state C.Wire.Source C.Wire.Sink; dial = λ d. record { back = C.back d; faults = C.faults d }; host = host.now; port = upport; room = room_of cache.old }) dial.new) (pairs cache.new) }
     ensures err { OnErr result ((D.back door.new ≡ D.back door.old) × (dial.new ≡ dial.old) × (cache.new ≡ cache.old)) }
     ensures cause { HasCause (D.faults door.old) (D.faults door.new) result }
     ensures port { D.listens_at door.new ≡ D.listens_at door.old }
@@ -97,7 +98,7 @@ fn relay_links<O: Sink, D: Door, C: Dial>(
     requires host { IsTrue (is_host host.now) }
     requires port { 1 ≤ upport }
     requires listens { IsSome (D.listens_at door.old) }
-    ensures relayed { (relays : List (RelayedLink D.Wire C.Wire C)) × RelaysFrom (record { door_link = λ l. record { whole = D.Wire.whole l; left = D.Wire.left l; ended = D.Wire.ended l; written = D.Wire.written l; take_faults = D.Wire.take_faults l; put_faults = D.Wire.put_faults l }; dial_link = λ l. record { whole = C.Wire.whole l; left = C.Wire.left l; ended = C.Wire.ended l; written = C.Wire.written l; take_faults = C.Wire.take_faults l; put_faults = C.Wire.put_faults l }; dial = λ d. record { back = C.back d; faults = C.faults d }; host = host.now; port = upport; room = room_of cache.old }) 1 requests (pairs cache.old)
+    ensures relayed { (relays : List (RelayedLink D.Wire C.Wire C)) × RelaysFrom (record { door_link = link_state D.Wire.Source D.Wire.Sink; dial_link = link_state C.Wire.Source C.Wire.Sink; dial = λ d. record { back = C.back d; faults = C.faults d }; host = host.now; port = upport; room = room_of cache.old }) 1 requests (pairs cache.old)
         (record { back = D.back door.old; dial = dial.old; written = O.written out.old })
         (record { back = D.back door.new; dial = dial.new; written = O.written out.new }) relays result }
     ensures memory { result ≢ Status.Memory }
@@ -140,7 +141,7 @@ pub fn relay<O: Sink, D: Door, C: Dial>(
     requires some { 1 ≤ room }
     requires few { room ≤ 1024 }
     requires asked { 1 ≤ requests }
-    ensures relayed { (relays : List (RelayedLink D.Wire C.Wire C)) × Relays (record { door_link = λ l. record { whole = D.Wire.whole l; left = D.Wire.left l; ended = D.Wire.ended l; written = D.Wire.written l; take_faults = D.Wire.take_faults l; put_faults = D.Wire.put_faults l }; dial_link = λ l. record { whole = C.Wire.whole l; left = C.Wire.left l; ended = C.Wire.ended l; written = C.Wire.written l; take_faults = C.Wire.take_faults l; put_faults = C.Wire.put_faults l }; dial = λ d. record { back = C.back d; faults = C.faults d }; host = host.now; port = upport; room = room }) requests
+    ensures relayed { (relays : List (RelayedLink D.Wire C.Wire C)) × Relays (record { door_link = link_state D.Wire.Source D.Wire.Sink; dial_link = link_state C.Wire.Source C.Wire.Sink; dial = λ d. record { back = C.back d; faults = C.faults d }; host = host.now; port = upport; room = room }) requests
         (record { back = D.back door.old; dial = dial.old; written = O.written out.old })
         (record { back = D.back door.new; dial = dial.new; written = O.written out.new }) relays result
         × (relays ≢ [] → D.listens_at door.new ≡ Some port) }

@@ -14,6 +14,7 @@ ghost use Rattle.dap_commands.specs.Answer.{status_of};
 ghost use Rattle.dap_commands.specs.ClientHalf.{FetchesData, IsResponse, Response, Shows, text_of};
 ghost use Rattle.dap_commands.specs.ServerHalf.{Asks, IsAccepted, IsFirstCause, Says, served_body};
 ghost use Rattle.dap_commands.specs.Words.{AreAnswer, AreFetch, IsShow};
+ghost use Rattle.dap_client.specs.Fetched.{link_state};
 
 use crate::status::Status;
 use crate::top::run;
@@ -118,7 +119,7 @@ pub fn run_fetch<R: Threads + Sync, S: Shelf, I: Source, O: Sink, E: Sink, D: Do
 ) -> Status
     ensures says { (u : UrlParts) (ces : List (List ℕ)) → AreFetch words.now u Dods ces →
         FetchesData (record {
-          state = λ l. record { whole = C.Wire.whole l; left = C.Wire.left l; ended = C.Wire.ended l; written = C.Wire.written l; take_faults = C.Wire.take_faults l; put_faults = C.Wire.put_faults l };
+          state = link_state C.Wire.Source C.Wire.Sink;
           url = u;
           constraints = ces;
           dial = record { back = C.back dial.old; faults = C.faults dial.old };

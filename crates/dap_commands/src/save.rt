@@ -4,7 +4,7 @@ ghost use Rattle.std.specs.Prelude.{◌≡◌, ◌≢◌, ◌↔◌, IsTrue, Som
 ghost use Rattle.std.specs.Fmt.{decimal, signed_decimal};
 ghost use Rattle.dap_outside.specs.Causes.{Rose};
 ghost use Rattle.dap_http.specs.Urls.{UrlParts, url_of};
-ghost use Rattle.dap_client.specs.Fetched.{IsUrl, parts_of};
+ghost use Rattle.dap_client.specs.Fetched.{IsUrl, link_state, parts_of};
 ghost use Rattle.netcdf_writer.specs.Fetching.{SavesUrl};
 ghost use Rattle.netcdf_writer.specs.Saving.{Saves};
 ghost use Rattle.dap_commands.specs.Lines.{IsSaid, server_error_line};
@@ -108,7 +108,7 @@ fn save_from<O: Sink, E: Sink, C: Dial>(
     dial: &mut C,
 ) -> Status
     requires { IsUrl url.now }
-    ensures says { SaveSays (SavesUrl (λ l. record { whole = C.Wire.whole l; left = C.Wire.left l; ended = C.Wire.ended l; written = C.Wire.written l; take_faults = C.Wire.take_faults l; put_faults = C.Wire.put_faults l }) (parts_of url.now) ce.now
+    ensures says { SaveSays (SavesUrl (link_state C.Wire.Source C.Wire.Sink) (parts_of url.now) ce.now
         (record { back = C.back dial.old; faults = C.faults dial.old }) (record { back = C.back dial.new; faults = C.faults dial.new })
         (record { written = O.written out.old; faults = O.put_faults out.old }) (record { written = O.written out.new; faults = O.put_faults out.new }))
         (λ line. IsSaid line (E.put_faults err.old) (E.put_faults err.new) (E.written err.old) (E.written err.new)) result }
@@ -134,7 +134,7 @@ pub fn save_fetched<O: Sink, E: Sink, C: Dial>(
     dial: &mut C,
 ) -> Status
     ensures says { (u : UrlParts) → url_of url.now ≡ Some u →
-        SaveSays (SavesUrl (λ l. record { whole = C.Wire.whole l; left = C.Wire.left l; ended = C.Wire.ended l; written = C.Wire.written l; take_faults = C.Wire.take_faults l; put_faults = C.Wire.put_faults l }) u ce.now
+        SaveSays (SavesUrl (link_state C.Wire.Source C.Wire.Sink) u ce.now
         (record { back = C.back dial.old; faults = C.faults dial.old }) (record { back = C.back dial.new; faults = C.faults dial.new })
         (record { written = O.written out.old; faults = O.put_faults out.old }) (record { written = O.written out.new; faults = O.put_faults out.new }))
         (λ line. IsSaid line (E.put_faults err.old) (E.put_faults err.new) (E.written err.old) (E.written err.new)) result }

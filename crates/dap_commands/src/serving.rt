@@ -6,6 +6,7 @@ ghost use Rattle.dap_outside.specs.Causes.{HasCause, Rose};
 ghost use Rattle.dap_outside.specs.Streams.{AppendsFront};
 ghost use Rattle.dap_server.specs.Connections.{FailedBy, failures, leaves_open};
 ghost use Rattle.dap_commands.specs.Serve.{IsVisit, IsWholeVisit, Serves, Visit, ending_name, link_line};
+ghost use Rattle.dap_client.specs.Fetched.{link_state};
 
 use crate::lines::put_each;
 use crate::status::Status;
@@ -58,10 +59,10 @@ fn serve_next<R: Threads + Sync, S: Shelf, D: Door>(
     requires listens { IsSome (D.listens_at door.old) }
     ensures served { IfOk result (λ served. (v : Visit D.Wire) × (v.served ≡ served)
         × (D.back door.new ≡ option_map (λ links. links ++ v.back ∷ []) (D.back door.old))
-        × IsVisit (S.files shelf.old) (λ l. record { whole = D.Wire.whole l; left = D.Wire.left l; ended = D.Wire.ended l; written = D.Wire.written l; take_faults = D.Wire.take_faults l; put_faults = D.Wire.put_faults l }) v
+        × IsVisit (S.files shelf.old) (link_state D.Wire.Source D.Wire.Sink) v
         × FailedBy (failures v.connection v.served.ending) (leaves_open v.connection.turns v.served.ending v.connection.behind) (S.faults shelf.old) (S.faults shelf.new)
         × (S.asked shelf.new ≤ S.asked shelf.old + v.most)
-        × (¬ (Rose (S.faults shelf.old) (S.faults shelf.new)) → IsWholeVisit (S.files shelf.old) (λ l. record { whole = D.Wire.whole l; left = D.Wire.left l; ended = D.Wire.ended l; written = D.Wire.written l; take_faults = D.Wire.take_faults l; put_faults = D.Wire.put_faults l }) v)) }
+        × (¬ (Rose (S.faults shelf.old) (S.faults shelf.new)) → IsWholeVisit (S.files shelf.old) (link_state D.Wire.Source D.Wire.Sink) v)) }
     ensures err { OnErr result ((D.back door.new ≡ D.back door.old) × (shelf.new ≡ shelf.old)) }
     ensures cause { HasCause (D.faults door.old) (D.faults door.new) result }
     ensures later { S.faults shelf.old ≤ S.faults shelf.new }
@@ -87,7 +88,7 @@ fn serve_links<R: Threads + Sync, S: Shelf, O: Sink, D: Door>(
     requires some { 1 ≤ workers }
     requires many { workers ≤ 64 }
     requires listens { IsSome (D.listens_at door.old) }
-    ensures served { (visits : List (Visit D.Wire)) × Serves (S.files shelf.old) (λ l. record { whole = D.Wire.whole l; left = D.Wire.left l; ended = D.Wire.ended l; written = D.Wire.written l; take_faults = D.Wire.take_faults l; put_faults = D.Wire.put_faults l }) requests
+    ensures served { (visits : List (Visit D.Wire)) × Serves (S.files shelf.old) (link_state D.Wire.Source D.Wire.Sink) requests
         (record { back = D.back door.old; faults = S.faults shelf.old; asked = S.asked shelf.old; written = O.written out.old })
         (record { back = D.back door.new; faults = S.faults shelf.new; asked = S.asked shelf.new; written = O.written out.new }) visits result }
     ensures link_fault { result ≡ Status.LinkFault → Rose (D.faults door.old) (D.faults door.new) }
@@ -126,7 +127,7 @@ pub fn serve<R: Threads + Sync, S: Shelf, O: Sink, D: Door>(
     requires many { workers ≤ 64 }
     requires asked { 1 ≤ requests }
     ensures served { (visits : List (Visit D.Wire))
-        × Serves (S.files shelf.old) (λ l. record { whole = D.Wire.whole l; left = D.Wire.left l; ended = D.Wire.ended l; written = D.Wire.written l; take_faults = D.Wire.take_faults l; put_faults = D.Wire.put_faults l }) requests
+        × Serves (S.files shelf.old) (link_state D.Wire.Source D.Wire.Sink) requests
         (record { back = D.back door.old; faults = S.faults shelf.old; asked = S.asked shelf.old; written = O.written out.old })
         (record { back = D.back door.new; faults = S.faults shelf.new; asked = S.asked shelf.new; written = O.written out.new }) visits result
         × (visits ≢ [] → D.listens_at door.new ≡ Some port) }

@@ -1,5 +1,6 @@
 ghost use Rattle.std.specs.Prelude.{◌≡◌, ◌≢◌, ◌+◌, ◌≤◌, ◌↔◌, ℕ, List, [], IfSome, IsSome, IsTrue, Some, false, length, Result};
 ghost use Rattle.std.specs.Io.KnownBytes.{Appends, IsAtEnd};
+ghost use Rattle.dap_client.specs.Fetched.{link_state};
 ghost use Rattle.dap_client.specs.Shows.{Takes};
 ghost use Rattle.dap_client.specs.Verdict.{Verdict, IsVerdict, dods_form};
 ghost use Rattle.dap_errors.specs.declared.cause.Cause.{Cause};
@@ -83,7 +84,7 @@ pub fn run<R: Threads + Sync, S: Shelf, I: Source, O: Sink, E: Sink, D: Door, C:
     // The links that came in at the port of `serve`, each served by itself over its whole input, and a line
     // for each; the shelf failed at least as often as they say, and no more was asked of it than they may ask.
     ensures serve { (port workers requests : ℕ) → AreServe words.now port workers requests → (visits : List (Visit D.Wire))
-        × Serves (S.files shelf.old) (λ l. record { whole = D.Wire.whole l; left = D.Wire.left l; ended = D.Wire.ended l; written = D.Wire.written l; take_faults = D.Wire.take_faults l; put_faults = D.Wire.put_faults l }) requests
+        × Serves (S.files shelf.old) (link_state D.Wire.Source D.Wire.Sink) requests
         (record { back = D.back door.old; faults = S.faults shelf.old; asked = S.asked shelf.old; written = O.written out.old })
         (record { back = D.back door.new; faults = S.faults shelf.new; asked = S.asked shelf.new; written = O.written out.new }) visits result
         × (visits ≢ [] → D.listens_at door.new ≡ Some port) }
@@ -92,7 +93,7 @@ pub fn run<R: Threads + Sync, S: Shelf, I: Source, O: Sink, E: Sink, D: Door, C:
     // and a line for each; where equal requests got equal replies there, as it would be without the cache. Memory is
     // wanted before the door listens alone.
     ensures relay { (host : List ℕ) (upport port room requests : ℕ) → AreRelay words.now host upport port room requests → (relays : List (RelayedLink D.Wire C.Wire C))
-        × Relays (record { door_link = λ l. record { whole = D.Wire.whole l; left = D.Wire.left l; ended = D.Wire.ended l; written = D.Wire.written l; take_faults = D.Wire.take_faults l; put_faults = D.Wire.put_faults l }; dial_link = λ l. record { whole = C.Wire.whole l; left = C.Wire.left l; ended = C.Wire.ended l; written = C.Wire.written l; take_faults = C.Wire.take_faults l; put_faults = C.Wire.put_faults l }; dial = λ d. record { back = C.back d; faults = C.faults d }; host = host; port = upport; room = room }) requests
+        × Relays (record { door_link = link_state D.Wire.Source D.Wire.Sink; dial_link = link_state C.Wire.Source C.Wire.Sink; dial = λ d. record { back = C.back d; faults = C.faults d }; host = host; port = upport; room = room }) requests
         (record { back = D.back door.old; dial = dial.old; written = O.written out.old })
         (record { back = D.back door.new; dial = dial.new; written = O.written out.new }) relays result
         × (relays ≢ [] → D.listens_at door.new ≡ Some port) }
@@ -123,7 +124,7 @@ pub fn run<R: Threads + Sync, S: Shelf, I: Source, O: Sink, E: Sink, D: Door, C:
     // What each status of `fetch` says of the replies of the link that the dial gave and got back, of the output
     // and of the line on `err`.
     ensures fetch { (u : UrlParts) (kind : Kind) (ces : List (List ℕ)) → AreFetch words.now u kind ces →
-        FetchSays (λ l. record { whole = C.Wire.whole l; left = C.Wire.left l; ended = C.Wire.ended l; written = C.Wire.written l; take_faults = C.Wire.take_faults l; put_faults = C.Wire.put_faults l }) u kind ces
+        FetchSays (link_state C.Wire.Source C.Wire.Sink) u kind ces
         (record { back = C.back dial.old; faults = C.faults dial.old }) (record { back = C.back dial.new; faults = C.faults dial.new })
         (record { written = O.written out.old; faults = O.put_faults out.old }) (record { written = O.written out.new; faults = O.put_faults out.new })
         (λ line. IsSaid line (E.put_faults err.old) (E.put_faults err.new) (E.written err.old) (E.written err.new)) result }
@@ -137,7 +138,7 @@ pub fn run<R: Threads + Sync, S: Shelf, I: Source, O: Sink, E: Sink, D: Door, C:
     ensures save_read { IsSave words.now → result ≡ Status.ReadFault → Rose (I.take_faults input.old) (I.take_faults input.new) }
     ensures save_shelf { IsSave words.now → shelf.new ≡ shelf.old }
     ensures save_url { (u : UrlParts) (ce : List ℕ) → AreSaveUrl words.now u ce →
-        SaveSays (SavesUrl (λ l. record { whole = C.Wire.whole l; left = C.Wire.left l; ended = C.Wire.ended l; written = C.Wire.written l; take_faults = C.Wire.take_faults l; put_faults = C.Wire.put_faults l }) u ce
+        SaveSays (SavesUrl (link_state C.Wire.Source C.Wire.Sink) u ce
         (record { back = C.back dial.old; faults = C.faults dial.old }) (record { back = C.back dial.new; faults = C.faults dial.new })
         (record { written = O.written out.old; faults = O.put_faults out.old }) (record { written = O.written out.new; faults = O.put_faults out.new }))
         (λ line. IsSaid line (E.put_faults err.old) (E.put_faults err.new) (E.written err.old) (E.written err.new)) result }

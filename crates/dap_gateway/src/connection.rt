@@ -13,6 +13,7 @@ ghost use Rattle.dap_http.specs.declared.kind.Kind.TheVariants.{Ver};
 ghost use Rattle.dap_gateway.specs.Backed.{AreBacked, history};
 ghost use Rattle.dap_gateway.specs.Pairs.{pairs, room_of};
 ghost use Rattle.dap_gateway.specs.Turns.{ComesTo, Relays, Wants, asked_of, is_head_method, wanted_of};
+ghost use Rattle.dap_client.specs.Fetched.{link_state};
 
 use crate::answering::{relay_hit, relay_outcome};
 use crate::cache::Cache;
@@ -53,7 +54,7 @@ fn relay_wanted<L: Link, C: Dial>(
 ) -> Relayed
     requires kind { wanted.now.kind ≢ Ver }
     requires host { IsTrue (is_host host.now) }
-    ensures comes { (bytes : List ℕ) → Wants host.now port bytes wanted.now → ComesTo (λ l. record { whole = C.Wire.whole l; left = C.Wire.left l; ended = C.Wire.ended l; written = C.Wire.written l; take_faults = C.Wire.take_faults l; put_faults = C.Wire.put_faults l }) (dial.new ≡ dial.old) host.now port (room_of cache.old) bytes (record { written = L.written link.old; pairs = pairs cache.old }) (record { written = L.written link.new; pairs = pairs cache.new }) (record { back = C.back dial.old; faults = C.faults dial.old }) (record { back = C.back dial.new; faults = C.faults dial.new }) result }
+    ensures comes { (bytes : List ℕ) → Wants host.now port bytes wanted.now → ComesTo (link_state C.Wire.Source C.Wire.Sink) (dial.new ≡ dial.old) host.now port (room_of cache.old) bytes (record { written = L.written link.old; pairs = pairs cache.old }) (record { written = L.written link.new; pairs = pairs cache.new }) (record { back = C.back dial.old; faults = C.faults dial.old }) (record { back = C.back dial.new; faults = C.faults dial.new }) result }
     ensures write_fault { result ≡ Relayed.WriteFault → Rose (L.put_faults link.old) (L.put_faults link.new) }
     ensures kept { result ≢ Relayed.WriteFault → L.put_faults link.new ≡ L.put_faults link.old }
     ensures no_read_fault { result ≢ Relayed.ReadFault }
@@ -101,7 +102,7 @@ fn relay_target<L: Link, C: Dial>(
     requires host { IsTrue (is_host host.now) }
     requires target { target_of head.now.target ≡ Some (asked_of target.now) }
     requires served { is_other head.now.method ≡ false }
-    ensures comes { (bytes rest : List ℕ) (tree : RequestHead) → FirstRequest bytes tree rest → IsHead head.now tree → ComesTo (λ l. record { whole = C.Wire.whole l; left = C.Wire.left l; ended = C.Wire.ended l; written = C.Wire.written l; take_faults = C.Wire.take_faults l; put_faults = C.Wire.put_faults l }) (dial.new ≡ dial.old) host.now port (room_of cache.old) bytes (record { written = L.written link.old; pairs = pairs cache.old }) (record { written = L.written link.new; pairs = pairs cache.new }) (record { back = C.back dial.old; faults = C.faults dial.old }) (record { back = C.back dial.new; faults = C.faults dial.new }) result }
+    ensures comes { (bytes rest : List ℕ) (tree : RequestHead) → FirstRequest bytes tree rest → IsHead head.now tree → ComesTo (link_state C.Wire.Source C.Wire.Sink) (dial.new ≡ dial.old) host.now port (room_of cache.old) bytes (record { written = L.written link.old; pairs = pairs cache.old }) (record { written = L.written link.new; pairs = pairs cache.new }) (record { back = C.back dial.old; faults = C.faults dial.old }) (record { back = C.back dial.new; faults = C.faults dial.new }) result }
     ensures write_fault { result ≡ Relayed.WriteFault → Rose (L.put_faults link.old) (L.put_faults link.new) }
     ensures kept { result ≢ Relayed.WriteFault → L.put_faults link.new ≡ L.put_faults link.old }
     ensures no_read_fault { result ≢ Relayed.ReadFault }
@@ -132,7 +133,7 @@ fn relay<L: Link, C: Dial>(
     head: &Head,
 ) -> Relayed
     requires host { IsTrue (is_host host.now) }
-    ensures comes { (bytes rest : List ℕ) (tree : RequestHead) → FirstRequest bytes tree rest → IsHead head.now tree → ComesTo (λ l. record { whole = C.Wire.whole l; left = C.Wire.left l; ended = C.Wire.ended l; written = C.Wire.written l; take_faults = C.Wire.take_faults l; put_faults = C.Wire.put_faults l }) (dial.new ≡ dial.old) host.now port (room_of cache.old) bytes (record { written = L.written link.old; pairs = pairs cache.old }) (record { written = L.written link.new; pairs = pairs cache.new }) (record { back = C.back dial.old; faults = C.faults dial.old }) (record { back = C.back dial.new; faults = C.faults dial.new }) result }
+    ensures comes { (bytes rest : List ℕ) (tree : RequestHead) → FirstRequest bytes tree rest → IsHead head.now tree → ComesTo (link_state C.Wire.Source C.Wire.Sink) (dial.new ≡ dial.old) host.now port (room_of cache.old) bytes (record { written = L.written link.old; pairs = pairs cache.old }) (record { written = L.written link.new; pairs = pairs cache.new }) (record { back = C.back dial.old; faults = C.faults dial.old }) (record { back = C.back dial.new; faults = C.faults dial.new }) result }
     ensures write_fault { result ≡ Relayed.WriteFault → Rose (L.put_faults link.old) (L.put_faults link.new) }
     ensures kept { result ≢ Relayed.WriteFault → L.put_faults link.new ≡ L.put_faults link.old }
     ensures no_read_fault { result ≢ Relayed.ReadFault }
@@ -177,12 +178,12 @@ pub fn relay_connection<L: Link, C: Dial>(
     // the request to the other server is in the cache; the reply; what was asked of the other server, on a miss
     // alone; and the cache behind it.
     ensures relays { (taken : List ℕ) × Consumes (L.left link.old) (L.left link.new) taken
-        × Relays (λ l. record { whole = C.Wire.whole l; left = C.Wire.left l; ended = C.Wire.ended l; written = C.Wire.written l; take_faults = C.Wire.take_faults l; put_faults = C.Wire.put_faults l }) (dial.new ≡ dial.old) host.now port (room_of cache.old) taken (L.ended link.new) (record { written = L.written link.old; pairs = pairs cache.old }) (record { written = L.written link.new; pairs = pairs cache.new }) (record { back = C.back dial.old; faults = C.faults dial.old }) (record { back = C.back dial.new; faults = C.faults dial.new }) result }
+        × Relays (link_state C.Wire.Source C.Wire.Sink) (dial.new ≡ dial.old) host.now port (room_of cache.old) taken (L.ended link.new) (record { written = L.written link.old; pairs = pairs cache.old }) (record { written = L.written link.new; pairs = pairs cache.new }) (record { back = C.back dial.old; faults = C.faults dial.old }) (record { back = C.back dial.new; faults = C.faults dial.new }) result }
 
     // A cache whose bodies are the good bodies of the last replies to their requests is so afterwards, where the
     // links of the dial, as they are connected, tell what is written on them.
-    ensures backed { ((l : C.Wire) → IsNew (record { whole = C.Wire.whole l; left = C.Wire.left l; ended = C.Wire.ended l; written = C.Wire.written l; take_faults = C.Wire.take_faults l; put_faults = C.Wire.put_faults l }) → IsSome (C.Wire.written l)) → AreBacked host.now port (history (λ l. record { whole = C.Wire.whole l; left = C.Wire.left l; ended = C.Wire.ended l; written = C.Wire.written l; take_faults = C.Wire.take_faults l; put_faults = C.Wire.put_faults l }) (C.back dial.old)) (pairs cache.old)
-        → AreBacked host.now port (history (λ l. record { whole = C.Wire.whole l; left = C.Wire.left l; ended = C.Wire.ended l; written = C.Wire.written l; take_faults = C.Wire.take_faults l; put_faults = C.Wire.put_faults l }) (C.back dial.new)) (pairs cache.new) }
+    ensures backed { ((l : C.Wire) → IsNew (link_state C.Wire.Source C.Wire.Sink l) → IsSome (C.Wire.written l)) → AreBacked host.now port (history (link_state C.Wire.Source C.Wire.Sink) (C.back dial.old)) (pairs cache.old)
+        → AreBacked host.now port (history (link_state C.Wire.Source C.Wire.Sink) (C.back dial.new)) (pairs cache.new) }
 
     ensures read_fault { result ≡ Relayed.ReadFault → Rose (L.take_faults link.old) (L.take_faults link.new) }
     ensures kept_reading { result ≢ Relayed.ReadFault → L.take_faults link.new ≡ L.take_faults link.old }

@@ -3,6 +3,7 @@
 ghost use Rattle.std.specs.Prelude.{◌≡◌, ◌≢◌, ◌≤◌, ◌⊎◌, ◌∷◌, IfOk, IsTrue};
 ghost use Rattle.dap_http.specs.Urls.{is_host};
 ghost use Rattle.dap_http.specs.declared.kind.Kind.TheVariants.{Ver};
+ghost use Rattle.dap_client.specs.Fetched.{link_state};
 ghost use Rattle.dap_client.specs.Replies.{form_of};
 ghost use Rattle.dap_gateway.specs.Turns.{asked_of};
 ghost use Rattle.dap_gateway.specs.Upstream.{Dials, IsAsked, IsUnasked, key_of};
@@ -53,10 +54,10 @@ fn host_text(host: &[u8]) -> &str
 /// Sends a request over a new link and reads the reply. `ReadFault` is also where it could not be sent.
 fn ask_over<L: Link>(alloc: Global, link: &mut L, key: &[u8], kind: Kind) -> BodyOutcome
     requires { kind ≢ Ver }
-    ensures asked { IsUnasked key.now (record { whole = L.whole link.old; left = L.left link.old; ended = L.ended link.old; written = L.written link.old; take_faults = L.take_faults link.old; put_faults = L.put_faults link.old })
-        (record { whole = L.whole link.new; left = L.left link.new; ended = L.ended link.new; written = L.written link.new; take_faults = L.take_faults link.new; put_faults = L.put_faults link.new }) result
-        ⊎ IsAsked (form_of kind) key.now (record { whole = L.whole link.old; left = L.left link.old; ended = L.ended link.old; written = L.written link.old; take_faults = L.take_faults link.old; put_faults = L.put_faults link.old })
-        (record { whole = L.whole link.new; left = L.left link.new; ended = L.ended link.new; written = L.written link.new; take_faults = L.take_faults link.new; put_faults = L.put_faults link.new }) result }
+    ensures asked { IsUnasked key.now (link_state L.Source L.Sink link.old)
+        (link_state L.Source L.Sink link.new) result
+        ⊎ IsAsked (form_of kind) key.now (link_state L.Source L.Sink link.old)
+        (link_state L.Source L.Sink link.new) result }
     ensures whole { L.whole link.new ≡ L.whole link.old }
 {
     match put_all(link, key) {
@@ -77,7 +78,7 @@ pub fn ask<C: Dial>(
 ) -> BodyOutcome
     requires kind { kind ≢ Ver }
     requires host { IsTrue (is_host host.now) }
-    ensures dials { Dials (λ l. record { whole = C.Wire.whole l; left = C.Wire.left l; ended = C.Wire.ended l; written = C.Wire.written l; take_faults = C.Wire.take_faults l; put_faults = C.Wire.put_faults l })
+    ensures dials { Dials (link_state C.Wire.Source C.Wire.Sink)
         host.now port (form_of kind) key.now (record { back = C.back dial.old; faults = C.faults dial.old }) (record { back = C.back dial.new; faults = C.faults dial.new }) result }
     ensures later { C.faults dial.old ≤ C.faults dial.new }
 {

@@ -2,7 +2,7 @@
 
 ghost use Rattle.std.specs.Prelude.{◌≡◌, ◌≤◌, ◌⊎◌, true};
 ghost use Rattle.dap_outside.specs.Causes.{Rose};
-ghost use Rattle.dap_client.specs.Fetched.{IsUrl, parts_of};
+ghost use Rattle.dap_client.specs.Fetched.{IsUrl, link_state, parts_of};
 ghost use Rattle.netcdf_writer.specs.Fetching.{Becomes, IsAsked, IsUnasked, SavesUrl};
 ghost use Rattle.netcdf_writer.specs.Outcomes.{OnReadFault, OnWriteFault};
 
@@ -50,11 +50,11 @@ fn save_outcome<O: Sink>(alloc: Global, outcome: BodyOutcome, out: &mut O) -> St
 
 /// Sends a request over a new link, and saves the data response that comes.
 fn ask<L: Link, O: Sink>(alloc: Global, link: &mut L, request: &[u8], out: &mut O) -> Stored
-    ensures asked { IsUnasked request.now (record { whole = L.whole link.old; left = L.left link.old; ended = L.ended link.old; written = L.written link.old; take_faults = L.take_faults link.old; put_faults = L.put_faults link.old })
-        (record { whole = L.whole link.new; left = L.left link.new; ended = L.ended link.new; written = L.written link.new; take_faults = L.take_faults link.new; put_faults = L.put_faults link.new })
+    ensures asked { IsUnasked request.now (link_state L.Source L.Sink link.old)
+        (link_state L.Source L.Sink link.new)
         (record { written = O.written out.old; faults = O.put_faults out.old }) (record { written = O.written out.new; faults = O.put_faults out.new }) result
-        ⊎ IsAsked request.now (record { whole = L.whole link.old; left = L.left link.old; ended = L.ended link.old; written = L.written link.old; take_faults = L.take_faults link.old; put_faults = L.put_faults link.old })
-        (record { whole = L.whole link.new; left = L.left link.new; ended = L.ended link.new; written = L.written link.new; take_faults = L.take_faults link.new; put_faults = L.put_faults link.new })
+        ⊎ IsAsked request.now (link_state L.Source L.Sink link.old)
+        (link_state L.Source L.Sink link.new)
         (record { written = O.written out.old; faults = O.put_faults out.old }) (record { written = O.written out.new; faults = O.put_faults out.new }) result }
     ensures no_link { ¬ (result ≡ Stored.LinkFault) }
     ensures later { O.put_faults out.old ≤ O.put_faults out.new }
@@ -81,7 +81,7 @@ pub fn save_url<C: Dial, O: Sink>(
     out: &mut O,
 ) -> Stored
     requires { IsUrl url.now }
-    ensures saves { SavesUrl (λ l. record { whole = C.Wire.whole l; left = C.Wire.left l; ended = C.Wire.ended l; written = C.Wire.written l; take_faults = C.Wire.take_faults l; put_faults = C.Wire.put_faults l }) (parts_of url.now) ce.now
+    ensures saves { SavesUrl (link_state C.Wire.Source C.Wire.Sink) (parts_of url.now) ce.now
         (record { back = C.back dial.old; faults = C.faults dial.old }) (record { back = C.back dial.new; faults = C.faults dial.new })
         (record { written = O.written out.old; faults = O.put_faults out.old }) (record { written = O.written out.new; faults = O.put_faults out.new }) result }
     ensures link_fault { result ≡ Stored.LinkFault → Rose (C.faults dial.old) (C.faults dial.new) }

@@ -3,41 +3,20 @@ use Rattle.std.specs.Prelude.{◌≡◌, ℕ, ◌≤◌, ◌⊎◌, Bool, List, 
 use Rattle.dap_types.specs.Limits.{body_limit, most_piece}
 use Rattle.dap_model.specs.Received.{HasHead}
 use Rattle.xdr_decode.specs.Verdict.{budget}
-use Rattle.reply_faults.specs.declared.bad.BadField.{BadField}
 use Rattle.dap_http.specs.Delivered.{HasCome, IsBrokenBody, IsWholeBody}
 use Rattle.dap_http.specs.Following.{waiting}
 use Rattle.dap_http.specs.declared.body_parts.BodyParts.{BodyParts}
 use Rattle.dap_http.specs.declared.coding.Coding.{Coding}
-use Rattle.dap_client.specs.Answered.{IsLasting, ShowsBroken, ShowsRefused, ShowsStopped, good_part, text_shown}
+use Rattle.dap_client.specs.Answered.{BreaksBad, BringsBad, DeliversBad, ShowsBroken, ShowsStopped, text_shown}
 use Rattle.dap_client.specs.Outcomes.{outcome_of}
-use Rattle.dap_client.specs.Replies.{Settles, first_of}
-use Rattle.dap_client.specs.Verdict.{Form, Verdict, IsVerdict, bad, dods_form, server_error}
+use Rattle.dap_client.specs.Replies.{Settles}
+use Rattle.dap_client.specs.Verdict.{Form, Verdict, IsVerdict, dods_form, server_error}
 use Rattle.dap_client.specs.declared.outcome.Outcome.{Outcome}
 use Rattle.dap_client.specs.declared.outcome.Outcome.TheVariants.{Complete, ServerError, BadReply, ReadFault, WriteFault, LinkFault, Memory}
 
-pub record BringsBad (form : Form) (coding : Coding) (bytes : List ℕ) (field : BadField) (text : List ℕ) : Type 0 where
-  pub front : List ℕ
-  pub behind : List ℕ
-  pub body : List ℕ
-  pub parts : bytes ≡ front ++ behind
-  pub comes : HasCome coding front body
-  pub lasting : IsLasting form body field
-  pub shows : ShowsRefused form (take field.place body) text
-
-pub record DeliversBad (form : Form) (coding : Coding) (bytes : List ℕ) (ended : Bool) (rest : List ℕ) (field : BadField) (text : List ℕ) : Type 0 where
-  pub body : List ℕ
-  pub is_whole : IsWholeBody coding bytes ended body rest
-  pub verdict : IsVerdict form body (bad field.kind field.place)
-  pub shows : ShowsRefused form (take field.place body) text
-
-pub record BreaksBad (form : Form) (coding : Coding) (bytes : List ℕ) (ended : Bool) (field : BadField) (text : List ℕ) : Type 0 where
-  pub body : List ℕ
-  pub wrong : BadField
-  pub front : Verdict
-  pub breaks : IsBrokenBody coding bytes ended body wrong
-  pub verdict : IsVerdict form body front
-  pub is_first : bad field.kind field.place ≡ first_of front wrong
-  pub shows : ShowsRefused form (good_part front body) text
+-- some bytes from the front bring this much of the body
+abbrev pub BringsBehind : Coding → List ℕ → List ℕ → Type 0
+BringsBehind coding bytes body = (front : List ℕ) × (behind : List ℕ) × (bytes ≡ front ++ behind) × HasCome coding front body
 
 abbrev pub ShowsUnputBehind : Form → Coding → List ℕ → Bool → List ℕ → List ℕ → Type 0
 ShowsUnputBehind dods_form coding bytes ended rest text =
@@ -54,7 +33,8 @@ IsToldBehind form coding bytes ended rest text (Complete n) =
 IsToldBehind form coding bytes ended rest text (ServerError code message) =
     (body : List ℕ) × IsWholeBody coding bytes ended body rest × IsVerdict form body (server_error (record { code = code; message = message })) × (text ≡ [])
 IsToldBehind form coding bytes ended rest text (BadReply field) =
-    BringsBad form coding bytes field text ⊎ (DeliversBad form coding bytes ended rest field text ⊎ BreaksBad form coding bytes ended field text)
+    BringsBad form (λ body. BringsBehind coding bytes body) field text
+    ⊎ (DeliversBad form (λ body. IsWholeBody coding bytes ended body rest) field text ⊎ BreaksBad form (λ body wrong. IsBrokenBody coding bytes ended body wrong) field text)
 IsToldBehind form coding bytes ended rest text ReadFault =
     (body : List ℕ) × HasCome coding bytes body × ShowsStopped form body text
 IsToldBehind form coding bytes ended rest text WriteFault = ShowsUnputBehind form coding bytes ended rest text

@@ -1,6 +1,7 @@
 use Rattle.std.proofs.Common.{◌≡◌, ◌≤◌}
 use Rattle.dap_gateway.specs.Pairs.{pairs, room_of}
 use Rattle.dap_commands.proofs.Gateways.{All-from}
+use Rattle.dap_client.specs.Fetched.{link_state}
 use Rattle.dap_commands.proofs.relaying.relay_links.Given as goal
 
 abbrev pub invariant-loop-number : goal.invariant-loop-number
@@ -16,8 +17,8 @@ invariant-loop-number g l =
       within : l.number ≤ l.requests;
       so_far : All-from
           (record {
-            door_link = λ x. record { whole = from.whole x; left = from.left x; ended = from.ended x; written = to.written x; take_faults = from.take_faults x; put_faults = to.put_faults x };
-            dial_link = λ x. record { whole = asked.whole x; left = asked.left x; ended = asked.ended x; written = told.written x; take_faults = asked.take_faults x; put_faults = told.put_faults x };
+            door_link = link_state from to;
+            dial_link = link_state asked told;
             dial = λ d. record { back = dial.back d; faults = dial.faults d };
             host = l.fn.host;
             port = l.fn.upport;

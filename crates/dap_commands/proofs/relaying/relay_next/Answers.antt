@@ -1,6 +1,7 @@
 use Rattle.std.proofs.Common.{ap, ◌∙◌, [], ◌∷◌, ◌++◌, option_map}
 use Rattle.dap_gateway.specs.Pairs.{room_of}
 use Rattle.dap_commands.proofs.Gateways.{came-of}
+use Rattle.dap_client.specs.Fetched.{link_state}
 use Rattle.dap_commands.proofs.relaying.relay_next.Goals as goal
 
 pub returns-clause-relayed : goal.returns-clause-relayed
@@ -14,8 +15,8 @@ returns-clause-relayed g c =
     let asked = g.C.Wire.Source in
     let told = g.C.Wire.Sink in
     came-of (record {
-      door_link = λ x. record { whole = from.whole x; left = from.left x; ended = from.ended x; written = to.written x; take_faults = from.take_faults x; put_faults = to.put_faults x };
-      dial_link = λ x. record { whole = asked.whole x; left = asked.left x; ended = asked.ended x; written = told.written x; take_faults = asked.take_faults x; put_faults = told.put_faults x };
+      door_link = link_state from to;
+      dial_link = link_state asked told;
       dial = λ d. record { back = dial.back d; faults = dial.faults d };
       host = c.args.host.now;
       port = c.args.upport;

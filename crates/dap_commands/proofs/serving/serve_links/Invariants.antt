@@ -1,5 +1,6 @@
 use Rattle.std.proofs.Common.{◌≡◌, ◌≤◌}
 use Rattle.dap_commands.proofs.Visiting.{All-from, standing}
+use Rattle.dap_client.specs.Fetched.{link_state}
 use Rattle.dap_commands.proofs.serving.serve_links.Given as goal
 
 abbrev pub invariant-loop-number : goal.invariant-loop-number
@@ -12,7 +13,7 @@ invariant-loop-number g l =
     record {
       within : l.number ≤ l.requests;
       so_far : All-from (shelf.files l.fn.shelf)
-          (λ x. record { whole = from.whole x; left = from.left x; ended = from.ended x; written = to.written x; take_faults = from.take_faults x; put_faults = to.put_faults x }) l.requests
+          (link_state from to) l.requests
           (standing (door.back l.fn.door) (shelf.faults l.fn.shelf) (shelf.asked l.fn.shelf) (sink.written l.fn.out)) l.number (standing (door.back l.door) (shelf.faults l.shelf) (shelf.asked l.shelf) (sink.written l.out));
       listens : door.listens_at l.door ≡ door.listens_at l.fn.door;
       files : shelf.files l.shelf ≡ shelf.files l.fn.shelf;
