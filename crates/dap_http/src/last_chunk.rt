@@ -1,5 +1,5 @@
 ghost use Rattle.std.specs.Prelude.{◌≡◌, ◌<◌, ◌++◌, length, OnOk, OnErr, false};
-ghost use Rattle.std.specs.Fmt.{digit_glyph, digits};
+ghost use Rattle.std.specs.Fmt.{digits};
 ghost use Rattle.std.specs.Io.KnownBytes.{Appends};
 ghost use Rattle.httparse.specs.Ascii.{crlf_bytes};
 ghost use Rattle.dap_outside.specs.Causes.{HasCause};
@@ -7,6 +7,7 @@ ghost use Rattle.dap_outside.specs.Streams.{AppendsFront};
 ghost use Rattle.dap_http.specs.Frames.{chunk, chunked, last_chunk};
 
 use dap_outside::{Failed, Sink, put_all};
+use text_lines::hex_digit;
 
 /// Puts a rest of fewer than 65,536 bytes as a chunk, where there are any, and the last chunk.
 pub fn put_last<O: Sink>(out: &mut O, held: &[u8]) -> Result<(), Failed>
@@ -71,19 +72,8 @@ fn put_size<O: Sink>(out: &mut O, size: u64) -> Result<(), Failed>
     ensures beside { O.beside_writing out.new ≡ O.beside_writing out.old }
 {
     if size < 16 {
-        return put_all(out, &[glyph(size as u8)]);
+        return put_all(out, &[hex_digit(size as u8)]);
     }
     put_size(out, size / 16)?;
-    put_all(out, &[glyph((size % 16) as u8)])
-}
-
-fn glyph(value: u8) -> u8
-    requires { value < 16 }
-    ensures { result ≡ digit_glyph false value }
-{
-    if value < 10 {
-        b'0' + value
-    } else {
-        b'a' + (value - 10)
-    }
+    put_all(out, &[hex_digit((size % 16) as u8)])
 }
