@@ -1,3 +1,4 @@
+mod expecting;
 mod files;
 mod lines;
 mod outside;

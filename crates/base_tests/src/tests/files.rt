@@ -1,7 +1,10 @@
+use crate::tests::expecting::expect;
 use file_names::{dataset_id, last_segment};
+use std::alloc::Global;
+use std::process::Abort;
 use std::test::Fail;
 
-// The name of a file, its last segment, and the name of its dataset.
+/// The name of a file, its last segment, and the name of its dataset.
 const NAMES: [(&[u8], &[u8], &[u8]); 5] = [
     (b"buoys.csv", b"buoys.csv", b"buoys.csv"),
     (b"north/sea.2.nc", b"sea.2.nc", b"sea.2.nc"),
@@ -10,12 +13,22 @@ const NAMES: [(&[u8], &[u8], &[u8]); 5] = [
     (b"", b"", b""),
 ];
 
+fn expect_name<R: Abort>(
+    rt: &R,
+    alloc: Global,
+    file: &[u8],
+    segment: &[u8],
+    name: &[u8],
+) -> Result<(), Fail> {
+    expect(rt, last_segment(file), segment);
+    expect(rt, dataset_id(alloc, file)?.bytes(), name);
+    Ok(())
+}
+
 #[test]
 fn a_dataset_is_named_by_the_last_segment(rt: HostRuntime) -> Result<(), Fail> {
     for (file, segment, name) in NAMES {
-        assert_eq!(rt; last_segment(file), segment);
-        let id = dataset_id(rt.alloc(), file)?;
-        assert_eq!(rt; id.bytes(), name);
+        expect_name(&rt, rt.alloc(), file, segment, name)?;
     }
     Ok(())
 }

@@ -1,3 +1,4 @@
+use crate::tests::expecting::expect;
 use dap_types::BaseType;
 use std::test::Fail;
 use text_lines::{hex_digit, put, put_hex, put_line, put_number, put_spaces, type_word};
@@ -13,9 +14,10 @@ fn pieces_stand_one_behind_the_other(rt: HostRuntime) -> Result<(), Fail> {
     put_hex(&mut out, 8, 0xc2f6_1caf)?;
     put_hex(&mut out, 2, 0x1a5)?;
     put_spaces(&mut out, 0)?;
-    assert_eq!(rt;
+    expect(
+        &rt,
         out.as_slice(),
-        b">Int16 0  4294967295    } g;\nc2f61cafa5".as_slice()
+        b">Int16 0  4294967295    } g;\nc2f61cafa5",
     );
     Ok(())
 }
@@ -29,9 +31,10 @@ fn digits_are_as_many_as_asked(rt: HostRuntime) -> Result<(), Fail> {
     put_hex(&mut out, 16, 0xfedc_ba98_7654_3210)?;
     put(&mut out, b">")?;
     put_hex(&mut out, 19, 0x8000_0000_0000_000f)?;
-    assert_eq!(rt;
+    expect(
+        &rt,
         out.as_slice(),
-        b">fedcba9876543210>000800000000000000f".as_slice()
+        b">fedcba9876543210>000800000000000000f",
     );
     Ok(())
 }
@@ -50,8 +53,8 @@ fn types_have_their_words(rt: HostRuntime) {
         (BaseType::Url, b"Url"),
     ];
     for (base, word) in rows {
-        assert_eq!(rt; type_word(base), word);
+        expect(&rt, type_word(base), word);
     }
-    assert_eq!(rt; hex_digit(9), b'9');
-    assert_eq!(rt; hex_digit(10), b'a');
+    expect(&rt, hex_digit(9), b'9');
+    expect(&rt, hex_digit(10), b'a');
 }

@@ -1,12 +1,14 @@
 ghost use Rattle.std.specs.Prelude.{◌≡◌, ◌<◌, All, IfOk, IsSome};
 ghost use Rattle.dap_outside.specs.MemLinks.{IsNew};
 
+use crate::tests::expecting::expect;
 use dap_outside::{
     Dial, Door, Failed, MemDial, MemDoor, MemFile, MemLink, MemShelf, MemSink, MemSource, Shelf,
     Sink, Source, SureShelf, SureSource, put_all, take_some,
 };
 use dap_types::{Bytes, List, Memory, Name};
 use std::alloc::Global;
+use std::process::Abort;
 use std::test::Fail;
 
 fn numbers(alloc: Global, all: &[u64]) -> Result<List<u64>, Memory> {
@@ -54,6 +56,53 @@ fn puts<O: Sink>(out: &mut O, expected: &[Result<usize, Failed>]) -> bool {
     true
 }
 
+/// A source of five bytes, which come in pieces of so many. The listed takes fail.
+fn source(alloc: Global, piece: u32, fails: &[u64]) -> Result<MemSource, Memory> {
+    let bytes = Bytes::new(alloc, b"abcde")?;
+    Ok(MemSource::new(bytes, piece.max(1), numbers(alloc, fails)?))
+}
+
+/// A sink for so many bytes, which takes so many at once. The listed puts fail.
+fn sink(alloc: Global, room: u32, piece: u32, fails: &[u64]) -> Result<MemSink, Memory> {
+    MemSink::new(alloc, room, piece.max(1), numbers(alloc, fails)?)
+}
+
+/// A link with both, for which these bytes come.
+fn both(
+    alloc: Global,
+    bytes: &[u8],
+    room: u32,
+    piece: u32,
+    takes: &[u64],
+    puts: &[u64],
+) -> Result<MemLink, Memory> {
+    let bytes = Bytes::new(alloc, bytes)?;
+    let takes = numbers(alloc, takes)?;
+    MemLink::new(
+        alloc,
+        bytes,
+        room,
+        piece.max(1),
+        takes,
+        numbers(alloc, puts)?,
+    )
+}
+
+/// What the takes of five bytes give, of a source and of a link.
+fn expect_takes<R: Abort>(
+    rt: &R,
+    alloc: Global,
+    piece: u32,
+    fails: &[u64],
+    expected: &[Result<&[u8], Failed>],
+) -> Result<(), Fail> {
+    assert!(rt; takes(&mut source(alloc, piece, fails)?, expected));
+    let mut link = both(alloc, b"abcde", 4, piece, fails, &[1])?;
+    assert!(rt; takes(&mut link, expected));
+    assert!(rt; puts(&mut link, &[Err(Failed)]));
+    Ok(())
+}
+
 #[test]
 fn listed_takes_fail(rt: HostRuntime) -> Result<(), Fail> {
     let alloc = rt.alloc();
@@ -75,18 +124,29 @@ fn listed_takes_fail(rt: HostRuntime) -> Result<(), Fail> {
         (1, &[1, 2], &[Err(Failed), Err(Failed), Ok(b"a"), Ok(b"b")]),
     ];
     for (piece, fails, expected) in rows {
-        let piece = piece.max(1);
-        let bytes = Bytes::new(alloc, b"abcde")?;
-        let mut source = MemSource::new(bytes, piece, numbers(alloc, fails)?);
-        assert!(rt; takes(&mut source, expected));
-        let bytes = Bytes::new(alloc, b"abcde")?;
-        let take_fails = numbers(alloc, fails)?;
-        let mut link = MemLink::new(alloc, bytes, 4, piece, take_fails, numbers(alloc, &[1])?)?;
-        assert!(rt; takes(&mut link, expected));
-        assert!(rt; puts(&mut link, &[Err(Failed)]));
+        expect_takes(&rt, alloc, piece, fails, expected)?;
     }
     let mut sure = SureSource::new(Bytes::new(alloc, b"abcde")?, 3);
     assert!(rt; takes(&mut sure, &[Ok(b"abc"), Ok(b"de"), Ok(b""), Ok(b"")]));
+    Ok(())
+}
+
+/// What the puts into a room of five bytes give, and what is there then, of a sink and of a link.
+fn expect_puts<R: Abort>(
+    rt: &R,
+    alloc: Global,
+    piece: u32,
+    fails: &[u64],
+    expected: (&[Result<usize, Failed>], &[u8]),
+) -> Result<(), Fail> {
+    let (answers, written) = expected;
+    let mut out = sink(alloc, 5, piece, fails)?;
+    assert!(rt; puts(&mut out, answers));
+    expect(rt, out.bytes(), written);
+    let mut link = both(alloc, b"x", 5, piece, &[1], fails)?;
+    assert!(rt; puts(&mut link, answers));
+    expect(rt, link.written(), written);
+    assert!(rt; takes(&mut link, &[Err(Failed), Ok(b"x"), Ok(b"")]));
     Ok(())
 }
 
@@ -104,39 +164,47 @@ fn listed_puts_fail(rt: HostRuntime) -> Result<(), Fail> {
         (1, &[1, 3], &[Err(Failed), Ok(1), Err(Failed), Ok(1)], b"aa"),
     ];
     for (piece, fails, expected, written) in rows {
-        let piece = piece.max(1);
-        let mut out = MemSink::new(alloc, 5, piece, numbers(alloc, fails)?)?;
-        assert!(rt; puts(&mut out, expected));
-        assert_eq!(rt; out.bytes(), written);
-        let bytes = Bytes::new(alloc, b"x")?;
-        let put_fails = numbers(alloc, fails)?;
-        let mut link = MemLink::new(alloc, bytes, 5, piece, numbers(alloc, &[1])?, put_fails)?;
-        assert!(rt; puts(&mut link, expected));
-        assert_eq!(rt; link.written(), written);
-        assert!(rt; takes(&mut link, &[Err(Failed), Ok(b"x"), Ok(b"")]));
+        expect_puts(&rt, alloc, piece, fails, (expected, written))?;
     }
     Ok(())
 }
 
-#[test]
-fn all_is_put_and_taken(rt: HostRuntime) -> Result<(), Fail> {
-    let alloc = rt.alloc();
-    let mut out = MemSink::new(alloc, 9, 2, numbers(alloc, &[4])?)?;
-    assert_eq!(rt; put_all(&mut out, b"abcde"), Ok(()));
-    assert_eq!(rt; put_all(&mut out, b"fg"), Err(Failed));
-    assert_eq!(rt; put_all(&mut out, b"hijkl"), Err(Failed));
-    assert_eq!(rt; out.bytes(), b"abcdehijk".as_slice());
+/// Puts all of the bytes, with that answer.
+fn expect_put<R: Abort, O: Sink>(rt: &R, out: &mut O, bytes: &[u8], answer: Result<(), Failed>) {
+    expect(rt, put_all(out, bytes), answer);
+}
+
+/// Takes what comes for four bytes: these, or none where a call fails.
+fn expect_taken<R: Abort, I: Source>(rt: &R, source: &mut I, answer: Result<&[u8], Failed>) {
     let mut into = [0; 4];
+    let taken = match take_some(source, &mut into) {
+        Ok(count) => Ok(&into[..count]),
+        Err(_) => Err(Failed),
+    };
+    expect(rt, taken, answer);
+}
+
+#[test]
+fn all_is_put(rt: HostRuntime) -> Result<(), Fail> {
+    let mut out = sink(rt.alloc(), 9, 2, &[4])?;
+    expect_put(&rt, &mut out, b"abcde", Ok(()));
+    expect_put(&rt, &mut out, b"fg", Err(Failed));
+    expect_put(&rt, &mut out, b"hijkl", Err(Failed));
+    expect(&rt, out.bytes(), b"abcdehijk");
+    Ok(())
+}
+
+#[test]
+fn all_is_taken(rt: HostRuntime) -> Result<(), Fail> {
+    let alloc = rt.alloc();
     let mut source = MemSource::new(Bytes::new(alloc, b"abcdefghi")?, 3, numbers(alloc, &[4])?);
-    assert_eq!(rt; take_some(&mut source, &mut into), Ok(4));
-    assert_eq!(rt; into.as_slice(), b"abcd".as_slice());
-    assert_eq!(rt; take_some(&mut source, &mut into), Err(Failed));
-    assert_eq!(rt; take_some(&mut source, &mut into), Ok(2));
-    assert_eq!(rt; &into[..2], b"hi".as_slice());
+    expect_taken(&rt, &mut source, Ok(b"abcd"));
+    expect_taken(&rt, &mut source, Err(Failed));
+    expect_taken(&rt, &mut source, Ok(b"hi"));
     let mut sure = SureSource::new(Bytes::new(alloc, b"abcdef")?, 1);
-    assert_eq!(rt; take_some(&mut sure, &mut into), Ok(4));
-    assert_eq!(rt; take_some(&mut sure, &mut into), Ok(2));
-    assert_eq!(rt; take_some(&mut sure, &mut into), Ok(0));
+    expect_taken(&rt, &mut sure, Ok(b"abcd"));
+    expect_taken(&rt, &mut sure, Ok(b"ef"));
+    expect_taken(&rt, &mut sure, Ok(b""));
     Ok(())
 }
 
@@ -170,12 +238,12 @@ fn listed_calls_of_a_shelf_fail(rt: HostRuntime) -> Result<(), Fail> {
     let mut fails = MemShelf::new(files(alloc)?, numbers(alloc, &[2, 3, 5])?);
     let expected = [None, None, None, Some(true)];
     for ((name, last), expected) in rows.into_iter().zip(expected) {
-        assert_eq!(rt; reads(&mut sure, name, last), Some(true));
-        assert_eq!(rt; reads(&mut none_fails, name, last), Some(true));
-        assert_eq!(rt; reads(&mut fails, name, last), expected);
+        expect(&rt, reads(&mut sure, name, last), Some(true));
+        expect(&rt, reads(&mut none_fails, name, last), Some(true));
+        expect(&rt, reads(&mut fails, name, last), expected);
     }
-    assert_eq!(rt; reads(&mut none_fails, "c", b""), None);
-    assert_eq!(rt; reads(&mut none_fails, "c", b""), Some(true));
+    expect(&rt, reads(&mut none_fails, "c", b""), None);
+    expect(&rt, reads(&mut none_fails, "c", b""), Some(true));
     Ok(())
 }
 
@@ -221,10 +289,10 @@ fn a_door_gives_its_links_in_order(rt: HostRuntime) -> Result<(), Fail> {
     let Ok(()) = door.listen(80) else {
         return Err(Fail::from("does not listen"));
     };
-    assert_eq!(rt; echo(&mut door), Ok(()));
-    assert_eq!(rt; echo(&mut door), Err(Failed));
-    assert_eq!(rt; echo(&mut door), Ok(()));
-    assert_eq!(rt; echo(&mut door), Err(Failed));
+    expect(&rt, echo(&mut door), Ok(()));
+    expect(&rt, echo(&mut door), Err(Failed));
+    expect(&rt, echo(&mut door), Ok(()));
+    expect(&rt, echo(&mut door), Err(Failed));
     let written = door.back().iter().map(|link| link.written().len());
     assert!(rt; written.eq([5, 6]));
     Ok(())
