@@ -1,2 +1,3 @@
+mod expecting;
 mod selections;
 mod tables;

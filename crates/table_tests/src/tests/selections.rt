@@ -1,3 +1,4 @@
+use crate::tests::expecting::expect;
 use constraint_parse::parse;
 use csv_source::{Table, read_table};
 use dap_types::Index;
@@ -32,6 +33,28 @@ fn read_case(alloc: Global, file_name: &[u8], bytes: &[u8], text: &[u8]) -> Resu
     Ok(Case { table, tests })
 }
 
+/// Each row alone is kept or not.
+fn expect_rows<R: Abort>(rt: &R, case: &Case, expected: &[bool; 5]) {
+    assert!(rt; case.table.rows() == 5);
+    for row in 0..5u32 {
+        let kept = keep(&case.table, &case.tests, row);
+        assert!(rt; kept == expected[row as usize], "row {row}");
+    }
+}
+
+/// Writes which rows so many workers keep.
+fn write_kept<R: Threads + Abort + Sync, G: Gate>(
+    rt: &R,
+    case: &Case,
+    out: &mut [bool],
+    workers: u32,
+    gate: &G,
+) {
+    assert!(rt; out.len() == case.table.rows() as usize);
+    assert!(rt; workers >= 1 && workers <= 64);
+    mask(rt, &case.table, &case.tests, out, workers, gate);
+}
+
 /// However many workers there are, they keep these rows.
 fn expect_kept<R: Threads + Abort + Sync>(
     rt: &R,
@@ -39,20 +62,13 @@ fn expect_kept<R: Threads + Abort + Sync>(
     text: &[u8],
     expected: &[bool; 5],
 ) -> Result<(), Fail> {
-    let Case { table, tests } = read_case(alloc, b"sea/buoys.csv", BUOYS, text)?;
-    assert!(rt; table.rows() == 5);
-    crosses(&tests);
-    for row in 0..5u32 {
-        assert_eq!(rt;
-            keep(&table, &tests, row),
-            expected[row as usize],
-            "row {row}"
-        );
-    }
+    let case = read_case(alloc, b"sea/buoys.csv", BUOYS, text)?;
+    crosses(&case.tests);
+    expect_rows(rt, &case, expected);
     for workers in [1, 2, 3, 7, 64] {
         let mut out = [true, false, true, false, true];
-        mask(rt, &table, &tests, &mut out, workers, &NoGate);
-        assert_eq!(rt; out, *expected, "{workers} workers");
+        write_kept(rt, &case, &mut out, workers, &NoGate);
+        assert!(rt; out == *expected, "{workers} workers");
     }
     Ok(())
 }
@@ -183,9 +199,10 @@ fn first_two<R: Abort>(
     let bytes = b"station,depth:Int32\nA1,5\nB22,-7\n";
     let Case { table, tests } = read_case(alloc, b"buoys.csv", bytes, text)?;
     assert!(rt; table.rows() == 2);
-    assert_eq!(rt;
+    expect(
+        rt,
         (keep(&table, &tests, 0), keep(&table, &tests, 1)),
-        expected
+        expected,
     );
     Ok(())
 }
@@ -209,15 +226,14 @@ fn small_tables(rt: HostRuntime) -> Result<(), Fail> {
 
 #[test]
 fn no_rows(rt: HostRuntime) -> Result<(), Fail> {
-    let Case { table, tests } = read_case(
+    let case = read_case(
         rt.alloc(),
         b"buoys.csv",
         b"depth:Int32\n",
         b"&buoys.depth>5",
     )?;
-    assert!(rt; table.rows() == 0);
-    let mut out = [];
-    mask(&rt, &table, &tests, &mut out, 3, &NoGate);
+    assert!(rt; case.table.rows() == 0);
+    write_kept(&rt, &case, &mut [], 3, &NoGate);
     Ok(())
 }
 
@@ -260,14 +276,13 @@ impl Gate for Meeting {
 /// The machine has to give the process a second thread.
 #[test]
 fn two_workers_meet(rt: HostRuntime) -> Result<(), Fail> {
-    let Case { table, tests } = read_case(rt.alloc(), b"buoys.csv", BUOYS, b"&buoys.depth=5")?;
-    assert!(rt; table.rows() == 5);
+    let case = read_case(rt.alloc(), b"buoys.csv", BUOYS, b"&buoys.depth=5")?;
     let mut met = false;
     for _ in 0..8 {
         if !met {
             let gate = Meeting::new();
             let mut out = [false; 5];
-            mask(&rt, &table, &tests, &mut out, 2, &gate);
+            write_kept(&rt, &case, &mut out, 2, &gate);
             met = gate.both_met();
         }
     }
@@ -292,8 +307,7 @@ impl Gate for Seen {
 /// Four workers for five rows: two get two each and one gets one, and they are numbered from 0.
 #[test]
 fn numbers_of_workers(rt: HostRuntime) -> Result<(), Fail> {
-    let Case { table, tests } = read_case(rt.alloc(), b"buoys.csv", BUOYS, b"&buoys.depth=5")?;
-    assert!(rt; table.rows() == 5);
+    let case = read_case(rt.alloc(), b"buoys.csv", BUOYS, b"&buoys.depth=5")?;
     let seen = Seen {
         came: [
             AtomicBool::new(false),
@@ -303,13 +317,13 @@ fn numbers_of_workers(rt: HostRuntime) -> Result<(), Fail> {
         ],
     };
     let mut out = [false; 5];
-    mask(&rt, &table, &tests, &mut out, 4, &seen);
+    write_kept(&rt, &case, &mut out, 4, &seen);
     let came = [
         seen.came[0].load(Ordering::SeqCst),
         seen.came[1].load(Ordering::SeqCst),
         seen.came[2].load(Ordering::SeqCst),
         seen.came[3].load(Ordering::SeqCst),
     ];
-    assert_eq!(rt; came, [true, true, true, false]);
+    expect(&rt, came, [true, true, true, false]);
     Ok(())
 }

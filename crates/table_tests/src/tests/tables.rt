@@ -1,56 +1,66 @@
-use csv_source::{Cell, Table, TableRefusal, read_table};
+use crate::tests::expecting::expect;
+use csv_source::{Cell, TableRefusal, read_table};
 use dap_types::{BaseType, Decl};
 use das_text::Entry;
 use std::alloc::Global;
+use std::process::Abort;
 use std::test::Fail;
 
 fn crosses<T: Send + Sync>(_: &T) {}
 
+/// A station and its depth, in two rows.
+const BUOYS: &[u8] = b"station,depth:Int32\nA1,5\nB22,-7\n";
+
 #[test]
 fn a_table_is_read(rt: HostRuntime) -> Result<(), Fail> {
-    let bytes = b"station,depth:Int32\nA1,5\nB22,-7\n";
-    let table = read_table(rt.alloc(), bytes, b"sea/buoys.csv")?;
+    let table = read_table(rt.alloc(), BUOYS, b"sea/buoys.csv")?;
     crosses(&table);
-    assert_eq!(rt; (table.rows(), table.columns()), (2, 2));
-    let cells = [
-        Cell::Text(b"A1"),
-        Cell::Whole(5),
-        Cell::Text(b"B22"),
-        Cell::Whole(-7),
-    ];
-    for (i, cell) in cells.iter().enumerate() {
-        assert_eq!(rt; table.cell(i as u32 / 2, i as u32 % 2), *cell, "at {i}");
-    }
-    let dataset = table.dataset(rt.alloc())?;
-    assert_eq!(rt; dataset.name.bytes(), b"buoys.csv".as_slice());
-    match dataset.members.items() {
-        [Decl::Sequence(name, columns)] => {
-            assert_eq!(rt; name.bytes(), b"buoys".as_slice());
-            assert_eq!(rt; columns.items().len(), 2);
-            assert_eq!(rt; columns.items()[0].name.bytes(), b"station".as_slice());
-            assert_eq!(rt; columns.items()[0].base, BaseType::Text);
-            assert_eq!(rt; columns.items()[1].name.bytes(), b"depth".as_slice());
-            assert_eq!(rt; columns.items()[1].base, BaseType::Int32);
-        }
-        _ => panic!(rt; "no Sequence"),
-    }
-    let attributes = table.attributes(rt.alloc())?;
-    match attributes.containers.items() {
-        [Entry::Container(name, entries)] => {
-            assert_eq!(rt; name.bytes(), b"buoys".as_slice());
-            assert_eq!(rt; entries.items().len(), 0);
-        }
-        _ => panic!(rt; "no container"),
-    }
+    assert!(rt; table.rows() == 2 && table.columns() == 2);
+    expect(&rt, table.cell(0, 0), Cell::Text(b"A1"));
+    expect(&rt, table.cell(0, 1), Cell::Whole(5));
+    expect(&rt, table.cell(1, 0), Cell::Text(b"B22"));
+    expect(&rt, table.cell(1, 1), Cell::Whole(-7));
     Ok(())
 }
 
-// The first cell of a file with one row, or why there is none.
-fn first_cell(alloc: Global, bytes: &[u8], expected: Cell<'_>) -> bool {
-    match read_table(alloc, bytes, b"t.csv") {
-        Ok(table) => table.rows() == 1 && table.columns() == 1 && table.cell(0, 0) == expected,
-        Err(_) => false,
-    }
+#[test]
+fn a_table_is_a_sequence(rt: HostRuntime) -> Result<(), Fail> {
+    let table = read_table(rt.alloc(), BUOYS, b"sea/buoys.csv")?;
+    let dataset = table.dataset(rt.alloc())?;
+    expect(&rt, dataset.name.bytes(), b"buoys.csv");
+    let [Decl::Sequence(name, columns)] = dataset.members.items() else {
+        return Err(Fail::new("no Sequence"));
+    };
+    expect(&rt, name.bytes(), b"buoys");
+    let [station, depth] = columns.items() else {
+        return Err(Fail::new("no two columns"));
+    };
+    expect(&rt, station.name.bytes(), b"station");
+    expect(&rt, station.base, BaseType::Text);
+    expect(&rt, depth.name.bytes(), b"depth");
+    expect(&rt, depth.base, BaseType::Int32);
+    Ok(())
+}
+
+#[test]
+fn a_table_has_no_attributes(rt: HostRuntime) -> Result<(), Fail> {
+    let table = read_table(rt.alloc(), BUOYS, b"sea/buoys.csv")?;
+    let attributes = table.attributes(rt.alloc())?;
+    let [Entry::Container(name, entries)] = attributes.containers.items() else {
+        return Err(Fail::new("no container"));
+    };
+    expect(&rt, name.bytes(), b"buoys");
+    expect(&rt, entries.items().len(), 0);
+    Ok(())
+}
+
+/// A file of one row and one column has this cell.
+fn expect_cell<R: Abort>(rt: &R, alloc: Global, bytes: &[u8], cell: Cell<'_>) {
+    let Ok(table) = read_table(alloc, bytes, b"t.csv") else {
+        panic!(rt; "no table");
+    };
+    assert!(rt; table.rows() == 1 && table.columns() == 1);
+    expect(rt, (bytes, table.cell(0, 0)), (bytes, cell));
 }
 
 #[test]
@@ -90,8 +100,8 @@ fn each_type_has_its_cells(rt: HostRuntime) {
         (b"\xef\xbb\xbf\xef\xbb\xbfa:Int32\r\n7", Cell::Whole(7)),
         (b"s\r\n\"a,\r\n\"\"b\"\"\"\r\n", Cell::Text(b"a,\r\n\"b\"")),
     ];
-    for (i, (bytes, cell)) in files.iter().enumerate() {
-        assert!(rt; first_cell(rt.alloc(), bytes, *cell), "at {i}");
+    for (bytes, cell) in files {
+        expect_cell(&rt, rt.alloc(), bytes, cell);
     }
 }
 
@@ -101,6 +111,11 @@ fn cause(alloc: Global, bytes: &[u8]) -> Option<TableRefusal> {
         Ok(_) => None,
         Err(cause) => Some(cause),
     }
+}
+
+/// A file gives no table for this cause, or gives one.
+fn expect_cause<R: Abort>(rt: &R, alloc: Global, bytes: &[u8], expected: Option<TableRefusal>) {
+    expect(rt, (bytes, cause(alloc, bytes)), (bytes, expected));
 }
 
 #[test]
@@ -136,8 +151,8 @@ fn the_first_cause_is_told(rt: HostRuntime) {
             Some(TableRefusal::BadCell { row: 2, column: 2 }),
         ),
     ];
-    for (i, (bytes, expected)) in files.iter().enumerate() {
-        assert!(rt; cause(rt.alloc(), bytes) == *expected, "at {i}");
+    for (bytes, expected) in files {
+        expect_cause(&rt, rt.alloc(), bytes, expected);
     }
 }
 
@@ -166,8 +181,8 @@ fn what_is_no_value_is_a_bad_cell(rt: HostRuntime) {
         b"x:Float64,y:Int32\n0x00000000,\n",
     ];
     let bad = Some(TableRefusal::BadCell { row: 1, column: 1 });
-    for (i, bytes) in files.iter().enumerate() {
-        assert!(rt; cause(rt.alloc(), bytes) == bad, "at {i}");
+    for bytes in files {
+        expect_cause(&rt, rt.alloc(), bytes, bad);
     }
 }
 
@@ -180,7 +195,11 @@ fn wide(alloc: Global, commas: usize, len: usize) -> Result<Option<TableRefusal>
 
 #[test]
 fn limits_are_kept(rt: HostRuntime) -> Result<(), Fail> {
-    assert!(rt; wide(rt.alloc(), 1023, 1024)? == None);
-    assert!(rt; wide(rt.alloc(), 1024, 1025)? == Some(TableRefusal::TooWide));
+    expect(&rt, wide(rt.alloc(), 1023, 1024)?, None);
+    expect(
+        &rt,
+        wide(rt.alloc(), 1024, 1025)?,
+        Some(TableRefusal::TooWide),
+    );
     Ok(())
 }
