@@ -2,3 +2,4 @@ mod constraints;
 mod das;
 mod dds;
 mod errors;
+mod expecting;

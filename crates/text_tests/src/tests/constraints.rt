@@ -1,7 +1,9 @@
+use crate::tests::expecting::expect;
 use constraint_parse::{
     Clause, Constant, Constraint, Item, Number, Op, ParseRefusal, RawSlab, Step, parse,
 };
 use std::alloc::{AllocError, Global};
+use std::process::Abort;
 use std::test::Fail;
 
 fn put_number(alloc: Global, out: &mut Vec<u8>, number: &Number) -> Result<(), AllocError> {
@@ -112,6 +114,12 @@ fn shown(alloc: Global, text: &[u8]) -> Result<Vec<u8>, AllocError> {
     Ok(out)
 }
 
+/// The text is read so.
+fn expect_shown<R: Abort>(rt: &R, alloc: Global, text: &[u8], form: &[u8]) -> Result<(), Fail> {
+    expect(rt, shown(alloc, text)?.as_slice(), form);
+    Ok(())
+}
+
 #[test]
 fn texts_are_read(rt: HostRuntime) -> Result<(), Fail> {
     let table: [(&[u8], &[u8]); 36] = [
@@ -177,7 +185,7 @@ fn texts_are_read(rt: HostRuntime) -> Result<(), Fail> {
         (b"a[1].b", b" /a[1;;]/b"),
     ];
     for (text, expected) in table {
-        assert_eq!(rt; shown(rt.alloc(), text)?.as_slice(), expected);
+        expect_shown(&rt, rt.alloc(), text, expected)?;
     }
     Ok(())
 }
@@ -235,7 +243,7 @@ fn faults_are_placed(rt: HostRuntime) -> Result<(), Fail> {
         (b"&f(a)=1", b"5"),
     ];
     for (text, expected) in table {
-        assert_eq!(rt; shown(rt.alloc(), text)?.as_slice(), expected);
+        expect_shown(&rt, rt.alloc(), text, expected)?;
     }
     Ok(())
 }
@@ -285,6 +293,19 @@ fn counts(alloc: Global, text: &[u8]) -> Result<[usize; 5], ParseRefusal> {
     ])
 }
 
+/// A text with many copies of a part has these counts.
+fn expect_counts<R: Abort>(
+    rt: &R,
+    alloc: Global,
+    text: (&[u8], &[u8], &[u8]),
+    expected: [usize; 5],
+) -> Result<(), Fail> {
+    let (front, part, back) = text;
+    let text = repeated(alloc, front, part, back)?;
+    expect(rt, counts(alloc, &text)?, expected);
+    Ok(())
+}
+
 // With ample memory no length of any part wants more.
 #[test]
 fn long_texts_are_read(rt: HostRuntime) -> Result<(), Fail> {
@@ -299,11 +320,7 @@ fn long_texts_are_read(rt: HostRuntime) -> Result<(), Fail> {
         (b"&v=\"", b"\\\"", b"\"", [0, 1, 1, 0, 1]),
     ];
     for (front, part, back, expected) in table {
-        let text = repeated(rt.alloc(), front, part, back)?;
-        let Ok(found) = counts(rt.alloc(), &text) else {
-            return Err(Fail::from("not read"));
-        };
-        assert_eq!(rt; found, expected);
+        expect_counts(&rt, rt.alloc(), (front, part, back), expected)?;
     }
     Ok(())
 }

@@ -1,7 +1,9 @@
+use crate::tests::expecting::expect;
 use dap_errors::{
     Cause, ErrorRefusal, FileCause, Spot, code, message, print_error, read_error, status,
 };
 use std::alloc::{AllocError, Global};
+use std::process::Abort;
 use std::test::Fail;
 
 /// What a text is read as: code and message, the place at which it is bad, or that it is cut.
@@ -20,6 +22,19 @@ fn shown(alloc: Global, text: &[u8]) -> Result<Vec<u8>, AllocError> {
         Err(ErrorRefusal::Memory) => out.extend_from_slice(b"memory")?,
     }
     Ok(out)
+}
+
+/// The code, the status and the message of a cause.
+fn expect_cause<R: Abort>(
+    rt: &R,
+    alloc: Global,
+    cause: &Cause,
+    told: (u32, u16, &[u8]),
+) -> Result<(), Fail> {
+    let (number, http, text) = told;
+    expect(rt, (code(cause), status(cause)), (number, http));
+    expect(rt, message(alloc, cause)?.bytes(), text);
+    Ok(())
 }
 
 #[test]
@@ -72,21 +87,32 @@ fn causes_have_their_codes(rt: HostRuntime) -> Result<(), Fail> {
         (Cause::OutOfMemory, 21, 503, b"out of memory"),
     ];
     for (cause, number, http, text) in table {
-        assert_eq!(rt; code(&cause), number);
-        assert_eq!(rt; status(&cause), http);
-        assert_eq!(rt; message(rt.alloc(), &cause)?.bytes(), text);
+        expect_cause(&rt, rt.alloc(), &cause, (number, http, text))?;
     }
+    Ok(())
+}
+
+#[test]
+fn objects_are_printed(rt: HostRuntime) -> Result<(), Fail> {
     let printed = print_error(rt.alloc(), 1, b"syntax at 5")?;
-    assert_eq!(rt;
+    expect(
+        &rt,
         printed.bytes(),
-        b"Error {\n    code = 1;\n    message = \"syntax at 5\";\n};\n".as_slice()
+        b"Error {\n    code = 1;\n    message = \"syntax at 5\";\n};\n",
     );
-    assert_eq!(rt; printed.bytes().len(), 54);
+    expect(&rt, printed.bytes().len(), 54);
     let printed = print_error(rt.alloc(), 4294967295, b"a\"\\\n")?;
-    assert_eq!(rt;
+    expect(
+        &rt,
         printed.bytes(),
-        b"Error {\n    code = 4294967295;\n    message = \"a\\\"\\\\\n\";\n};\n".as_slice()
+        b"Error {\n    code = 4294967295;\n    message = \"a\\\"\\\\\n\";\n};\n",
     );
+    Ok(())
+}
+
+/// The text is read so.
+fn expect_shown<R: Abort>(rt: &R, alloc: Global, text: &[u8], form: &[u8]) -> Result<(), Fail> {
+    expect(rt, shown(alloc, text)?.as_slice(), form);
     Ok(())
 }
 
@@ -135,14 +161,16 @@ fn objects_are_read(rt: HostRuntime) -> Result<(), Fail> {
         (b"Error { code = 1; message = \"x\"; ", b"cut"),
     ];
     for (text, expected) in table {
-        assert_eq!(rt; shown(rt.alloc(), text)?.as_slice(), expected);
+        expect_shown(&rt, rt.alloc(), text, expected)?;
     }
-    let mut spaces = vec![in rt.alloc(); b' '; 65535]?;
-    assert_eq!(rt; shown(rt.alloc(), &spaces)?.as_slice(), b"cut".as_slice());
-    spaces.push(b' ')?;
-    assert_eq!(rt;
-        shown(rt.alloc(), &spaces)?.as_slice(),
-        b"bad 65536".as_slice()
-    );
     Ok(())
+}
+
+/// No text has more than 65,536 bytes.
+#[test]
+fn objects_have_a_limit(rt: HostRuntime) -> Result<(), Fail> {
+    let mut spaces = vec![in rt.alloc(); b' '; 65535]?;
+    expect_shown(&rt, rt.alloc(), &spaces, b"cut")?;
+    spaces.push(b' ')?;
+    expect_shown(&rt, rt.alloc(), &spaces, b"bad 65536")
 }

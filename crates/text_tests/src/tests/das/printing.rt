@@ -1,3 +1,4 @@
+use crate::tests::expecting::expect;
 use dap_types::{BaseType, Bytes, Id, List, Memory};
 use das_text::{Attribute, Attributes, Entry, Word, print};
 use std::alloc::Global;
@@ -75,14 +76,15 @@ fn nested_containers(alloc: Global) -> Result<Attributes, Memory> {
 fn attributes_are_printed(rt: HostRuntime) -> Result<(), Fail> {
     let alloc = rt.alloc();
     let empty = print(alloc, &empty_containers(alloc)?)?;
-    assert_eq!(rt;
+    expect(
+        &rt,
         empty.bytes(),
-        b"Attributes {\n    v {\n    }\n    NC_GLOBAL {\n    }\n}\n".as_slice()
+        b"Attributes {\n    v {\n    }\n    NC_GLOBAL {\n    }\n}\n",
     );
     let nested = print(alloc, &nested_containers(alloc)?)?;
     let lines =
         b"Attributes {\n    v {\n        Int16 range -1, 2;\n        more {\n            String notes \"a \\\"b\\\"\", \"c\\\\d\n\";\n            Url none;\n        }\n        String units \"\";\n    }\n}\n";
-    assert_eq!(rt; nested.bytes(), lines.as_slice());
+    expect(&rt, nested.bytes(), lines.as_slice());
     Ok(())
 }
 
@@ -118,7 +120,7 @@ fn nested_containers_are_printed(rt: HostRuntime) -> Result<(), Fail> {
     for depth in [1, 15, 16, 17, 100] {
         let containers = nested(alloc, depth)?;
         let text = print(alloc, &Attributes { containers })?;
-        assert_eq!(rt; text.bytes(), nested_lines(alloc, depth)?.as_slice());
+        expect(&rt, text.bytes(), nested_lines(alloc, depth)?.as_slice());
     }
     Ok(())
 }

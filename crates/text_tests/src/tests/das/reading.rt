@@ -1,6 +1,8 @@
+use crate::tests::expecting::expect;
 use dap_types::{Bytes, Memory};
 use das_text::{DasRefusal, print, read};
 use std::alloc::Global;
+use std::process::Abort;
 use std::test::Fail;
 
 /// The print of what is read, or why nothing is.
@@ -13,6 +15,12 @@ fn shown(alloc: Global, text: &[u8]) -> Result<Bytes, Memory> {
         Err(DasRefusal::Memory) => return Err(Memory),
     };
     Bytes::new(alloc, line.as_bytes())
+}
+
+/// The text is read, and printed so, or is refused so.
+fn expect_shown<R: Abort>(rt: &R, alloc: Global, text: &[u8], form: &[u8]) -> Result<(), Fail> {
+    expect(rt, shown(alloc, text)?.bytes(), form);
+    Ok(())
 }
 
 /// As this project prints them, as libdap and ERDDAP do, and each form of a token.
@@ -50,7 +58,7 @@ fn attributes_are_read(rt: HostRuntime) -> Result<(), Fail> {
         ),
     ];
     for (text, expected) in table {
-        assert_eq!(rt; shown(rt.alloc(), text)?.bytes(), expected);
+        expect_shown(&rt, rt.alloc(), text, expected)?;
     }
     Ok(())
 }
@@ -97,7 +105,7 @@ fn other_texts_are_refused(rt: HostRuntime) -> Result<(), Fail> {
         (b"Attributes { \t", b"cut"),
     ];
     for (text, expected) in table {
-        assert_eq!(rt; shown(rt.alloc(), text)?.bytes(), expected);
+        expect_shown(&rt, rt.alloc(), text, expected)?;
     }
     Ok(())
 }
@@ -106,9 +114,9 @@ fn other_texts_are_refused(rt: HostRuntime) -> Result<(), Fail> {
 fn each_front_of_a_text_is_cut(rt: HostRuntime) -> Result<(), Fail> {
     let text = b"Attributes { v { String s \"a\\\"\", b; c { Url none; } } }";
     for end in 0..text.len() {
-        assert_eq!(rt; shown(rt.alloc(), &text[..end])?.bytes(), b"cut".as_slice());
+        expect_shown(&rt, rt.alloc(), &text[..end], b"cut")?;
     }
-    assert_eq!(rt; read(rt.alloc(), text.as_slice()).is_ok(), true);
+    assert!(rt; read(rt.alloc(), text.as_slice()).is_ok());
     Ok(())
 }
 
@@ -120,20 +128,16 @@ fn depth_and_length_are_limited(rt: HostRuntime) -> Result<(), Fail> {
     }
     let mut deepest = text.clone()?;
     deepest.extend_from_slice(b"Byte b;}}}}}}}}}}}}}}}}}")?;
-    assert_eq!(rt; read(rt.alloc(), &deepest).is_ok(), true);
+    assert!(rt; read(rt.alloc(), &deepest).is_ok());
     let mut deeper = text.clone()?;
     deeper.extend_from_slice(b"a{")?;
-    assert_eq!(rt; shown(rt.alloc(), &deeper)?.bytes(), b"bad 43".as_slice());
+    expect_shown(&rt, rt.alloc(), &deeper, b"bad 43")?;
     text.extend_from_slice(b"Byte{")?;
-    assert_eq!(rt; shown(rt.alloc(), &text)?.bytes(), b"bad 47".as_slice());
+    expect_shown(&rt, rt.alloc(), &text, b"bad 47")?;
     let mut spaces = vec![in rt.alloc(); b' '; 16_777_215]?;
-    assert_eq!(rt; shown(rt.alloc(), &spaces)?.bytes(), b"cut".as_slice());
+    expect_shown(&rt, rt.alloc(), &spaces, b"cut")?;
     spaces.push(b' ')?;
-    assert_eq!(rt;
-        shown(rt.alloc(), &spaces)?.bytes(),
-        b"bad 16777216".as_slice()
-    );
-    Ok(())
+    expect_shown(&rt, rt.alloc(), &spaces, b"bad 16777216")
 }
 
 /// An attribute of many values, many attributes and many containers.
@@ -152,6 +156,5 @@ fn long_texts_are_read(rt: HostRuntime) -> Result<(), Fail> {
         text.extend_from_slice(b"    c {\n    }\n")?;
     }
     text.extend_from_slice(b"}\n")?;
-    assert_eq!(rt; shown(rt.alloc(), &text)?.bytes(), text.as_slice());
-    Ok(())
+    expect_shown(&rt, rt.alloc(), &text, &text)
 }

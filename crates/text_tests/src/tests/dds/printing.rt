@@ -1,3 +1,4 @@
+use crate::tests::expecting::expect;
 use dap_types::{ArrayDecl, BaseType, Column, Dataset, Decl, Dim, Id, List, Memory};
 use dds_text::print;
 use std::alloc::Global;
@@ -57,7 +58,7 @@ fn a_dataset_is_printed(rt: HostRuntime) -> Result<(), Fail> {
     let text = print(alloc, &dataset(alloc)?)?;
     let lines =
         b"Dataset {\n    Grid {\n      Array:\n        Int16 g[lat = 1][lon = 2];\n      Maps:\n        Int32 lat[lat = 1];\n        Int32 lon[lon = 2];\n    } g;\n    Url u[0][12];\n    Structure {\n        Sequence {\n            String station;\n        } q;\n    } s;\n} g.nc;\n";
-    assert_eq!(rt; text.bytes(), lines.as_slice());
+    expect(&rt, text.bytes(), lines.as_slice());
     Ok(())
 }
 
@@ -101,7 +102,7 @@ fn nested_members_are_printed(rt: HostRuntime) -> Result<(), Fail> {
         let members = nested(alloc, depth)?;
         let name = Id::raw(alloc, b"d")?;
         let text = print(alloc, &Dataset { name, members })?;
-        assert_eq!(rt; text.bytes(), nested_lines(alloc, depth)?.as_slice());
+        expect(&rt, text.bytes(), nested_lines(alloc, depth)?.as_slice());
     }
     Ok(())
 }

@@ -1,6 +1,8 @@
+use crate::tests::expecting::expect;
 use dap_types::{Bytes, Dataset, Memory};
 use dds_text::{DdsReader, DdsStep, print};
 use std::alloc::Global;
+use std::process::Abort;
 use std::test::Fail;
 
 /// Texts as libdap prints them, but for the line feed behind the last semicolon.
@@ -70,21 +72,29 @@ fn read_back(alloc: Global, text: &[u8], cut: usize) -> Result<Bytes, Fail> {
     Ok(print(alloc, &dataset)?)
 }
 
+/// The text is read in any two pieces, and printed so.
+fn expect_read<R: Abort>(rt: &R, alloc: Global, text: &[u8], printed: &[u8]) -> Result<(), Fail> {
+    for cut in 0..text.len() {
+        expect(rt, read_back(alloc, text, cut)?.bytes(), printed);
+    }
+    Ok(())
+}
+
+/// The text is read, and printed as it is, with a line feed behind it.
+fn expect_same<R: Abort>(rt: &R, alloc: Global, text: &[u8]) -> Result<(), Fail> {
+    let mut line = Vec::from_slice(alloc, text)?;
+    line.push(b'\n')?;
+    expect_read(rt, alloc, text, &line)
+}
+
 #[test]
 fn texts_are_read_in_two_pieces(rt: HostRuntime) -> Result<(), Fail> {
     let alloc = rt.alloc();
     for text in PRINTED {
-        for cut in 0..text.len() {
-            let printed = read_back(alloc, text.as_bytes(), cut)?;
-            let mut line = Vec::from_slice(alloc, text.as_bytes())?;
-            line.push(b'\n')?;
-            assert_eq!(rt; printed.bytes(), line.as_slice());
-        }
+        expect_same(&rt, alloc, text.as_bytes())?;
     }
     for (text, printed) in OTHERS {
-        for cut in 0..text.len() {
-            assert_eq!(rt; read_back(alloc, text, cut)?.bytes(), printed);
-        }
+        expect_read(&rt, alloc, text, printed)?;
     }
     Ok(())
 }
@@ -94,12 +104,12 @@ fn texts_are_read_in_two_pieces(rt: HostRuntime) -> Result<(), Fail> {
 fn bytes_behind_the_end_are_left(rt: HostRuntime) -> Result<(), Fail> {
     let mut reader = DdsReader::new(rt.alloc(), 0);
     let text = b"Dataset { Int32 a; } f;\nData:\n\0\0\0\x05";
-    assert_eq!(rt; reader.push(text)?, DdsStep::Done { used: 23 });
-    assert_eq!(rt; reader.push(b"}")?, DdsStep::Done { used: 0 });
+    expect(&rt, reader.push(text)?, DdsStep::Done { used: 23 });
+    expect(&rt, reader.push(b"}")?, DdsStep::Done { used: 0 });
     let Some(dataset) = reader.dataset() else {
         return Err(Fail::new("no dataset"));
     };
-    assert_eq!(rt; dataset.name.bytes(), b"f".as_slice());
-    assert_eq!(rt; dataset.members.items().len(), 1);
+    expect(&rt, dataset.name.bytes(), b"f");
+    expect(&rt, dataset.members.items().len(), 1);
     Ok(())
 }

@@ -1,5 +1,6 @@
 ghost use Rattle.std.specs.Prelude.{◌≤◌, length};
 
+use crate::tests::expecting::expect;
 use dap_types::Memory;
 use dds_text::{DdsReader, DdsStep};
 use std::alloc::Global;
@@ -194,12 +195,12 @@ fn untold(alloc: Global, rows: &[(&str, &str)]) -> Result<Option<usize>, Memory>
 
 #[test]
 fn the_first_bad_token_is_told(rt: HostRuntime) -> Result<(), Fail> {
-    assert_eq!(rt; untold(rt.alloc(), &OUTSIDE)?, None);
-    assert_eq!(rt; untold(rt.alloc(), &INSIDE)?, None);
-    assert_eq!(rt; untold(rt.alloc(), &SIZES)?, None);
-    assert_eq!(rt; untold(rt.alloc(), &NAMES)?, None);
-    assert_eq!(rt; untold(rt.alloc(), &MAPS)?, None);
-    assert_eq!(rt; untold(rt.alloc(), &LIMITS)?, None);
+    expect(&rt, untold(rt.alloc(), &OUTSIDE)?, None);
+    expect(&rt, untold(rt.alloc(), &INSIDE)?, None);
+    expect(&rt, untold(rt.alloc(), &SIZES)?, None);
+    expect(&rt, untold(rt.alloc(), &NAMES)?, None);
+    expect(&rt, untold(rt.alloc(), &MAPS)?, None);
+    expect(&rt, untold(rt.alloc(), &LIMITS)?, None);
     Ok(())
 }
 
@@ -216,7 +217,7 @@ fn a_word_is_whole_once_it_ends(rt: HostRuntime) -> Result<(), Fail> {
         (b";".as_slice(), DdsStep::Bad { place: 33 }),
         (b"} f;".as_slice(), DdsStep::Bad { place: 33 }),
     ] {
-        assert_eq!(rt; reader.push(piece)?, step);
+        expect(&rt, reader.push(piece)?, step);
     }
     assert!(rt; reader.dataset().is_none());
     Ok(())
@@ -228,13 +229,18 @@ fn a_text_has_a_limit(rt: HostRuntime) -> Result<(), Fail> {
     let mut reader = DdsReader::new(rt.alloc(), 5);
     let piece = [b' '; 4096];
     for _ in 0..4095 {
-        assert_eq!(rt; reader.push(&piece)?, DdsStep::More);
+        expect(&rt, reader.push(&piece)?, DdsStep::More);
     }
-    assert_eq!(rt; reader.push(&piece[1..])?, DdsStep::More);
-    assert_eq!(rt; reader.push(&piece)?, DdsStep::Bad { place: 16_777_221 });
-    assert_eq!(rt;
+    expect(&rt, reader.push(&piece[1..])?, DdsStep::More);
+    expect(
+        &rt,
+        reader.push(&piece)?,
+        DdsStep::Bad { place: 16_777_221 },
+    );
+    expect(
+        &rt,
         reader.push(b"Dataset")?,
-        DdsStep::Bad { place: 16_777_221 }
+        DdsStep::Bad { place: 16_777_221 },
     );
     Ok(())
 }
