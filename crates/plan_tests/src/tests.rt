@@ -1,3 +1,4 @@
+mod expecting;
 mod filling;
 mod plans;
 mod projections;

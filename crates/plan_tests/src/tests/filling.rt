@@ -3,6 +3,7 @@ ghost use Rattle.hyperslab_plan.specs.Numbers.{is_number, HasSize};
 ghost use Rattle.hyperslab_plan.specs.Picked.{count_of, highest};
 ghost use Rattle.hyperslab_plan.specs.Plans.{base_in};
 
+use crate::tests::expecting::expect;
 use dap_types::{BaseType, Layout, List, Memory, Slab};
 use hyperslab_plan::Plan;
 use slab_fill::{Gate, NoGate, fill};
@@ -99,7 +100,7 @@ fn expect_filled<R: Threads + Abort + Sync>(
     for workers in [1, 2, 7, 64] {
         let mut out = vec![in alloc; 3u8; expected.len()]?;
         fill_first(rt, plan, raw, &mut out, workers, &NoGate);
-        assert_eq!(rt; out.as_slice(), expected);
+        expect(rt, out.as_slice(), expected);
     }
     Ok(())
 }
@@ -369,8 +370,8 @@ fn numbers_of_workers(rt: HostRuntime) -> Result<(), Fail> {
         let seen = Seen::new(alloc, workers as usize, len)?;
         let mut out = numbered(alloc, 128)?;
         fill_first(&rt, &plan, &raw, &mut out, workers, &seen);
-        assert_eq!(rt; seen.count(), workers as usize);
-        assert_eq!(rt; out.as_slice(), raw.as_slice());
+        expect(&rt, seen.count(), workers as usize);
+        expect(&rt, out.as_slice(), raw.as_slice());
     }
     Ok(())
 }
@@ -383,6 +384,6 @@ fn more_workers_than_parts(rt: HostRuntime) -> Result<(), Fail> {
     let seen = Seen::new(rt.alloc(), 4, 2)?;
     let mut out = [0u8, 1, 2, 3, 4, 5];
     fill_first(&rt, &plan, &bytes, &mut out, 4, &seen);
-    assert_eq!(rt; seen.count(), 3);
+    expect(&rt, seen.count(), 3);
     Ok(())
 }

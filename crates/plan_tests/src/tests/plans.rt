@@ -4,11 +4,13 @@ ghost use Rattle.hyperslab_plan.specs.Numbers.{HasSize};
 ghost use Rattle.hyperslab_plan.specs.Picked.{count_of, highest};
 ghost use Rattle.hyperslab_plan.specs.Plans.{total_of};
 
+use crate::tests::expecting::expect;
 use dap_types::{BaseType, Layout, List, Memory, Slab};
 use hyperslab_plan::{Batch, Plan};
 use std::alloc::Global;
 use std::fmt::Write;
 use std::marker::{Send, Sync};
+use std::process::Abort;
 use std::test::Fail;
 
 fn slab(start: u32, stride: u32, count: u32) -> Slab
@@ -84,13 +86,18 @@ fn shown(alloc: Global, plan: &Plan) -> Result<String, Fail> {
     Ok(text)
 }
 
+/// The batches of a plan are these.
+fn expect_shown<R: Abort>(rt: &R, alloc: Global, plan: &Plan, text: &str) -> Result<(), Fail> {
+    expect(rt, shown(alloc, plan)?.as_str(), text);
+    Ok(())
+}
+
+/// A text without dimensions, and elements as long as a batch.
 #[test]
-fn batches_and_places(rt: HostRuntime) -> Result<(), Fail> {
+fn batches_of_texts(rt: HostRuntime) -> Result<(), Fail> {
     let alloc = rt.alloc();
-    // a text without dimensions
     let text = plan(alloc, BaseType::Text, 10, 40, &[], &[])?;
-    assert_eq!(rt; shown(alloc, &text)?.as_str(), "0+1: 40+10 40@0;");
-    // elements as long as a batch
+    expect_shown(&rt, alloc, &text, "0+1: 40+10 40@0;")?;
     let long = plan(
         alloc,
         BaseType::Text,
@@ -99,70 +106,62 @@ fn batches_and_places(rt: HostRuntime) -> Result<(), Fail> {
         &[65_536],
         &[slab(0, 1, 2)],
     )?;
-    assert_eq!(rt;
-        shown(alloc, &long)?.as_str(),
-        "0+1: 0+65536 0@0;1+1: 65536+65536 65536@0;"
-    );
-    // nothing, by counts whose product is too large before its end
-    let none = plan(
-        alloc,
-        BaseType::Float32,
-        4,
-        0,
-        &[1, 1],
-        &[slab(0, 1, u32::MAX), slab(0, 1, 0)],
-    )?;
-    assert_eq!(rt; shown(alloc, &none)?.as_str(), "");
-    // the gaps are read where they are short, and not where they are longer
+    let batches = "0+1: 0+65536 0@0;1+1: 65536+65536 65536@0;";
+    expect_shown(&rt, alloc, &long, batches)
+}
+
+/// Nothing, by counts whose product is too large before its end.
+#[test]
+fn batches_of_nothing(rt: HostRuntime) -> Result<(), Fail> {
+    let alloc = rt.alloc();
+    let slabs = [slab(0, 1, u32::MAX), slab(0, 1, 0)];
+    let none = plan(alloc, BaseType::Float32, 4, 0, &[1, 1], &slabs)?;
+    expect_shown(&rt, alloc, &none, "")
+}
+
+/// The gaps are read where they are short, and not where they are longer.
+#[test]
+fn batches_with_gaps(rt: HostRuntime) -> Result<(), Fail> {
+    let alloc = rt.alloc();
     let near = plan(alloc, BaseType::Float64, 8, 16, &[8], &[slab(0, 512, 3)])?;
-    assert_eq!(rt;
-        shown(alloc, &near)?.as_str(),
-        "0+3: 16+8200 16@0 4112@4096 8208@8192;"
-    );
+    expect_shown(&rt, alloc, &near, "0+3: 16+8200 16@0 4112@4096 8208@8192;")?;
     let far = plan(alloc, BaseType::Float64, 8, 16, &[8], &[slab(0, 513, 3)])?;
-    assert_eq!(rt;
-        shown(alloc, &far)?.as_str(),
-        "0+3: 16+8 4120+8 8224+8 16@0 4120@8 8224@16;"
-    );
-    // rows end to end
-    let dense = plan(
-        alloc,
-        BaseType::Int16,
-        2,
-        7,
-        &[20, 2],
-        &[slab(0, 1, 10), slab(0, 1, 10)],
-    )?;
-    assert_eq!(rt;
-        shown(alloc, &dense)?.as_str(),
-        "0+100: 7+200 7@0 9@2 11@4 13@6 15@8 17@10;"
-    );
+    let batches = "0+3: 16+8 4120+8 8224+8 16@0 4120@8 8224@16;";
+    expect_shown(&rt, alloc, &far, batches)
+}
+
+/// Rows end to end.
+#[test]
+fn batches_of_dense_rows(rt: HostRuntime) -> Result<(), Fail> {
+    let alloc = rt.alloc();
+    let slabs = [slab(0, 1, 10), slab(0, 1, 10)];
+    let dense = plan(alloc, BaseType::Int16, 2, 7, &[20, 2], &slabs)?;
     assert!(rt; dense.is_dense());
-    // every second one of records of four numbers, without its first number
-    let records = plan(
-        alloc,
-        BaseType::Int32,
-        4,
-        100,
-        &[16, 4],
-        &[slab(0, 2, 2), slab(1, 1, 3)],
-    )?;
-    assert_eq!(rt;
-        shown(alloc, &records)?.as_str(),
-        "0+6: 104+12 136+12 104@0 108@4 112@8 136@12 140@16 144@20;"
-    );
-    Ok(())
+    let batches = "0+100: 7+200 7@0 9@2 11@4 13@6 15@8 17@10;";
+    expect_shown(&rt, alloc, &dense, batches)
+}
+
+/// Every second one of records of four numbers, without its first number.
+#[test]
+fn batches_of_records(rt: HostRuntime) -> Result<(), Fail> {
+    let alloc = rt.alloc();
+    let slabs = [slab(0, 2, 2), slab(1, 1, 3)];
+    let records = plan(alloc, BaseType::Int32, 4, 100, &[16, 4], &slabs)?;
+    let batches = "0+6: 104+12 136+12 104@0 108@4 112@8 136@12 140@16 144@20;";
+    expect_shown(&rt, alloc, &records, batches)
 }
 
 #[test]
-fn many_dimensions(rt: HostRuntime) -> Result<(), Fail> {
+fn three_dimensions(rt: HostRuntime) -> Result<(), Fail> {
     let alloc = rt.alloc();
-    let three = [slab(0, 1, 2), slab(1, 1, 2), slab(0, 2, 2)];
-    let cube = plan(alloc, BaseType::Int16, 2, 100, &[24, 8, 2], &three)?;
-    assert_eq!(rt;
-        shown(alloc, &cube)?.as_str(),
-        "0+8: 108+6 116+6 132+6 140+6 108@0 112@4 116@6 120@10 132@12 136@16;"
-    );
+    let slabs = [slab(0, 1, 2), slab(1, 1, 2), slab(0, 2, 2)];
+    let cube = plan(alloc, BaseType::Int16, 2, 100, &[24, 8, 2], &slabs)?;
+    let batches = "0+8: 108+6 116+6 132+6 140+6 108@0 112@4 116@6 120@10 132@12 136@16;";
+    expect_shown(&rt, alloc, &cube, batches)
+}
+
+#[test]
+fn most_dimensions(rt: HostRuntime) -> Result<(), Fail> {
     let one = Slab {
         start: 1,
         stride: 1,
@@ -182,12 +181,9 @@ fn many_dimensions(rt: HostRuntime) -> Result<(), Fail> {
     let mut steps = [10; 32];
     steps[0] = 500;
     steps[31] = 4;
-    let deep = plan(alloc, BaseType::Float32, 4, 0, &steps, &slabs)?;
-    assert_eq!(rt;
-        shown(alloc, &deep)?.as_str(),
-        "0+6: 300+12 800+12 300@0 304@4 308@8 800@12 804@16 808@20;"
-    );
-    Ok(())
+    let deep = plan(rt.alloc(), BaseType::Float32, 4, 0, &steps, &slabs)?;
+    let batches = "0+6: 300+12 800+12 300@0 304@4 308@8 800@12 804@16 808@20;";
+    expect_shown(&rt, rt.alloc(), &deep, batches)
 }
 
 /// Rows of 20,000 numbers of 4 bytes, 100,000 apart: batches of 16,384, and at the end of a row what
@@ -205,42 +201,41 @@ fn long_rows(rt: HostRuntime) -> Result<(), Fail> {
     ] {
         assert!(rt; first < plan.total());
         let batch = plan.batch(first);
-        assert_eq!(rt; batch.count, count);
-        assert_eq!(rt; batch.runs, 1);
+        expect(&rt, batch.count, count);
+        assert!(rt; batch.runs == 1);
         let run = plan.run(&batch, 0);
-        assert_eq!(rt; run.at, at);
-        assert_eq!(rt; run.len, len);
+        expect(&rt, run.at, at);
+        expect(&rt, run.len, len);
         first += u64::from(count);
     }
-    assert_eq!(rt; first, plan.total());
+    expect(&rt, first, plan.total());
     Ok(())
 }
 
-/// The most elements: 2,147,483,647 in a row, and as nearly as many in 30 dimensions of two indexes.
+/// The most elements: 2,147,483,647 in a row.
 #[test]
-fn most_elements(rt: HostRuntime) -> Result<(), Fail> {
-    let alloc = rt.alloc();
-    let row = plan(
-        alloc,
-        BaseType::Float64,
-        8,
-        0,
-        &[8],
-        &[slab(0, 1, 2_147_483_647)],
-    )?;
-    assert_eq!(rt; row.total(), 2_147_483_647);
+fn most_elements_of_a_row(rt: HostRuntime) -> Result<(), Fail> {
+    let slabs = [slab(0, 1, 2_147_483_647)];
+    let row = plan(rt.alloc(), BaseType::Float64, 8, 0, &[8], &slabs)?;
+    expect(&rt, row.total(), 2_147_483_647);
     assert!(rt; row.total() > 2_147_483_646);
-    assert_eq!(rt; row.offset(2_147_483_646), 17_179_869_168);
-    assert_eq!(rt; row.batch(2_147_483_646).count, 1);
+    expect(&rt, row.offset(2_147_483_646), 17_179_869_168);
+    expect(&rt, row.batch(2_147_483_646).count, 1);
+    Ok(())
+}
+
+/// As nearly as many in 30 dimensions of two indexes.
+#[test]
+fn most_elements_of_many_dimensions(rt: HostRuntime) -> Result<(), Fail> {
     let two = Slab {
         start: 0,
         stride: 1,
         count: 2,
     };
-    let many = plan(alloc, BaseType::Byte, 1, 9, &[7; 30], &[two; 30])?;
-    assert_eq!(rt; many.total(), 1_073_741_824);
+    let many = plan(rt.alloc(), BaseType::Byte, 1, 9, &[7; 30], &[two; 30])?;
+    expect(&rt, many.total(), 1_073_741_824);
     assert!(rt; many.total() > 1_073_741_823);
-    assert_eq!(rt; many.offset(1_073_741_823), 219);
+    expect(&rt, many.offset(1_073_741_823), 219);
     Ok(())
 }
 

@@ -1,16 +1,29 @@
 use super::marked::left_by;
+use crate::tests::expecting::expect;
 use dap_errors::{Cause, Spot};
 use grid_projection::Resolve;
 use std::alloc::Global;
+use std::process::Abort;
 use std::test::Fail;
 
 /// The cause for which a constraint is refused.
-pub fn cause_of(alloc: Global, text: &[u8]) -> Result<Option<Cause>, Resolve> {
+fn cause_of(alloc: Global, text: &[u8]) -> Result<Option<Cause>, Resolve> {
     match left_by(alloc, text) {
         Ok(_) => Ok(None),
         Err(Resolve::Refused(cause)) => Ok(Some(cause)),
         Err(Resolve::Memory) => Err(Resolve::Memory),
     }
+}
+
+/// A constraint is refused for this cause, or not at all.
+pub fn expect_cause<R: Abort>(
+    rt: &R,
+    alloc: Global,
+    text: &[u8],
+    cause: Option<Cause>,
+) -> Result<(), Fail> {
+    expect(rt, cause_of(alloc, text)?, cause);
+    Ok(())
 }
 
 /// Each cause alone, and two of them in one item: the earlier one of the order is told.
@@ -62,7 +75,7 @@ fn an_item_has_its_first_cause(rt: HostRuntime) -> Result<(), Fail> {
         (b"v[0][0],v[1][4]", Cause::BadSlab(Spot::Item(2))),
     ];
     for (text, cause) in &rows {
-        assert_eq!(rt; cause_of(alloc, text)?, Some(*cause));
+        expect_cause(&rt, alloc, text, Some(*cause))?;
     }
     Ok(())
 }
@@ -96,7 +109,7 @@ fn slabs_are_refused(rt: HostRuntime) -> Result<(), Fail> {
         (b"b,s.q[0:2:2][0],s", Cause::TwoSlabs(Spot::Item(3))),
     ];
     for (text, cause) in &rows {
-        assert_eq!(rt; cause_of(alloc, text)?, Some(*cause));
+        expect_cause(&rt, alloc, text, Some(*cause))?;
     }
     Ok(())
 }
@@ -150,7 +163,7 @@ fn a_clause_has_its_first_cause(rt: HostRuntime) -> Result<(), Fail> {
         ),
     ];
     for (text, cause) in &rows {
-        assert_eq!(rt; cause_of(alloc, text)?, Some(*cause));
+        expect_cause(&rt, alloc, text, Some(*cause))?;
     }
     Ok(())
 }
@@ -178,7 +191,7 @@ fn the_left_cause_is_told(rt: HostRuntime) -> Result<(), Fail> {
         ),
     ];
     for (text, cause) in &rows {
-        assert_eq!(rt; cause_of(alloc, text)?, Some(*cause));
+        expect_cause(&rt, alloc, text, Some(*cause))?;
     }
     Ok(())
 }

@@ -1,4 +1,4 @@
-use super::causes::cause_of;
+use super::causes::expect_cause;
 use dap_errors::{Cause, Spot};
 use std::alloc::{AllocError, Global};
 use std::test::Fail;
@@ -66,7 +66,7 @@ fn there_are_limits(rt: HostRuntime) -> Result<(), Fail> {
     ];
     for (front, piece, times, end, cause) in &rows {
         let text = repeated(alloc, front, piece, *times, end)?;
-        assert_eq!(rt; cause_of(alloc, &text)?, *cause);
+        expect_cause(&rt, alloc, &text, *cause)?;
     }
     Ok(())
 }

@@ -1,9 +1,11 @@
 use super::datasets::dataset;
 use super::shapes::put_level;
+use crate::tests::expecting::expect;
 use constraint_parse::parse;
 use dap_types::{Index, Slab, check};
 use grid_projection::{Resolve, resolve};
 use std::alloc::Global;
+use std::process::Abort;
 use std::test::Fail;
 
 /// What a constraint leaves of the dataset, as `put_level` writes it.
@@ -23,6 +25,12 @@ pub fn left_by(alloc: Global, text: &[u8]) -> Result<Vec<u8>, Resolve> {
         Ok(()) => Ok(out),
         Err(_) => Err(Resolve::Memory),
     }
+}
+
+/// A constraint leaves this of the dataset.
+fn expect_left<R: Abort>(rt: &R, alloc: Global, text: &[u8], left: &[u8]) -> Result<(), Fail> {
+    expect(rt, left_by(alloc, text)?.as_slice(), left);
+    Ok(())
 }
 
 #[test]
@@ -76,7 +84,7 @@ fn a_dataset_is_constrained(rt: HostRuntime) -> Result<(), Fail> {
         ),
     ];
     for (text, left) in &rows {
-        assert_eq!(rt; left_by(alloc, text)?.as_slice(), *left);
+        expect_left(&rt, alloc, text, left)?;
     }
     Ok(())
 }
@@ -106,6 +114,18 @@ fn slab(start: u32, stride: u32, count: u32) -> Option<Slab> {
     })
 }
 
+/// A constraint gives a leaf this last hyperslab.
+fn expect_slab<R: Abort>(
+    rt: &R,
+    alloc: Global,
+    text: &[u8],
+    leaf: u32,
+    wanted: Option<Slab>,
+) -> Result<(), Fail> {
+    expect(rt, last_slab(alloc, text, leaf)?, wanted);
+    Ok(())
+}
+
 #[test]
 fn leaves_have_hyperslabs(rt: HostRuntime) -> Result<(), Fail> {
     let alloc = rt.alloc();
@@ -126,7 +146,7 @@ fn leaves_have_hyperslabs(rt: HostRuntime) -> Result<(), Fail> {
         (b"", 4294967295, None),
     ];
     for (text, leaf, wanted) in &rows {
-        assert_eq!(rt; last_slab(alloc, text, *leaf)?, *wanted);
+        expect_slab(&rt, alloc, text, *leaf, *wanted)?;
     }
     Ok(())
 }

@@ -1,4 +1,5 @@
 use super::datasets::dataset;
+use crate::tests::expecting::expect;
 use dap_types::{Id, Index, List, check};
 use grid_projection::{Members, Part};
 use std::test::Fail;
@@ -21,7 +22,7 @@ fn a_column_is_found_by_its_path(rt: HostRuntime) -> Result<(), Fail> {
     path.push(Id::raw(alloc, b"buoys")?)?;
     path.push(Id::raw(alloc, b"depth")?)?;
     let found = members.find(path.items());
-    assert_eq!(rt; found.map(|found| found.number), Some(9));
+    expect(&rt, found.map(|found| found.number), Some(9));
     assert!(rt; found.is_some_and(|found| is_column(found.part)));
     path.push(Id::raw(alloc, b"depth")?)?;
     assert!(rt; members.find(path.items()).is_none());
