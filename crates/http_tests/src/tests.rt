@@ -1,4 +1,5 @@
 mod counted;
+mod expecting;
 mod framing;
 mod heads;
 mod parts;

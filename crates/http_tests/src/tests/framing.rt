@@ -1,8 +1,10 @@
 use crate::tests::counted::Counted;
+use crate::tests::expecting::expect;
 use dap_http::Framer;
 use dap_outside::{MemSink, Sink, put_all};
 use dap_types::{List, Memory};
 use std::alloc::Global;
+use std::process::Abort;
 use std::test::Fail;
 
 fn sink(alloc: Global, piece: u32, fails: &[u64]) -> Result<MemSink, Memory> {
@@ -11,6 +13,22 @@ fn sink(alloc: Global, piece: u32, fails: &[u64]) -> Result<MemSink, Memory> {
         numbers.push(*number)?;
     }
     MemSink::new(alloc, 1_000_000, piece.max(1), numbers)
+}
+
+/// A body is put so.
+fn expect_framed<R: Abort>(
+    rt: &R,
+    alloc: Global,
+    chunked: bool,
+    body: &[u8],
+    wanted: &[u8],
+) -> Result<(), Fail> {
+    let mut out = sink(alloc, 3, &[])?;
+    let mut framing = Framer::new(alloc, chunked)?.over(&mut out);
+    assert!(rt; put_all(&mut framing, body).is_ok());
+    assert!(rt; framing.end().is_ok());
+    expect(rt, out.bytes(), wanted);
+    Ok(())
 }
 
 #[test]
@@ -27,12 +45,7 @@ fn short_bodies_are_one_chunk_or_none(rt: HostRuntime) -> Result<(), Fail> {
         (false, b"abc", b"abc"),
     ];
     for (chunked, body, wanted) in rows {
-        let mut out = sink(rt.alloc(), 3, &[])?;
-        let framer = Framer::new(rt.alloc(), chunked)?;
-        let mut framing = framer.over(&mut out);
-        assert!(rt; put_all(&mut framing, body).is_ok());
-        assert!(rt; framing.end().is_ok());
-        assert_eq!(rt; out.bytes(), wanted);
+        expect_framed(&rt, rt.alloc(), chunked, body, wanted)?;
     }
     Ok(())
 }
@@ -44,6 +57,25 @@ fn bytes(alloc: Global, count: usize) -> Result<Vec<u8>, Memory> {
     Ok(body)
 }
 
+/// A body of so many bytes is put with this front, and as so many bytes.
+fn expect_cut<R: Abort>(
+    rt: &R,
+    alloc: Global,
+    count: usize,
+    front: &[u8],
+    wanted: usize,
+) -> Result<(), Fail> {
+    let body = bytes(alloc, count)?;
+    let mut out = sink(alloc, 1_000_000, &[])?;
+    let mut framing = Framer::new(alloc, true)?.over(&mut out);
+    assert!(rt; put_all(&mut framing, body.as_slice()).is_ok());
+    assert!(rt; framing.end().is_ok());
+    assert!(rt; out.bytes().starts_with(front));
+    assert!(rt; out.bytes().ends_with(b"a\r\n0\r\n\r\n"));
+    expect(rt, out.bytes().len(), wanted);
+    Ok(())
+}
+
 #[test]
 fn long_bodies_are_cut_at_65_536(rt: HostRuntime) -> Result<(), Fail> {
     let rows: [(usize, &[u8], usize); 4] = [
@@ -53,15 +85,7 @@ fn long_bodies_are_cut_at_65_536(rt: HostRuntime) -> Result<(), Fail> {
         (131_072, b"10000\r\na", 131_095),
     ];
     for (count, front, wanted) in rows {
-        let body = bytes(rt.alloc(), count)?;
-        let mut out = sink(rt.alloc(), 1_000_000, &[])?;
-        let framer = Framer::new(rt.alloc(), true)?;
-        let mut framing = framer.over(&mut out);
-        assert!(rt; put_all(&mut framing, body.as_slice()).is_ok());
-        assert!(rt; framing.end().is_ok());
-        assert!(rt; out.bytes().starts_with(front));
-        assert!(rt; out.bytes().ends_with(b"a\r\n0\r\n\r\n"));
-        assert_eq!(rt; out.bytes().len(), wanted);
+        expect_cut(&rt, rt.alloc(), count, front, wanted)?;
     }
     Ok(())
 }
@@ -99,17 +123,18 @@ fn a_chunk_goes_on_behind_a_fault(rt: HostRuntime) -> Result<(), Fail> {
     let mut body = bytes(rt.alloc(), 65_536)?;
     body.push(b'b')?;
     let (whole, failed) = sent(rt.alloc(), body.as_slice(), 0)?;
-    assert_eq!(rt; failed, 0);
-    assert_eq!(rt; whole.inner.bytes().len(), 65_556);
+    expect(&rt, failed, 0);
+    expect(&rt, whole.inner.bytes().len(), 65_556);
     assert!(rt; whole.inner.bytes().ends_with(b"a\r\n1\r\nb\r\n0\r\n\r\n"));
-    assert_eq!(rt; whole.calls, 7);
+    expect(&rt, whole.calls, 7);
     for failing in 1..whole.calls.saturating_add(1) {
         let (out, failed) = sent(rt.alloc(), body.as_slice(), failing)?;
-        assert_eq!(rt; failed, 1);
+        expect(&rt, failed, 1);
         assert!(rt; whole.inner.bytes().starts_with(out.inner.bytes()));
-        assert_eq!(rt;
+        expect(
+            &rt,
             out.inner.bytes().len() == whole.inner.bytes().len(),
-            failing < 3
+            failing < 3,
         );
     }
     Ok(())

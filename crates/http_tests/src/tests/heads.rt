@@ -1,8 +1,10 @@
 use crate::tests::counted::Counted;
+use crate::tests::expecting::expect;
 use dap_http::{HeadRead, HeadReader};
 use dap_outside::{MemSource, SureSource};
 use dap_types::{Bytes, List, Memory};
 use std::alloc::{AllocError, Global};
+use std::process::Abort;
 use std::test::Fail;
 
 /// What a first read comes to.
@@ -27,6 +29,20 @@ fn first(alloc: Global, input: &[u8], piece: u32) -> Result<Option<Read>, Memory
     })
 }
 
+/// The first read of an input that comes in pieces of each of these sizes comes to this.
+fn expect_first<R: Abort>(
+    rt: &R,
+    alloc: Global,
+    input: &[u8],
+    pieces: &[u32],
+    wanted: Read,
+) -> Result<(), Fail> {
+    for piece in pieces {
+        expect(rt, first(alloc, input, *piece)?, Some(wanted));
+    }
+    Ok(())
+}
+
 #[test]
 fn a_head_is_read_refused_or_cut(rt: HostRuntime) -> Result<(), Fail> {
     let rows: [(&[u8], Read); 16] = [
@@ -48,9 +64,7 @@ fn a_head_is_read_refused_or_cut(rt: HostRuntime) -> Result<(), Fail> {
         (b"\r\rGET / HTTP/1.1\r\n\r\n", Read::Bad),
     ];
     for (input, wanted) in rows {
-        for piece in [1, 3, 4_096] {
-            assert_eq!(rt; first(rt.alloc(), input, piece)?, Some(wanted));
-        }
+        expect_first(&rt, rt.alloc(), input, &[1, 3, 4_096], wanted)?;
     }
     Ok(())
 }
@@ -84,8 +98,28 @@ fn heads_have_limits(rt: HostRuntime) -> Result<(), Fail> {
     for (target, fields, end, wanted) in rows {
         let mut input = long(rt.alloc(), target, fields)?;
         input.extend_from_slice(end)?;
-        assert_eq!(rt; first(rt.alloc(), input.as_slice(), 4_000)?, Some(wanted));
+        expect_first(&rt, rt.alloc(), input.as_slice(), &[4_000], wanted)?;
     }
+    Ok(())
+}
+
+/// A method, a target, the minor version, and whether the connection ends behind it.
+type Request<'t> = (&'t str, &'t [u8], u8, bool);
+
+/// The next head of a source is this.
+fn expect_next<R: Abort>(
+    rt: &R,
+    reader: &mut HeadReader,
+    source: &mut SureSource,
+    request: Request<'_>,
+) -> Result<(), Fail> {
+    let (method, target, minor, ends) = request;
+    let HeadRead::Head(head) = reader.read(source) else {
+        return Err(Fail::new("no head"));
+    };
+    expect(rt, head.method.as_str(), method);
+    expect(rt, head.target.bytes(), target);
+    expect(rt, (head.minor, head.ends), (minor, ends));
     Ok(())
 }
 
@@ -93,7 +127,7 @@ fn heads_have_limits(rt: HostRuntime) -> Result<(), Fail> {
 fn requests_follow_each_other(rt: HostRuntime) -> Result<(), Fail> {
     let input =
         b"GET /a HTTP/1.1\r\nContent-Length: 0\r\n\r\nHEAD /b HTTP/1.1\r\nConnection: Keep-Alive , CLOSE\r\n\r\nPUT /c HTTP/1.1\r\n\r\nGET /d HTTP/1.0\r\n\r\nGET /e HTTP/1.1\r\ncontent-length:00\r\n\r\nGET /f HTTP/1.1\r\nTransfer-Encoding:\r\n\r\nGET /g HTTP/1.1\r\nConnection: closed\r\n\r\n".as_slice();
-    let rows: [(&str, &[u8], u8, bool); 7] = [
+    let rows: [Request<'_>; 7] = [
         ("GET", b"/a", 1, false),
         ("HEAD", b"/b", 1, true),
         ("PUT", b"/c", 1, true),
@@ -105,14 +139,8 @@ fn requests_follow_each_other(rt: HostRuntime) -> Result<(), Fail> {
     for piece in [1, 50, 4_096] {
         let mut source = SureSource::new(Bytes::new(rt.alloc(), input)?, piece);
         let mut reader = HeadReader::new(rt.alloc())?;
-        for (method, target, minor, ends) in rows {
-            let HeadRead::Head(head) = reader.read(&mut source) else {
-                return Err(Fail::new("no head"));
-            };
-            assert_eq!(rt; head.method.as_str(), method);
-            assert_eq!(rt; head.target.bytes(), target);
-            assert_eq!(rt; head.minor, minor);
-            assert_eq!(rt; head.ends, ends);
+        for request in rows {
+            expect_next(&rt, &mut reader, &mut source, request)?;
         }
         assert!(rt; matches!(reader.read(&mut source), HeadRead::Gone));
     }
@@ -124,12 +152,19 @@ fn a_head_cut_behind_any_byte_is_gone(rt: HostRuntime) -> Result<(), Fail> {
     let whole = b"\r\nGET /a HTTP/1.1\r\nA: b\nC:\r\n\r\n".as_slice();
     for end in 0..whole.len() {
         if let Some(part) = whole.get(..end) {
-            for piece in [1, 4_096] {
-                assert_eq!(rt; first(rt.alloc(), part, piece)?, Some(Read::Gone));
-            }
+            expect_first(&rt, rt.alloc(), part, &[1, 4_096], Read::Gone)?;
         }
     }
     Ok(())
+}
+
+/// The head of a request with that method tells it.
+fn expect_method<R: Abort>(rt: &R, alloc: Global, method: &str, ends: bool) -> Result<(), Fail> {
+    let mut input = Vec::from_slice(alloc, method.as_bytes())?;
+    input.extend_from_slice(b" * HTTP/1.1\r\n\r\n")?;
+    let mut source = SureSource::new(Bytes::new(alloc, input.as_slice())?, 7);
+    let mut reader = HeadReader::new(alloc)?;
+    expect_next(rt, &mut reader, &mut source, (method, b"*", 1, ends))
 }
 
 #[test]
@@ -148,17 +183,7 @@ fn heads_tell_their_methods(rt: HostRuntime) -> Result<(), Fail> {
         ("a-!9", true),
     ];
     for (method, ends) in rows {
-        let mut input = Vec::from_slice(rt.alloc(), method.as_bytes())?;
-        input.extend_from_slice(b" * HTTP/1.1\r\n\r\n")?;
-        let bytes = Bytes::new(rt.alloc(), input.as_slice())?;
-        let mut source = SureSource::new(bytes, 7);
-        let mut reader = HeadReader::new(rt.alloc())?;
-        let HeadRead::Head(head) = reader.read(&mut source) else {
-            return Err(Fail::new("no head"));
-        };
-        assert_eq!(rt; head.method.as_str(), method);
-        assert_eq!(rt; head.target.bytes(), b"*".as_slice());
-        assert_eq!(rt; head.ends, ends);
+        expect_method(&rt, rt.alloc(), method, ends)?;
     }
     Ok(())
 }
@@ -181,14 +206,14 @@ fn a_head_goes_on_behind_a_fault(rt: HostRuntime) -> Result<(), Fail> {
     let mut whole = source(rt.alloc(), input, 0)?;
     let mut reader = HeadReader::new(rt.alloc())?;
     assert!(rt; matches!(reader.read(&mut whole), HeadRead::Head(_)));
-    assert_eq!(rt; whole.calls, 4);
+    expect(&rt, whole.calls, 4);
     for failing in 1..whole.calls.saturating_add(1) {
         let mut broken = source(rt.alloc(), input, failing)?;
         let mut reader = HeadReader::new(rt.alloc())?;
         assert!(rt; matches!(reader.read(&mut broken), HeadRead::ReadFault));
-        assert_eq!(rt; broken.calls, failing);
+        expect(&rt, broken.calls, failing);
         assert!(rt; matches!(reader.read(&mut broken), HeadRead::Head(_)));
-        assert_eq!(rt; broken.calls, 5);
+        expect(&rt, broken.calls, 5);
     }
     Ok(())
 }

@@ -1,9 +1,11 @@
 use crate::tests::counted::Counted;
+use crate::tests::expecting::expect;
 use dap_http::{Coding, ReplyRead, ReplyReader};
 use dap_outside::{MemSource, SureSource};
 use dap_types::{Bytes, List, Memory};
 use reply_faults::{Bad, BadField};
 use std::alloc::{AllocError, Global};
+use std::process::Abort;
 use std::test::Fail;
 
 /// What a first read of an input gives that comes in pieces, and how many bytes it keeps.
@@ -19,6 +21,21 @@ fn first(
         ReplyRead::Refused(BadField { kind, place: 0 }) => Some((Err(kind), reader.rest().len())),
         _ => None,
     })
+}
+
+/// The first read of an input that comes in pieces gives this.
+fn expect_first<R: Abort>(
+    rt: &R,
+    alloc: Global,
+    input: &[u8],
+    piece: u32,
+    wanted: Result<Coding, Bad>,
+) -> Result<(), Fail> {
+    match first(alloc, input, piece)? {
+        Some((answer, _)) => expect(rt, answer, wanted),
+        None => return Err(Fail::new("no answer")),
+    }
+    Ok(())
 }
 
 #[test]
@@ -82,12 +99,7 @@ fn the_coding_of_the_final_head_is_told(rt: HostRuntime) -> Result<(), Fail> {
     ];
     for (input, wanted) in rows {
         for piece in [1, 5, 4_096] {
-            match first(rt.alloc(), input, piece)? {
-                Some((answer, _)) => {
-                    assert_eq!(rt; answer, wanted);
-                }
-                None => return Err(Fail::new("no answer")),
-            }
+            expect_first(&rt, rt.alloc(), input, piece, wanted)?;
         }
     }
     Ok(())
@@ -117,12 +129,7 @@ fn heads_of_replies_have_limits(rt: HostRuntime) -> Result<(), Fail> {
     ];
     for (heads, fill, wanted) in rows {
         let input = long(rt.alloc(), heads, fill)?;
-        match first(rt.alloc(), input.as_slice(), 4_096)? {
-            Some((answer, _)) => {
-                assert_eq!(rt; answer, wanted);
-            }
-            None => return Err(Fail::new("no answer")),
-        }
+        expect_first(&rt, rt.alloc(), input.as_slice(), 4_096, wanted)?;
     }
     Ok(())
 }
@@ -148,12 +155,7 @@ fn heads_of_replies_have_128_fields(rt: HostRuntime) -> Result<(), Fail> {
     for (count, end, wanted) in rows {
         let mut input = fields(rt.alloc(), count)?;
         input.extend_from_slice(end)?;
-        match first(rt.alloc(), input.as_slice(), 100)? {
-            Some((answer, _)) => {
-                assert_eq!(rt; answer, wanted);
-            }
-            None => return Err(Fail::new("no answer")),
-        }
+        expect_first(&rt, rt.alloc(), input.as_slice(), 100, wanted)?;
     }
     Ok(())
 }
@@ -163,13 +165,8 @@ fn heads_cut_behind_any_byte_are_cut(rt: HostRuntime) -> Result<(), Fail> {
     let whole = b"HTTP/1.1 100\r\n\r\nHTTP/1.1 200 OK\r\nContent-Length: 3\r\n\r\n".as_slice();
     for end in 0..whole.len() {
         if let Some(part) = whole.get(..end) {
-            match first(rt.alloc(), part, 4_096)? {
-                Some((answer, kept)) => {
-                    assert_eq!(rt; answer, Err(Bad::Cut));
-                    assert_eq!(rt; kept, end);
-                }
-                None => return Err(Fail::new("no answer")),
-            }
+            let found = first(rt.alloc(), part, 4_096)?;
+            expect(&rt, found, Some((Err(Bad::Cut), end)));
         }
     }
     Ok(())
@@ -193,7 +190,7 @@ fn a_reader_goes_on_behind_a_reply(rt: HostRuntime) -> Result<(), Fail> {
     }
     reader.skip(3);
     assert!(rt; matches!(reader.read(&mut source), ReplyRead::Final(Coding::ToEnd)));
-    assert_eq!(rt; reader.rest(), b"xyz".as_slice());
+    expect(&rt, reader.rest(), b"xyz");
     reader.skip(reader.rest().len());
     if reader.rest().len() > 100 {
         return Err(Fail::new("too many"));
@@ -220,12 +217,12 @@ fn each_take_fails(rt: HostRuntime) -> Result<(), Fail> {
     let mut whole = source(rt.alloc(), input, 0)?;
     let mut reader = ReplyReader::new(rt.alloc())?;
     assert!(rt; matches!(reader.read(&mut whole), ReplyRead::Final(Coding::ToEnd)));
-    assert_eq!(rt; whole.calls, 7);
+    expect(&rt, whole.calls, 7);
     for failing in 1..whole.calls.saturating_add(1) {
         let mut broken = source(rt.alloc(), input, failing)?;
         let mut reader = ReplyReader::new(rt.alloc())?;
         assert!(rt; matches!(reader.read(&mut broken), ReplyRead::ReadFault));
-        assert_eq!(rt; broken.calls, failing);
+        expect(&rt, broken.calls, failing);
     }
     Ok(())
 }
