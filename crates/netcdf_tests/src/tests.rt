@@ -1,5 +1,6 @@
 mod attributes;
 mod climate;
+mod expecting;
 mod files;
 mod joining;
 mod made;

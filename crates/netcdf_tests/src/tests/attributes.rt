@@ -1,3 +1,4 @@
+use crate::tests::expecting::expect;
 use crate::tests::made::push_words;
 use crate::tests::seen::printed;
 use dap_types::Bytes;
@@ -174,9 +175,9 @@ fn attributes_are_mapped(rt: HostRuntime) -> Result<(), Fail> {
     let alloc = rt.alloc();
     let of_variable =
         b"Attributes {\n    v {\n        String units \"m\";\n        Int16 range -1, 2;\n        String fill \"0x3f800000\";\n    }\n    NC_GLOBAL {\n    }\n}\n";
-    assert_eq!(rt; sample(alloc)?.bytes(), of_variable.as_slice());
+    expect(&rt, sample(alloc)?.bytes(), of_variable.as_slice());
     let of_file =
         b"Attributes {\n    w {\n        String u \"\";\n    }\n    NC_GLOBAL {\n        Byte a%20b 0, 255, 128;\n        Int32 i -2147483648, 2147483647;\n        Int16 s -32768, 32767, 0;\n        String d \"0x3ff000000000000a\";\n        String f \"0x7fc00001\", \"0x00000000\";\n        String t \"a\0\\\"\\\\\";\n        String e \"\";\n        String z \"\";\n    }\n}\n";
-    assert_eq!(rt; each_type(alloc)?.bytes(), of_file.as_slice());
+    expect(&rt, each_type(alloc)?.bytes(), of_file.as_slice());
     Ok(())
 }

@@ -1,7 +1,9 @@
+use crate::tests::expecting::expect;
 use crate::tests::made::{Variable, file};
 use crate::tests::seen::{describe, element, header, number};
 use netcdf_source::Header;
 use std::alloc::Global;
+use std::process::Abort;
 use std::test::Fail;
 
 /// The words of a list with the attribute `units`, whose value is `u`.
@@ -45,24 +47,35 @@ fn climate(alloc: Global) -> Result<Vec<u8>, Fail> {
     Ok(bytes)
 }
 
-fn is_number(header: &Header, file: &[u8], leaf: u32, indexes: &[u64], expected: i64) -> bool {
-    element(header, file, leaf, indexes).and_then(number) == Some(expected)
+/// The element of a leaf at these indexes is that number.
+fn expect_number<R: Abort>(
+    rt: &R,
+    header: &Header,
+    file: &[u8],
+    place: (u32, &[u64]),
+    expected: i64,
+) {
+    let (leaf, indexes) = place;
+    let found = element(header, file, leaf, indexes).and_then(number);
+    expect(rt, (leaf, found), (leaf, Some(expected)));
+}
+
+/// The variables of its dataset.
+fn described(alloc: Global, header: &Header) -> Result<Vec<u8>, Fail> {
+    describe(alloc, &header.dataset(alloc, b"coads.nc")?)
 }
 
 #[test]
 fn a_climatology_is_read(rt: HostRuntime) -> Result<(), Fail> {
     let bytes = climate(rt.alloc())?;
     let header = header(rt.alloc(), &bytes, bytes.len() as u64)?;
-    let made = describe(rt.alloc(), &header.dataset(rt.alloc(), b"coads.nc")?)?;
+    let made = described(rt.alloc(), &header)?;
     let dataset =
         b"coads.nc:Float64 TIME[TIME=12];Float64 COADSY[COADSY=90];Float64 COADSX[COADSX=180];SST(Float32 SST[TIME=12][COADSY=90][COADSX=180];Float64 TIME[TIME=12];Float64 COADSY[COADSY=90];Float64 COADSX[COADSX=180];)";
     assert!(rt; made.as_slice() == dataset.as_slice());
     for (leaf, last) in [(1, 11), (2, 89), (3, 179), (6, 11), (7, 89), (8, 179)] {
-        assert!(rt; is_number(&header, &bytes, leaf, &[0], 0), "leaf {leaf}");
-        assert!(rt;
-            is_number(&header, &bytes, leaf, &[last as u64], last),
-            "leaf {leaf}"
-        );
+        expect_number(&rt, &header, &bytes, (leaf, &[0]), 0);
+        expect_number(&rt, &header, &bytes, (leaf, &[last as u64]), last);
     }
     for (t, y, x, n) in [
         (0, 0, 0, 0),
@@ -71,7 +84,7 @@ fn a_climatology_is_read(rt: HostRuntime) -> Result<(), Fail> {
         (11, 40, 2, 185402),
         (11, 89, 179, 194399),
     ] {
-        assert!(rt; is_number(&header, &bytes, 5, &[t, y, x], n), "element {n}");
+        expect_number(&rt, &header, &bytes, (5, &[t, y, x]), n);
     }
     Ok(())
 }

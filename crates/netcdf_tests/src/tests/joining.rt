@@ -1,3 +1,4 @@
+use crate::tests::expecting::expect;
 use crate::tests::made::{Variable, file, sample};
 use crate::tests::seen::{describe, header};
 use netcdf_source::Header;
@@ -98,10 +99,10 @@ fn fixed(alloc: Global) -> Result<Header, Fail> {
 #[test]
 fn records_are_told(rt: HostRuntime) -> Result<(), Fail> {
     let alloc = rt.alloc();
-    assert_eq!(rt; recorded(alloc, 2)?.records(), Some(2));
-    assert_eq!(rt; recorded(alloc, 0)?.records(), Some(0));
+    expect(&rt, recorded(alloc, 2)?.records(), Some(2));
+    expect(&rt, recorded(alloc, 0)?.records(), Some(0));
     let fixed = fixed(alloc)?;
-    assert_eq!(rt; fixed.records(), None);
+    expect(&rt, fixed.records(), None);
     assert!(rt; !fixed.is_record(1));
     Ok(())
 }
@@ -115,7 +116,7 @@ fn leaves_of_records_are_told(rt: HostRuntime) -> Result<(), Fail> {
     ];
     for (leaf, is_record) in expected.iter().enumerate() {
         let found = header.is_record((leaf % 1000) as u32);
-        assert_eq!(rt; found, *is_record, "leaf {leaf}");
+        expect(&rt, (leaf, found), (leaf, *is_record));
     }
     Ok(())
 }

@@ -1,5 +1,7 @@
+use crate::tests::expecting::expect;
 use netcdf_source::{HeaderRefusal, read_header};
 use std::alloc::Global;
+use std::process::Abort;
 use std::test::Fail;
 
 /// A file with the variable `v` of Int over the dimensions `y` (3) and `x` (4).
@@ -91,7 +93,9 @@ fn endless(alloc: Global, file_len: u64) -> Result<Option<HeaderRefusal>, Fail> 
 
 /// A word of the file is changed: its place, the word, the refusal, and the length from which a
 /// front of the file is refused so.
-const CHANGES: [(usize, u32, HeaderRefusal, usize); 14] = [
+type Change = (usize, u32, HeaderRefusal, usize);
+
+const CHANGES: [Change; 14] = [
     (0, 0x4344_4603, HeaderRefusal::NotCdf, 0),
     (4, 0xffff_ffff, HeaderRefusal::Streaming, 8),
     (4, 0x8000_0000, HeaderRefusal::BadField { place: 4 }, 8),
@@ -119,26 +123,36 @@ fn refusal_at(len: usize, whole: usize, refusal: HeaderRefusal) -> HeaderRefusal
     }
 }
 
+/// The file with a change is refused, and so is each of its fronts.
+fn expect_refused<R: Abort>(rt: &R, alloc: Global, change: Change) -> Result<(), Fail> {
+    let (place, word, expected, whole) = change;
+    let bytes = changed(alloc, &FILE, place, word)?;
+    for len in 0..bytes.len() {
+        let found = refusal(alloc, &bytes[..len]);
+        let wanted = Some(refusal_at(len, whole, expected));
+        expect(rt, (place, len, found), (place, len, wanted));
+    }
+    let uncut = if word == 0x60 { None } else { Some(expected) };
+    expect(rt, (place, refusal(alloc, &bytes)), (place, uncut));
+    Ok(())
+}
+
 #[test]
 fn changed_words_and_cuts_are_refused_at_their_place(rt: HostRuntime) -> Result<(), Fail> {
-    let alloc = rt.alloc();
-    for (place, word, expected, whole) in CHANGES {
-        let bytes = changed(alloc, &FILE, place, word)?;
-        for len in 0..bytes.len() {
-            assert_eq!(rt;
-                refusal(alloc, &bytes[..len]),
-                Some(refusal_at(len, whole, expected)),
-                "{word:x} at {place}, cut at {len}"
-            );
-        }
-        let uncut = if word == 0x60 { None } else { Some(expected) };
-        assert_eq!(rt; refusal(alloc, &bytes), uncut, "{word:x} at {place}");
+    for change in CHANGES {
+        expect_refused(&rt, rt.alloc(), change)?;
     }
+    Ok(())
+}
+
+#[test]
+fn headers_without_an_end_are_refused(rt: HostRuntime) -> Result<(), Fail> {
+    let alloc = rt.alloc();
     let cut = counted(alloc, &[0x4344_4601, 0, 0x0a, 0xffff_ffff])?;
-    assert_eq!(rt; cut, Some(HeaderRefusal::HeaderCut));
+    expect(&rt, cut, Some(HeaderRefusal::HeaderCut));
     let whole = endless(alloc, 1048576)?;
-    assert_eq!(rt; whole, Some(HeaderRefusal::HeaderCut));
+    expect(&rt, whole, Some(HeaderRefusal::HeaderCut));
     let longer = endless(alloc, 1048577)?;
-    assert_eq!(rt; longer, Some(HeaderRefusal::HeaderTooLong));
+    expect(&rt, longer, Some(HeaderRefusal::HeaderTooLong));
     Ok(())
 }

@@ -1,3 +1,4 @@
+use crate::tests::expecting::expect;
 use crate::tests::made::{Variable, file, push_words};
 use crate::tests::seen::{at, becomes, describe, element, header, printed};
 use crate::tests::widths::FILE;
@@ -29,11 +30,11 @@ fn unsigned_shorts_are_read(rt: HostRuntime) -> Result<(), Fail> {
     let places = [None, at(188, &[2], 2), None];
     assert!(rt; becomes(alloc, &bytes, 220, b"f.nc:UInt16 u[n=3];", &places)?);
     let header = header(alloc, &bytes, 220)?;
-    assert_eq!(rt; header.members(), 1);
+    expect(&rt, header.members(), 1);
     let first = element(&header, &bytes, 1, &[0]);
-    assert_eq!(rt; first, Some(b"\xff\xff".as_slice()));
+    expect(&rt, first, Some(b"\xff\xff".as_slice()));
     let last = element(&header, &bytes, 1, &[2]);
-    assert_eq!(rt; last, Some(b"\x80\x00".as_slice()));
+    expect(&rt, last, Some(b"\x80\x00".as_slice()));
     Ok(())
 }
 
@@ -225,6 +226,6 @@ fn attributes_of_version_five_are_mapped(rt: HostRuntime) -> Result<(), Fail> {
     let text = printed(alloc, &bytes_of(alloc, &NOTED)?)?;
     let expected =
         b"Attributes {\n    NC_GLOBAL {\n        Byte a 255, 128;\n        UInt16 b 65534;\n        UInt32 c 4294967295;\n        String d \"-9223372036854775808\", \"9223372036854775807\";\n        String e \"18446744073709551615\";\n    }\n}\n";
-    assert_eq!(rt; text.bytes(), expected.as_slice());
+    expect(&rt, text.bytes(), expected.as_slice());
     Ok(())
 }

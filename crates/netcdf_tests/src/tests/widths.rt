@@ -1,3 +1,4 @@
+use crate::tests::expecting::expect;
 use crate::tests::made::push_word;
 use netcdf_source::{HeaderRefusal, read_front, read_header};
 use std::alloc::Global;
@@ -169,9 +170,9 @@ fn first_other(alloc: Global, changes: &[Change]) -> Result<Option<Change>, Fail
 #[test]
 fn changed_words_are_refused_at_their_place(rt: HostRuntime) -> Result<(), Fail> {
     let alloc = rt.alloc();
-    assert_eq!(rt; first_other(alloc, &IN_DIMENSIONS)?, None);
-    assert_eq!(rt; first_other(alloc, &IN_THE_FIRST)?, None);
-    assert_eq!(rt; first_other(alloc, &IN_THE_SECOND)?, None);
+    expect(&rt, first_other(alloc, &IN_DIMENSIONS)?, None);
+    expect(&rt, first_other(alloc, &IN_THE_FIRST)?, None);
+    expect(&rt, first_other(alloc, &IN_THE_SECOND)?, None);
     Ok(())
 }
 
@@ -191,15 +192,15 @@ fn a_file_that_is_written_and_variables_past_its_end_are_refused(
 ) -> Result<(), Fail> {
     let alloc = rt.alloc();
     let magic = refusal_with(alloc, 0, 0x4344_4604, 0)?;
-    assert_eq!(rt; magic, Some(HeaderRefusal::NotCdf));
+    expect(&rt, magic, Some(HeaderRefusal::NotCdf));
     let records = refusal_with(alloc, 4, u32::MAX, u32::MAX)?;
-    assert_eq!(rt; records, Some(HeaderRefusal::Streaming));
+    expect(&rt, records, Some(HeaderRefusal::Streaming));
     let first = refusal_with(alloc, 120, 0, 0xd7)?;
-    assert_eq!(rt; first, Some(HeaderRefusal::PastEnd { var: 1 }));
+    expect(&rt, first, Some(HeaderRefusal::PastEnd { var: 1 }));
     let largest = refusal_with(alloc, 120, 0x7fff_ffff, u32::MAX)?;
-    assert_eq!(rt; largest, Some(HeaderRefusal::PastEnd { var: 1 }));
+    expect(&rt, largest, Some(HeaderRefusal::PastEnd { var: 1 }));
     let second = refusal_with(alloc, 180, 0, 0xc5)?;
-    assert_eq!(rt; second, Some(HeaderRefusal::PastEnd { var: 2 }));
+    expect(&rt, second, Some(HeaderRefusal::PastEnd { var: 2 }));
     Ok(())
 }
 
@@ -207,9 +208,9 @@ fn a_file_that_is_written_and_variables_past_its_end_are_refused(
 #[test]
 fn numbers_at_their_limits_are_read(rt: HostRuntime) -> Result<(), Fail> {
     let alloc = rt.alloc();
-    assert_eq!(rt; refusal_with(alloc, 4, 0x7fff_ffff, u32::MAX)?, None);
-    assert_eq!(rt; refusal_with(alloc, 112, u32::MAX, u32::MAX)?, None);
-    assert_eq!(rt; refusal_with(alloc, 120, 0, 0xd6)?, None);
+    expect(&rt, refusal_with(alloc, 4, 0x7fff_ffff, u32::MAX)?, None);
+    expect(&rt, refusal_with(alloc, 112, u32::MAX, u32::MAX)?, None);
+    expect(&rt, refusal_with(alloc, 120, 0, 0xd6)?, None);
     Ok(())
 }
 
@@ -255,10 +256,14 @@ fn fronts_are_cut_and_want_more(rt: HostRuntime) -> Result<(), Fail> {
 #[test]
 fn shorter_magics_want_more(rt: HostRuntime) -> Result<(), Fail> {
     let alloc = rt.alloc();
-    assert_eq!(rt; wants_more(alloc, b"CDF", 220), Ok(true));
-    assert_eq!(rt; wants_more(alloc, b"CDF", 3), Err(HeaderRefusal::NotCdf));
+    expect(&rt, wants_more(alloc, b"CDF", 220), Ok(true));
+    expect(
+        &rt,
+        wants_more(alloc, b"CDF", 3),
+        Err(HeaderRefusal::NotCdf),
+    );
     let other = wants_more(alloc, b"CDF\x03", 220);
-    assert_eq!(rt; other, Err(HeaderRefusal::NotCdf));
+    expect(&rt, other, Err(HeaderRefusal::NotCdf));
     Ok(())
 }
 
@@ -275,8 +280,8 @@ fn front_wants_more(alloc: Global, bytes: &[u8], len: usize) -> Result<bool, Hea
 fn a_front_with_a_fault_is_refused(rt: HostRuntime) -> Result<(), Fail> {
     let alloc = rt.alloc();
     let bytes = changed(alloc, (68, 0, 257, 68))?;
-    assert_eq!(rt; front_wants_more(alloc, &bytes, 75), Ok(true));
+    expect(&rt, front_wants_more(alloc, &bytes, 75), Ok(true));
     let refused = front_wants_more(alloc, &bytes, 76);
-    assert_eq!(rt; refused, Err(HeaderRefusal::BadField { place: 68 }));
+    expect(&rt, refused, Err(HeaderRefusal::BadField { place: 68 }));
     Ok(())
 }
