@@ -1,6 +1,7 @@
 mod bodies;
 mod cases;
 mod counted;
+mod expecting;
 mod faults;
 mod feeding;
 mod many;

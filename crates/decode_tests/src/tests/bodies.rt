@@ -1,5 +1,8 @@
 use crate::tests::cases::{TABLE, TABLE_VALUES};
+use crate::tests::expecting::expect;
 use crate::tests::feeding::{body, wrong};
+use std::alloc::Global;
+use std::process::Abort;
 use std::test::Fail;
 use xdr_decode::{Bad, BadField};
 
@@ -7,22 +10,28 @@ fn bad(kind: Bad, place: u64) -> Option<BadField> {
     Some(BadField { kind, place })
 }
 
+/// A body has this fault, or none.
+fn expect_wrong<R: Abort>(
+    rt: &R,
+    alloc: Global,
+    body: &[u8],
+    expected: Option<BadField>,
+) -> Result<(), Fail> {
+    expect(rt, wrong(alloc, body)?, expected);
+    Ok(())
+}
+
 /// A body is cut at each of its bytes, and goes on with one byte more.
 #[test]
 fn a_body_is_cut(rt: HostRuntime) -> Result<(), Fail> {
     let mut whole = body(rt.alloc(), TABLE, TABLE_VALUES)?;
-    assert_eq!(rt; whole.len(), 138);
+    expect(&rt, whole.len(), 138);
     for cut in 0..whole.len() {
-        let found = wrong(rt.alloc(), &whole.as_slice()[..cut])?;
-        assert_eq!(rt; found, bad(Bad::Cut, cut as u64));
+        expect_wrong(&rt, rt.alloc(), &whole[..cut], bad(Bad::Cut, cut as u64))?;
     }
-    assert_eq!(rt; wrong(rt.alloc(), whole.as_slice())?, None);
+    expect_wrong(&rt, rt.alloc(), &whole, None)?;
     whole.push(0)?;
-    assert_eq!(rt;
-        wrong(rt.alloc(), whole.as_slice())?,
-        bad(Bad::Trailing, 138)
-    );
-    Ok(())
+    expect_wrong(&rt, rt.alloc(), &whole, bad(Bad::Trailing, 138))
 }
 
 /// What is wrong first, at its place in the body.
@@ -69,7 +78,7 @@ fn bodies_are_judged(rt: HostRuntime) -> Result<(), Fail> {
         (b"Dataset {\n} f;\nData:\n\n", bad(Bad::Trailing, 21)),
     ];
     for (bytes, expected) in bodies {
-        assert_eq!(rt; wrong(rt.alloc(), bytes)?, expected);
+        expect_wrong(&rt, rt.alloc(), bytes, expected)?;
     }
     Ok(())
 }

@@ -1,5 +1,6 @@
 use crate::tests::cases::{TABLE, TABLE_SHOWN, TABLE_VALUES};
 use crate::tests::counted::Counted;
+use crate::tests::expecting::expect;
 use crate::tests::feeding::{decoder, push_all};
 use dap_outside::MemSink;
 use dap_types::List;
@@ -24,8 +25,8 @@ fn each_put_fails(rt: HostRuntime) -> Result<(), Fail> {
     let mut decoder_of_all = decoder(rt.alloc(), TABLE, 0)?;
     let mut out = sink(rt.alloc(), 0)?;
     let answer = push_all(&mut decoder_of_all, TABLE_VALUES, 1, &mut out);
-    assert_eq!(rt; answer, Pushed::Done { used: 1 });
-    assert_eq!(rt; out.inner.bytes(), TABLE_SHOWN);
+    expect(&rt, answer, Pushed::Done { used: 1 });
+    expect(&rt, out.inner.bytes(), TABLE_SHOWN);
     assert!(rt; out.calls > 20);
     let cut = BadField {
         kind: Bad::Cut,
@@ -35,10 +36,10 @@ fn each_put_fails(rt: HostRuntime) -> Result<(), Fail> {
         let mut decoder = decoder(rt.alloc(), TABLE, 0)?;
         let mut broken = sink(rt.alloc(), failing)?;
         let answer = push_all(&mut decoder, TABLE_VALUES, 1, &mut broken);
-        assert_eq!(rt; answer, Pushed::WriteFault);
-        assert_eq!(rt; broken.calls, failing);
+        expect(&rt, answer, Pushed::WriteFault);
+        expect(&rt, broken.calls, failing);
         assert!(rt; TABLE_SHOWN.starts_with(broken.inner.bytes()));
-        assert_eq!(rt; decoder.finish(), Err(cut));
+        expect(&rt, decoder.finish(), Err(cut));
     }
     Ok(())
 }

@@ -1,5 +1,6 @@
 ghost use Rattle.std.specs.Prelude.{◌<◌};
 
+use crate::tests::expecting::expect;
 use crate::tests::feeding::{body, decoder, feed, sink, wrong};
 use dap_types::Memory;
 use std::alloc::Global;
@@ -115,10 +116,10 @@ fn a_grid_is_shown(rt: HostRuntime) -> Result<(), Fail> {
         .iter()
         .filter(|byte| **byte == b'\n')
         .count();
-    assert_eq!(rt; count, 11993);
+    expect(&rt, count, 11993);
     let whole = body(rt.alloc(), GRID, values.as_slice())?;
-    assert_eq!(rt; whole.len(), 48696);
-    assert_eq!(rt; wrong(rt.alloc(), whole.as_slice())?, None);
+    expect(&rt, whole.len(), 48696);
+    expect(&rt, wrong(rt.alloc(), whole.as_slice())?, None);
     if values.len() > 65536 {
         return Err(Fail::new("too many values"));
     }
@@ -126,7 +127,7 @@ fn a_grid_is_shown(rt: HostRuntime) -> Result<(), Fail> {
         let mut decoder = decoder(rt.alloc(), GRID, 240)?;
         let mut out = sink(rt.alloc(), 1_048_576)?;
         feed(&mut decoder, values.as_slice(), size, &mut out);
-        assert_eq!(rt; decoder.finish(), Ok(()));
+        expect(&rt, decoder.finish(), Ok(()));
         assert!(rt; out.bytes() == lines.as_slice());
     }
     Ok(())
@@ -155,11 +156,11 @@ fn a_million_rows_are_shown(rt: HostRuntime) -> Result<(), Fail> {
         kind: Bad::Cut,
         place: 8_000_000,
     };
-    assert_eq!(rt; decoder.finish(), Err(cut));
+    expect(&rt, decoder.finish(), Err(cut));
     feed(&mut decoder, b"\xa5\0\0\0", 3, &mut out);
-    assert_eq!(rt; decoder.finish(), Ok(()));
+    expect(&rt, decoder.finish(), Ok(()));
     // "q[" and "].n = 7\n" around 5,888,890 digits.
-    assert_eq!(rt; out.bytes().len(), 15_888_890);
+    expect(&rt, out.bytes().len(), 15_888_890);
     assert!(rt; out.bytes().ends_with(b"q[999998].n = 7\nq[999999].n = 7\n"));
     Ok(())
 }

@@ -1,4 +1,5 @@
 use crate::tests::cases::{CASES, TABLE, TABLE_SHOWN, TABLE_VALUES};
+use crate::tests::expecting::expect;
 use crate::tests::feeding::{body, decoder, feed, sink, wrong};
 use std::alloc::Global;
 use std::test::Fail;
@@ -42,14 +43,15 @@ fn cases_are_shown(rt: HostRuntime) -> Result<(), Fail> {
                 return Err(Fail::new("too many values"));
             }
             feed(&mut decoder, case.values, size, &mut out);
-            assert_eq!(rt; decoder.finish().err(), from(102, case.wrong));
-            assert_eq!(rt; out.bytes(), case.shown);
+            expect(&rt, decoder.finish().err(), from(102, case.wrong));
+            expect(&rt, out.bytes(), case.shown);
         }
         let whole = body(rt.alloc(), case.text, case.values)?;
         let start = whole.len().saturating_sub(case.values.len()) as u64;
-        assert_eq!(rt;
+        expect(
+            &rt,
             wrong(rt.alloc(), whole.as_slice())?,
-            from(start, case.wrong)
+            from(start, case.wrong),
         );
     }
     Ok(())
@@ -95,13 +97,18 @@ fn a_cut_mark_is_wrong(rt: HostRuntime) -> Result<(), Fail> {
         place: 118,
     };
     let front = b"\x5a\0\0\0\0\0\0\x02A1\0\0\0\0\0\x05\x5b\0";
-    assert_eq!(rt; decoder.push(front, &mut out), Pushed::More);
-    assert_eq!(rt;
-        decoder.push(b"\0\0\0\0\0\x03", &mut out),
-        Pushed::Refused(wrong)
+    expect(&rt, feed(&mut decoder, front, 64, &mut out), Pushed::More);
+    expect(
+        &rt,
+        feed(&mut decoder, b"\0\0\0\0\0\x03", 64, &mut out),
+        Pushed::Refused(wrong),
     );
-    assert_eq!(rt; decoder.push(b"\0\0", &mut out), Pushed::Refused(wrong));
-    assert_eq!(rt; decoder.finish(), Err(wrong));
+    expect(
+        &rt,
+        feed(&mut decoder, b"\0\0", 64, &mut out),
+        Pushed::Refused(wrong),
+    );
+    expect(&rt, decoder.finish(), Err(wrong));
     Ok(())
 }
 
@@ -110,12 +117,17 @@ fn a_cut_mark_is_wrong(rt: HostRuntime) -> Result<(), Fail> {
 fn done_is_said_again(rt: HostRuntime) -> Result<(), Fail> {
     let mut decoder = decoder(rt.alloc(), TABLE, 102)?;
     let mut out = sink(rt.alloc(), 4096)?;
-    assert_eq!(rt;
-        decoder.push(TABLE_VALUES, &mut out),
-        Pushed::Done { used: 36 }
+    expect(
+        &rt,
+        feed(&mut decoder, TABLE_VALUES, 64, &mut out),
+        Pushed::Done { used: 36 },
     );
-    assert_eq!(rt; decoder.push(b"\0", &mut out), Pushed::Done { used: 0 });
-    assert_eq!(rt; decoder.finish(), Ok(()));
-    assert_eq!(rt; out.bytes(), TABLE_SHOWN);
+    expect(
+        &rt,
+        feed(&mut decoder, b"\0", 64, &mut out),
+        Pushed::Done { used: 0 },
+    );
+    expect(&rt, decoder.finish(), Ok(()));
+    expect(&rt, out.bytes(), TABLE_SHOWN);
     Ok(())
 }

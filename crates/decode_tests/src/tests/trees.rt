@@ -1,7 +1,9 @@
 use crate::tests::cases::{MIXED, MIXED_VALUES, TABLE, TABLE_VALUES};
+use crate::tests::expecting::expect;
 use crate::tests::feeding::body;
 use dap_types::{BaseType, Decl, Memory, Tree, Value};
 use std::alloc::Global;
+use std::process::Abort;
 use std::test::Fail;
 use text_lines::put;
 use xdr_decode::decode_all;
@@ -57,6 +59,18 @@ fn written(alloc: Global, text: &[u8], values: &[u8]) -> Result<Vec<u8>, Fail> {
     let mut out = Vec::new(alloc);
     put_trees(&mut out, filled.values.items())?;
     Ok(out)
+}
+
+/// The values of a dataset are written so.
+fn expect_written<R: Abort>(
+    rt: &R,
+    alloc: Global,
+    text: &[u8],
+    values: &[u8],
+    expected: &[u8],
+) -> Result<(), Fail> {
+    expect(rt, written(alloc, text, values)?.as_slice(), expected);
+    Ok(())
 }
 
 /// The values of each kind of variable.
@@ -122,7 +136,7 @@ fn values_are_trees(rt: HostRuntime) -> Result<(), Fail> {
         ),
     ];
     for (text, values, expected) in rows {
-        assert_eq!(rt; written(rt.alloc(), text, values)?.as_slice(), expected);
+        expect_written(&rt, rt.alloc(), text, values, expected)?;
     }
     Ok(())
 }
@@ -132,17 +146,17 @@ fn values_are_trees(rt: HostRuntime) -> Result<(), Fail> {
 fn a_dataset_is_read(rt: HostRuntime) -> Result<(), Fail> {
     let body = body(rt.alloc(), TABLE, TABLE_VALUES)?;
     let dataset = decode_all(rt.alloc(), body.as_slice())?.dataset;
-    assert_eq!(rt; dataset.name.bytes(), b"buoys.csv".as_slice());
+    expect(&rt, dataset.name.bytes(), b"buoys.csv");
     let [Decl::Sequence(name, columns)] = dataset.members.items() else {
         return Err(Fail::new("no Sequence"));
     };
-    assert_eq!(rt; name.bytes(), b"buoys".as_slice());
+    expect(&rt, name.bytes(), b"buoys");
     let [station, depth] = columns.items() else {
         return Err(Fail::new("no two columns"));
     };
-    assert_eq!(rt; station.name.bytes(), b"station".as_slice());
-    assert_eq!(rt; station.base, BaseType::Text);
-    assert_eq!(rt; depth.name.bytes(), b"depth".as_slice());
-    assert_eq!(rt; depth.base, BaseType::Int32);
+    expect(&rt, station.name.bytes(), b"station");
+    expect(&rt, station.base, BaseType::Text);
+    expect(&rt, depth.name.bytes(), b"depth");
+    expect(&rt, depth.base, BaseType::Int32);
     Ok(())
 }
