@@ -8,12 +8,12 @@ use crate::testing::{
 };
 use dap_outside::{MemShelf, MemSink, Shelf};
 use dap_types::{List, Memory};
-use slab_fill::{Gate, NoGate};
+use slab_fill::NoGate;
 use std::alloc::Global;
 use std::process::Abort;
-use std::sync::atomic::{AtomicBool, Ordering};
 use std::test::Fail;
 use std::thread::Threads;
+use worker_gates::Meeting;
 use xdr_encode::{Body, Streamed};
 
 /// Int32 `v[y = 3]`, and texts `c[k = 2]` of 4 chars.
@@ -156,29 +156,6 @@ fn one_element_takes_one_read(rt: HostRuntime) -> Result<(), Fail> {
     Ok(())
 }
 
-/// Two workers who each look for the other.
-#[derive(Drop)]
-struct Meeting {
-    arrived: [AtomicBool; 2],
-    met: [AtomicBool; 2],
-}
-
-/// How often a worker looks.
-const TURNS: u32 = 100_000_000;
-
-impl Gate for Meeting {
-    fn enter(&self, worker: u32) {
-        let mine = if worker == 0 { 0 } else { 1 };
-        self.arrived[mine].store(true, Ordering::SeqCst);
-        for _ in 0..TURNS {
-            if self.arrived[1 - mine].load(Ordering::SeqCst) {
-                self.met[mine].store(true, Ordering::SeqCst);
-                return;
-            }
-        }
-    }
-}
-
 /// The machine has to give the process a second thread.
 #[test]
 fn two_workers_meet(rt: HostRuntime) -> Result<(), Fail> {
@@ -187,14 +164,11 @@ fn two_workers_meet(rt: HostRuntime) -> Result<(), Fail> {
     let mut met = false;
     for _ in 0..8 {
         if !met {
-            let gate = Meeting {
-                arrived: [AtomicBool::new(false), AtomicBool::new(false)],
-                met: [AtomicBool::new(false), AtomicBool::new(false)],
-            };
+            let gate = Meeting::new();
             let mut body = cdf_body(&rt, alloc, &file, b"f.nc", b"v")?;
             let out = put_of(&rt, alloc, &file, &mut body, 65536, 2, &gate)?;
             assert!(rt; out.bytes().len() == body.dds().len() + 26);
-            met = gate.met[0].load(Ordering::SeqCst) && gate.met[1].load(Ordering::SeqCst);
+            met = gate.both_met();
         }
     }
     assert!(rt; met, "two workers met");

@@ -7,9 +7,10 @@ use crate::testing::{body_of, file_of, joined, put_of, r};
 use slab_fill::Gate;
 use std::alloc::Global;
 use std::process::Abort;
-use std::sync::atomic::{AtomicBool, AtomicU64, Ordering};
+use std::sync::atomic::{AtomicU64, Ordering};
 use std::test::Fail;
 use std::thread::Threads;
+use worker_gates::Meeting;
 
 /// The body of two files of 14 records each goes out, by so many workers.
 fn expect_sent<R: Threads + Abort + Sync, G: Gate>(
@@ -75,41 +76,15 @@ fn each_worker_comes_for_each_file(rt: HostRuntime) -> Result<(), Fail> {
     expect_workers(&rt, alloc, 14, 0b11111111111111)
 }
 
-/// Two workers who each look for the other.
-#[derive(Drop)]
-struct Meeting {
-    arrived: [AtomicBool; 2],
-    met: [AtomicBool; 2],
-}
-
-/// How often a worker looks.
-const TURNS: u32 = 100_000_000;
-
-impl Gate for Meeting {
-    fn enter(&self, worker: u32) {
-        let mine = if worker == 0 { 0 } else { 1 };
-        self.arrived[mine].store(true, Ordering::SeqCst);
-        for _ in 0..TURNS {
-            if self.arrived[1 - mine].load(Ordering::SeqCst) {
-                self.met[mine].store(true, Ordering::SeqCst);
-                return;
-            }
-        }
-    }
-}
-
 /// The machine has to give the process a second thread.
 #[test]
 fn two_workers_meet(rt: HostRuntime) -> Result<(), Fail> {
     let mut met = false;
     for _ in 0..8 {
         if !met {
-            let gate = Meeting {
-                arrived: [AtomicBool::new(false), AtomicBool::new(false)],
-                met: [AtomicBool::new(false), AtomicBool::new(false)],
-            };
+            let gate = Meeting::new();
             expect_sent(&rt, rt.alloc(), 2, &gate)?;
-            met = gate.met[0].load(Ordering::SeqCst) && gate.met[1].load(Ordering::SeqCst);
+            met = gate.both_met();
         }
     }
     assert!(rt; met, "two workers met");

@@ -12,6 +12,7 @@ use std::process::Abort;
 use std::sync::atomic::{AtomicBool, Ordering};
 use std::test::Fail;
 use std::thread::Threads;
+use worker_gates::Meeting;
 
 /// The elements that two hyperslabs pick out of an array that stands at the front of its file.
 fn plan(
@@ -223,42 +224,6 @@ fn long_parts(rt: HostRuntime) -> Result<(), Fail> {
     expect_filled(&rt, alloc, &unsigned_plan, &shorts, &unsigned)?;
     let word_plan = plan(alloc, BaseType::UInt32, 4, (400, 4), &HUNDREDS)?;
     expect_filled(&rt, alloc, &word_plan, &unsigned, &unsigned)
-}
-
-/// Two workers who each look for the other.
-#[derive(Drop)]
-struct Meeting {
-    arrived: [AtomicBool; 2],
-    met: [AtomicBool; 2],
-}
-
-/// How often a worker looks.
-const TURNS: u32 = 100_000_000;
-
-impl Meeting {
-    fn new() -> Meeting {
-        Meeting {
-            arrived: [AtomicBool::new(false), AtomicBool::new(false)],
-            met: [AtomicBool::new(false), AtomicBool::new(false)],
-        }
-    }
-
-    fn both_met(&self) -> bool {
-        self.met[0].load(Ordering::SeqCst) && self.met[1].load(Ordering::SeqCst)
-    }
-}
-
-impl Gate for Meeting {
-    fn enter(&self, worker: u32) {
-        let mine = if worker == 0 { 0 } else { 1 };
-        self.arrived[mine].store(true, Ordering::SeqCst);
-        for _ in 0..TURNS {
-            if self.arrived[1 - mine].load(Ordering::SeqCst) {
-                self.met[mine].store(true, Ordering::SeqCst);
-                return;
-            }
-        }
-    }
 }
 
 /// The machine has to give the process a second thread.

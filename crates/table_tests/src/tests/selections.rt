@@ -10,6 +10,7 @@ use std::process::Abort;
 use std::sync::atomic::{AtomicBool, Ordering};
 use std::test::Fail;
 use std::thread::Threads;
+use worker_gates::Meeting;
 
 const BUOYS: &[u8] =
     b"station,depth:Int32,salt:Float32\nA1,5,0x3f800000\nB22,-7,0x00000000\nA1,30,0x40000000\nb,5,0x00000001\n\"\",0,0x00000000\n";
@@ -235,42 +236,6 @@ fn no_rows(rt: HostRuntime) -> Result<(), Fail> {
     assert!(rt; case.table.rows() == 0);
     write_kept(&rt, &case, &mut [], 3, &NoGate);
     Ok(())
-}
-
-/// Two workers who each look for the other.
-#[derive(Drop)]
-struct Meeting {
-    arrived: [AtomicBool; 2],
-    met: [AtomicBool; 2],
-}
-
-/// How often a worker looks.
-const TURNS: u32 = 100_000_000;
-
-impl Meeting {
-    fn new() -> Meeting {
-        Meeting {
-            arrived: [AtomicBool::new(false), AtomicBool::new(false)],
-            met: [AtomicBool::new(false), AtomicBool::new(false)],
-        }
-    }
-
-    fn both_met(&self) -> bool {
-        self.met[0].load(Ordering::SeqCst) && self.met[1].load(Ordering::SeqCst)
-    }
-}
-
-impl Gate for Meeting {
-    fn enter(&self, worker: u32) {
-        let mine = if worker == 0 { 0 } else { 1 };
-        self.arrived[mine].store(true, Ordering::SeqCst);
-        for _ in 0..TURNS {
-            if self.arrived[1 - mine].load(Ordering::SeqCst) {
-                self.met[mine].store(true, Ordering::SeqCst);
-                return;
-            }
-        }
-    }
 }
 
 /// The machine has to give the process a second thread.
