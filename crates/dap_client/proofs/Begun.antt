@@ -13,7 +13,6 @@ use Rattle.viable.proofs.Tests.{and_parts}
 use Rattle.dap_types.specs.Model.{Dataset}
 use Rattle.dap_model.specs.Grammar.{DdsOf, semicolon}
 use Rattle.dap_model.specs.Received.{HasHead}
-use Rattle.dap_model.specs.Tokens.{word}
 use Rattle.dap_model.specs.Tokens as dds
 use Rattle.dds_text.specs.inner.Words.{left}
 use Rattle.text_tokens.proofs.Machines.{breaks_of, starts}

@@ -1,18 +1,14 @@
 -- What comes of a body with the bytes behind its head.
-use Rattle.std.proofs.Common.{◌≡◌, ℕ, zero, suc, ◌+◌, ◌-◌, ◌<◌, ◌≤◌, ◌⊎◌, inl, inr, Bool, true, false, if◌then◌else◌, List, [], ◌∷◌, ◌++◌, length, refl, ap, ◌∙◌, sym, subst, arith, append_assoc, append-nil, length-append}
-use Rattle.std.proofs.lemmas.Bool.{cases_lt}
+use Rattle.std.proofs.Common.{◌≡◌, ℕ, zero, suc, ◌+◌, ◌-◌, ◌<◌, ◌≤◌, ◌⊎◌, inl, inr, Bool, List, [], ◌++◌, length, refl, ap, ◌∙◌, sym, subst, arith, append_assoc, append-nil}
 use Rattle.std.proofs.lemmas.List.Edits.{length-between}
 use Rattle.xdr_decode.specs.Verdict.{budget}
 use Rattle.reply_faults.specs.declared.bad.BadField.{BadField}
-use Rattle.dap_http.proofs.Framings.{no-end-cut, no-end-fault, one-end}
+use Rattle.dap_http.proofs.Framings.{no-end-fault}
 use Rattle.dap_http.proofs.Parts.{Opened}
-use Rattle.dap_http.proofs.Runs.{run-append}
-use Rattle.dap_http.proofs.Seams.{split}
-use Rattle.dap_http.proofs.Whole.{ends-known, fails-known, goes-known, known-goes}
+use Rattle.dap_http.proofs.Whole.{fails-known, goes-known, known-goes}
 use Rattle.dap_http.specs.Codings.{Ends, Fails, Goes}
 use Rattle.dap_http.specs.Delivered.{HasCome, IsBrokenBody, IsWholeBody}
 use Rattle.dap_http.specs.Following.{body_coding, part_of, waiting}
-use Rattle.dap_http.specs.inner.Steps.{Known, advance, is_data, run, start}
 use Rattle.dap_http.specs.declared.body_parts.BodyParts.{BodyParts}
 use Rattle.dap_http.specs.declared.coding.Coding.{Coding}
 use Rattle.dap_http.specs.declared.coding.Coding.TheVariants.{Chunked, Length, ToEnd}

@@ -1,5 +1,5 @@
 -- All bytes are a data response, or an Error object, or something is wrong with them first.
-use Rattle.std.proofs.Common.{◌≡◌, ℕ, ◌+◌, ◌<◌, ◌≤◌, Bool, true, false, ◌==◌, List, [], ◌∷◌, ◌++◌, length, take, drop, get_or, codes, All, refl, ap, ◌∙◌, sym, subst, arith, append_assoc, append-nil, length-take, inl, inr, ◌⊎◌}
+use Rattle.std.proofs.Common.{◌≡◌, ℕ, ◌+◌, ◌<◌, ◌≤◌, Bool, true, false, ◌==◌, List, [], ◌∷◌, ◌++◌, length, take, drop, get_or, codes, refl, ap, ◌∙◌, sym, subst, arith, append_assoc, append-nil, length-take, inl, inr, ◌⊎◌}
 use Rattle.std.proofs.lemmas.Bool.{cases_lt, eqb-false, eqb-true}
 use Rattle.std.proofs.lemmas.List.{take-append-drop, take-take, take_all}
 use Rattle.std.proofs.lemmas.List.Elements.{All-nil}
@@ -13,12 +13,12 @@ use Rattle.dap_model.specs.Xdr.{Spells}
 use Rattle.dds_text.proofs.EveryReading.{every_reading}
 use Rattle.dds_text.specs.Reading.{IsBadText, IsDone, IsUnfinished, limit}
 use Rattle.xdr_fields.proofs.Judged.{each_is_judged}
-use Rattle.xdr_decode.specs.Verdict.{EndsInDataLine, HasHeadOf, HasMore, HasText, IsBadDataLine, IsDataLine, IsWrong, kind_of}
+use Rattle.xdr_decode.specs.Verdict.{EndsInDataLine, HasHeadOf, HasText, IsBadDataLine, IsDataLine, IsWrong, kind_of}
 use Rattle.reply_faults.specs.declared.bad.Bad.{Bad}
 use Rattle.reply_faults.specs.declared.bad.Bad.TheVariants.{BadDataLine, BadDds, BadError, Cut, Trailing}
 use Rattle.dap_client.proofs.DataLines.{differs, line_ends, more_blank, one_byte, unended}
 use Rattle.dap_client.proofs.EveryObject.{Answer, every_object}
-use Rattle.dap_client.proofs.Values.{more_front}
+use Rattle.dap_client.proofs.Values.{more_at}
 use Rattle.dap_client.specs.Answered.{good_part}
 use Rattle.dap_client.specs.GoodParts.{IsGoodPart}
 use Rattle.error_word.specs.Saying.{says_error}
@@ -63,9 +63,6 @@ every_line : (bytes : List ℕ) → Line bytes
 every_line bytes = line_from 0 [] bytes (record { white = []; parts = refl; is_white = All-nil (λ b. is_white b ≡ true); most = omega arith })
 
 -- ---- the values
-more_at : (d : Dataset) (values : List ℕ) (n : ℕ) (ts : List Tree) → ValuesEndAt d ts values n → n < length values → HasMore d values n
-more_at d values n ts at less = subst (λ l. HasMore d l n) (append-nil values) (more_front d values [] n ts at less)
-
 abbrev Values : Dataset → List ℕ → Type 0
 Values d values = ((ts : List Tree) × Spells d ts values) ⊎ ((kind : Bad) × (at : ℕ) × IsWrong d values kind at)
 

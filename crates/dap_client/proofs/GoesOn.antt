@@ -3,7 +3,6 @@ use Rattle.std.proofs.Common.{◌≡◌, ℕ, ◌<◌, true, false, List, [], �
 use Rattle.std.proofs.lemmas.Bool.{false≢true}
 use Rattle.dap_model.specs.Tokens.{tokens_of}
 use Rattle.dap_types.specs.View.{dataset_view}
-use Rattle.error_word.specs.Saying.{says_error}
 use Rattle.xdr_decode.specs.Verdict.{budget}
 use Rattle.reply_faults.specs.declared.bad.Bad.{Bad}
 use Rattle.reply_faults.specs.declared.bad.Bad.TheVariants.{Cut}

@@ -1,4 +1,4 @@
--- The host of a URL is a text.
+-- A host is a text, and that of a URL is a host.
 use Rattle.std.proofs.Common.{◌≡◌, ℕ, zero, suc, ◌<◌, Bool, true, false, cond, drop, List, [], ◌∷◌, Option, Some, None, get_or, refl, subst, arith, tests}
 use Rattle.std.specs.Prelude.{codes, nat_eq}
 use Rattle.std.specs.List.{before_first, list_all, starts_with}
@@ -41,7 +41,7 @@ small-bytes [] e i = omega arith
 small-bytes (x ∷ xs) e zero = byte-small x (and_parts (is_host_byte x) (list_all is_host_byte xs) e).0
 small-bytes (x ∷ xs) e (suc i) = small-bytes xs (and_parts (is_host_byte x) (list_all is_host_byte xs) e).1 i
 
-pub host-text : (text : List ℕ) (u : UrlParts) → url_of text ≡ Some u → IsUtf8 u.host
-host-text text u e =
-    let (long, all) = and_parts _ (list_all is_host_byte u.host) (url-host text u e) in
-    IsUtf8-from_ascii u.host (small-bytes u.host all)
+pub host-text : (host : List ℕ) → is_host host ≡ true → IsUtf8 host
+host-text host is =
+    let (long, all) = and_parts _ (list_all is_host_byte host) is in
+    IsUtf8-from_ascii host (small-bytes host all)

@@ -6,7 +6,7 @@ use Rattle.dap_http.proofs.Finals.{gives-more, one-gives}
 use Rattle.dap_http.proofs.Framings.{fault-more, no-end-cut, no-fault-cut}
 use Rattle.dap_http.proofs.ReplyReading.{first-of, reads-long}
 use Rattle.dap_http.proofs.Seams.{split}
-use Rattle.dap_http.specs.Codings.{Ends, Fails, Goes}
+use Rattle.dap_http.specs.Codings.{Fails, Goes}
 use Rattle.dap_http.specs.Delivered.{HasCoding, HasCome}
 use Rattle.dap_http.specs.Following.{IsInTime}
 use Rattle.dap_http.specs.Replies.{HasFinal}

@@ -1,5 +1,5 @@
 -- From the bytes behind the heads of a reply to the reply.
-use Rattle.std.proofs.Common.{◌≡◌, ℕ, ◌≤◌, inl, inr, Bool, List, [], length, refl, ap, sym, subst, arith, append-nil, length-append}
+use Rattle.std.proofs.Common.{◌≡◌, ℕ, ◌≤◌, inl, inr, Bool, List, [], length, refl, sym, subst, arith}
 use Rattle.reply_faults.specs.declared.bad.BadField.{BadField}
 use Rattle.dap_http.proofs.Finals.{no-reply-final, one-gives}
 use Rattle.dap_http.specs.Reading.{Answers}

@@ -13,7 +13,7 @@ use Rattle.xdr_fields.proofs.Judged.{judge}
 use Rattle.xdr_fields.specs.Wants.{wants_of}
 use Rattle.xdr_decode.proofs.OneVerdict.{cut_head}
 use Rattle.xdr_decode.proofs.Turning.{faulty_wide}
-use Rattle.xdr_decode.specs.Verdict.{EndsInDataLine, EndsInHead, IsBadDataLine, IsDataLine, kind_of}
+use Rattle.xdr_decode.specs.Verdict.{EndsInDataLine, EndsInHead, HasText, IsBadDataLine, IsDataLine, kind_of}
 use Rattle.reply_faults.specs.declared.bad.Bad.TheVariants.{BadDataLine}
 use Rattle.dap_client.specs.Shows.{HasFewValues, StopsWithin}
 use Rattle.dap_client.specs.inner.DataLines.{IsLineFront}
@@ -68,12 +68,16 @@ few_behind d bytes piece h few e head values (g, is) =
     let (heads, datasets, same) = one_head bytes head piece values d e h g is in
     omega (arith, few, ap length same)
 
+-- more stands behind a text
+pub text_more : (bytes more text rest : List ℕ) (d : Dataset) → HasText bytes d text rest → HasText (bytes ++ more) d text (rest ++ more)
+text_more bytes more text rest d has = record { parts = ap (λ l. l ++ more) has.parts ∙ append_assoc text rest more; is_text = has.is_text; text_limit = has.text_limit }
+
 -- the line goes on
 pub line_on : (d : Dataset) (line next : DataLine) (bytes piece : List ℕ) (o : IsInLine d line bytes) → IsLineFront next (o.rest ++ piece) → IsInLine d next (bytes ++ piece)
 line_on d line next bytes piece o front = record {
   text = o.text;
   rest = o.rest ++ piece;
-  has_text = record { parts = ap (λ l. l ++ piece) o.has_text.parts ∙ append_assoc o.text o.rest piece; is_text = o.has_text.is_text; text_limit = o.has_text.text_limit };
+  has_text = text_more bytes piece o.text o.rest d o.has_text;
   is_front = front;
   well_formed = o.well_formed;
 }
@@ -91,7 +95,7 @@ line_head d line bytes front o l = record {
   text_limit = o.has_text.text_limit;
 }
 
-bad_line_more : (bytes more : List ℕ) (place : ℕ) → IsBadDataLine bytes place → IsBadDataLine (bytes ++ more) place
+pub bad_line_more : (bytes more : List ℕ) (place : ℕ) → IsBadDataLine bytes place → IsBadDataLine (bytes ++ more) place
 bad_line_more bytes more place b = record {
   front = b.front;
   next = b.next;
@@ -111,7 +115,8 @@ pub line_refused : (d : Dataset) (line : DataLine) (bytes piece : List ℕ) (pla
     → IsDataRefused (record { kind = BadDataLine; place = place + at }) (bytes ++ piece) []
 line_refused d line bytes piece place at o long none bad =
     let text : List ℕ = o.text in
-    let parts : bytes ++ piece ≡ text ++ (o.rest ++ piece) = ap (λ l. l ++ piece) o.has_text.parts ∙ append_assoc text o.rest piece in
+    let has = text_more bytes piece text o.rest d o.has_text in
+    let parts : bytes ++ piece ≡ text ++ (o.rest ++ piece) = has.parts in
     let spot : place + at ≡ length text + (length o.rest + at) = omega (arith, long, ap length o.has_text.parts, length-append text o.rest) in
     let front : take (place + at) (bytes ++ piece) ≡ text ++ bad.front =
     ap (λ n. take n (bytes ++ piece)) (spot ∙ ap (λ n. length text + n) bad.is_place) ∙ ap (take (length text + length bad.front)) parts ∙ take-append-add text (o.rest ++ piece) (length bad.front)
@@ -125,7 +130,7 @@ line_refused d line bytes piece place at o long none bad =
             text,
             (o.rest ++ piece) ++ more,
             length o.rest + at,
-            record { parts = ap (λ l. l ++ more) parts ∙ append_assoc text (o.rest ++ piece) more; is_text = o.has_text.is_text; text_limit = o.has_text.text_limit },
+            text_more (bytes ++ piece) more text (o.rest ++ piece) d has,
             bad_line_more (o.rest ++ piece) more (length o.rest + at) bad,
             spot,
           ),

@@ -1,6 +1,6 @@
 -- From a front of the first token of a body to one with another byte.
-use Rattle.std.proofs.Common.{◌≡◌, ℕ, ◌+◌, ◌<◌, Bool, true, false, if◌then◌else◌, List, [], ◌∷◌, ◌++◌, length, take, drop, map, get_or, refl, sym, ap, subst, ◌∙◌, append_assoc}
-use Rattle.dap_model.specs.Tokens.{Placed, Token, ended, is_plain, is_sign, is_white, sign, sign_at, tokens_from, tokens_of}
+use Rattle.std.proofs.Common.{◌≡◌, ℕ, ◌+◌, ◌<◌, Bool, true, false, if◌then◌else◌, List, [], ◌∷◌, ◌++◌, length, take, drop, get_or, refl, sym, ap, subst, ◌∙◌, append_assoc}
+use Rattle.dap_model.specs.Tokens.{Placed, ended, is_plain, is_sign, is_white, sign, sign_at, tokens_from, tokens_of}
 use Rattle.dds_text.specs.inner.Words.{left}
 use Rattle.dds_text.proofs.Bytes.{left-plain, left-stop, tokens-plain}
 use Rattle.error_word.proofs.FirstWords.{seam, sign_byte, some_more, stopped, white_byte, white_no_sign}

@@ -48,7 +48,7 @@ front_open d bs whole more f = by f.rest f.in_order f.cut
         inl (record { front = f.front; own = f.own; fields = f.fields; wanted = w; parts = f.parts; good = f.good; may_follow = (f.trees, rest, f.fit, order); cut = cut })
 
 -- what is bad stays bad
-bad_more : (d : Dataset) (bs more : List ℕ) (fault : Fault) (place : ℕ) → IsBadField d bs fault place → IsBadField d (bs ++ more) fault place
+pub bad_more : (d : Dataset) (bs more : List ℕ) (fault : Fault) (place : ℕ) → IsBadField d bs fault place → IsBadField d (bs ++ more) fault place
 bad_more d bs more fault place b = record {
   front = b.front;
   own = b.own;
@@ -64,17 +64,28 @@ bad_more d bs more fault place b = record {
   is_place = b.is_place;
 }
 
-pub more_front : (d : Dataset) (bs more : List ℕ) (n : ℕ) (ts : List Tree) → ValuesEndAt d ts bs n → n < length bs → HasMore d (bs ++ more) n
-more_front d bs more n ts at less = by (drop n bs) (take-append-drop n bs) (length-drop n bs)
+pub trailing_more : (d : Dataset) (bs more : List ℕ) (n : ℕ) → HasMore d bs n → HasMore d (bs ++ more) n
+trailing_more d bs more n m = record {
+  trees = m.trees;
+  whole = m.whole;
+  next = m.next;
+  rest = m.rest ++ more;
+  parts = ap (λ l. l ++ more) m.parts ∙ append_assoc m.whole (m.next ∷ m.rest) more;
+  spelled = m.spelled;
+  is_place = m.is_place;
+}
+
+pub more_at : (d : Dataset) (bs : List ℕ) (n : ℕ) (ts : List Tree) → ValuesEndAt d ts bs n → n < length bs → HasMore d bs n
+more_at d bs n ts at less = by (drop n bs) (take-append-drop n bs) (length-drop n bs)
   where
-    by : (rest : List ℕ) → take n bs ++ rest ≡ bs → length rest ≡ length bs - n → HasMore d (bs ++ more) n
+    by : (rest : List ℕ) → take n bs ++ rest ≡ bs → length rest ≡ length bs - n → HasMore d bs n
     by [] is long = absurd (omega (arith, long, less))
     by (b ∷ rest) is long = record {
       trees = ts;
       whole = take n bs;
       next = b;
-      rest = rest ++ more;
-      parts = ap (λ l. l ++ more) (sym is) ∙ append_assoc (take n bs) (b ∷ rest) more;
+      rest = rest;
+      parts = sym is;
       spelled = at.1;
       is_place = omega (arith, long, less, ap length is, length-append (take n bs) (b ∷ rest));
     }
@@ -130,7 +141,7 @@ may_show_part d bytes head good whole more lines put parts is_head front within 
 }
 
 -- ---- with a piece behind them
-piece_head : (d : Dataset) (bytes piece head values : List ℕ) → HasHeadOf bytes d head values → HasHeadOf (bytes ++ piece) d head (values ++ piece)
+pub piece_head : (d : Dataset) (bytes piece head values : List ℕ) → HasHeadOf bytes d head values → HasHeadOf (bytes ++ piece) d head (values ++ piece)
 piece_head d bytes piece head values (h, is) = (h, ap (λ l. l ++ piece) is ∙ append_assoc head values piece)
 
 -- what is wrong with the values is wrong with the bytes, and stays so
@@ -141,7 +152,7 @@ refused_at d bytes head values lines put good whole more field place (h, is) non
     let parts : take field.place bytes ≡ head ++ good =
     ap (λ n. take n bytes) place_is ∙ ap (take (length head + place)) is ∙ take-append-add head values place ∙ ap (λ l. head ++ l) (sym good_is) in
     record {
-      stays = λ further. inr (none further, inr (inr (inr (d, head, values ++ further, place, (h, ap (λ l. l ++ further) is ∙ append_assoc head values further), wrong further, place_is))));
+      stays = λ further. inr (none further, inr (inr (inr (d, head, values ++ further, place, piece_head d bytes further head values (h, is), wrong further, place_is))));
       is_fault = fault;
       shows = inl (may_show d (take field.place bytes) head good whole more lines put parts h front begins within is_put);
     }
@@ -167,7 +178,7 @@ pub values_trailing : (d : Dataset) (bytes head values lines put : List ℕ) (pl
 values_trailing d bytes head values lines put place n has none (ts, at) less place_is shows is_put =
     let here : ValuesEndAt d ts (take n values) n = (omega (arith, at.0, long_take), subst (Spells d ts) (sym (take_all n (take n values) (omega (arith, long_take)))) at.1) in
     refused_at d bytes head values lines put shows.good shows.whole shows.more (record { kind = Trailing; place = place }) n has none
-    (λ further. inr (inl (more_front d values further n ts at less, refl))) refl place_is
+    (λ further. inr (inl (trailing_more d values further n (more_at d values n ts at less), refl))) refl place_is
     (sym (all_good d (take n values) shows.good shows.has_good (λ fault p bad. ended_not_bad d ts (take n values) n fault p here bad))) shows.is_front shows.begins shows.within is_put
   where
     long_take : length (take n values) ≡ n

@@ -7,12 +7,12 @@ ghost use Rattle.dap_client.specs.Fetched.{Fetches, IsAsked, IsReadFrom, IsUnask
 ghost use Rattle.dap_client.specs.Following.{pending};
 ghost use Rattle.dap_client.specs.Replies.{form_of};
 
+use crate::host::host_of;
 use crate::{Outcome, Replies};
 use dap_http::{Kind, Url, request_bytes};
 use dap_outside::{Dial, Failed, Link, Sink, Source, put_all};
 use dap_types::{Bytes, Memory};
 use std::alloc::Global;
-use std::str;
 
 /// How many replies were whole and good, and how the last that was read ended.
 #[derive(Debug, Drop)]
@@ -49,17 +49,6 @@ fn requests_for(alloc: Global, url: &Url, kind: Kind, ces: &[Bytes]) -> Result<B
         left = rest;
     }
     Ok(Bytes::from_vec(out))
-}
-
-/// The host of a URL.
-fn host_of(url: &Url) -> &str
-    requires { IsUrl url.now }
-    ensures { result.now ≡ url.now.host }
-{
-    match str::from_utf8(url.host.bytes()) {
-        Ok(host) => host,
-        Err(_) => unreachable!(),
-    }
 }
 
 /// Reads so many replies of a kind, up to the first that is not whole and good.

@@ -11,6 +11,7 @@ mod data_line;
 mod dds_body;
 mod fetching;
 mod holding;
+mod host;
 pub mod laws;
 mod nowhere;
 mod object;
@@ -28,6 +29,7 @@ mod text_stage;
 
 pub use body_outcome::BodyOutcome;
 pub use fetching::{Fetched, fetch, fetch_all};
+pub use host::{host_of, host_text};
 pub use outcome::Outcome;
 pub use reading::read_body;
 pub use replies::{Replies, Stop};

@@ -18,7 +18,6 @@ use Rattle.dap_commands.specs.Answer.{AnswerSays, HasNoText, MayAskAs, MayAskFor
 use Rattle.dap_commands.specs.inner.Puts.{BodyPut, IsPut, RefusalPut, TextPut, start_of}
 use Rattle.dap_commands.specs.Lines.{cause_line, damaged_line, line_of, refused_line}
 use Rattle.dap_commands.specs.Words.{AreAnswer}
-use Rattle.dap_outside.specs.Causes.{Rose}
 use Rattle.xdr_encode.specs.Streamed.{Stops}
 use Rattle.dap_commands.specs.declared.status.Status.{Status}
 use Rattle.dap_commands.specs.declared.status.Status.TheVariants.{Complete, Words, Unsaved, Refused, Damaged, BadReply, ReadFault, WriteFault, LinkFault, Memory, ServerError}

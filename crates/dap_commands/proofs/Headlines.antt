@@ -17,7 +17,7 @@ use Rattle.dap_http.specs.Texts.{IsReplyStatus, description_of, head_text, is_ch
 use Rattle.dap_http.specs.declared.kind.Kind.TheVariants.{Dods}
 use Rattle.dap_http.proofs.Carrying.{carries-data, carries-text}
 use Rattle.dap_server.specs.Files.{Files, Stored}
-use Rattle.dap_server.specs.Replies.{IsRequestAnswered, Request, error_head, is_head, is_last, reply_of, request}
+use Rattle.dap_server.specs.Replies.{IsRequestAnswered, Request, error_head, is_last, reply_of, request}
 use Rattle.dap_server.specs.Results.{AnswersAsked, DodsAnswers, Left, Results, ResultsAmong, Text, error_object, left_of, result_text}
 use Rattle.dap_server.specs.Steps.{found_or, unless}
 use Rattle.dap_server.proofs.Accepted.{accepted_is_served}

@@ -1,10 +1,9 @@
 -- What is served of a stored file is a data response of what the constraint leaves, and the reply to GET carries it.
-use Rattle.std.proofs.Common.{◌≡◌, ℕ, ◌<◌, ◌≤◌, ◌^◌, List, [], length, false, refl}
-use Rattle.std.specs.Prelude.{codes}
+use Rattle.std.proofs.Common.{ℕ, ◌<◌, ◌≤◌, ◌^◌, List, [], length}
 use Rattle.constraint_parse.specs.declared.constraint.Constraint.{Constraint}
 use Rattle.dap_http.specs.declared.kind.Kind.TheVariants.{Dods}
 use Rattle.dap_server.specs.Files.{Files, Stored}
-use Rattle.dap_server.specs.Replies.{Request, is_head, request}
+use Rattle.dap_server.specs.Replies.{request}
 use Rattle.dap_server.specs.Results.{left_of}
 use Rattle.dap_client.proofs.Bodies.{good_is_body}
 use Rattle.both_ends.proofs.Names.{target-name}

@@ -1,6 +1,6 @@
 -- What the command `show` says: the verdict on the data response that comes in, what was put of it, and the
 -- line that says what is wrong.
-use Rattle.std.specs.Prelude.{◌≡◌, ℕ, ◌⊎◌, ⊤, List, ◌++◌, length, take, Option}
+use Rattle.std.specs.Prelude.{◌≡◌, ℕ, ⊤, List, length, take, Option}
 use Rattle.std.specs.Fmt.{signed_decimal}
 use Rattle.std.specs.Io.KnownBytes.{Appends}
 use Rattle.dap_errors.specs.declared.object.ErrorObject.{ErrorObject}

@@ -4,7 +4,7 @@ use Rattle.std.specs.Prelude.{IsTrue, codes, ◌==◌}
 use Rattle.std.specs.List.{list_all, onto_first, slice_split}
 use Rattle.std.specs.Fmt.{digit_glyph}
 use Rattle.std.proofs.lemmas.Bool.{and_from, and_parts, eqb-true, false≢true}
-use Rattle.target_names.specs.Names.{is_name, is_name_byte, is_segment, is_slash}
+use Rattle.target_names.specs.Names.{is_name, is_name_byte, is_slash}
 use Rattle.dap_http.specs.Targets.{Asked, suffix_of}
 use Rattle.dap_http.specs.Texts.{close_line, escaped, escaped_byte, host_lines, is_plain, query_text, request_text}
 use Rattle.dap_http.specs.declared.kind.Kind.{Kind}

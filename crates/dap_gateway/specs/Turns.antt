@@ -1,6 +1,6 @@
 -- What a connection of a gateway comes to, by the bytes that were taken from it and by the cache: the answer, what was
 -- asked of the other server, and the cache behind it. The order of the causes is this project's.
-use Rattle.std.specs.Prelude.{◌≡◌, ◌≢◌, ℕ, ◌-◌, ◌⊎◌, Bool, true, false, List, [], ◌∷◌, ◌++◌, length, take, codes, nat_le, IsTrue, Option, Some, None, if◌then◌else◌}
+use Rattle.std.specs.Prelude.{◌≡◌, ◌≢◌, ℕ, ◌-◌, ◌⊎◌, Bool, true, false, List, ◌∷◌, ◌++◌, length, take, codes, nat_le, IsTrue, Option, Some, None, if◌then◌else◌}
 use Rattle.std.specs.Map.{lookup}
 use Rattle.std.specs.Str.{bytes_eq}
 use Rattle.std.specs.Io.KnownBytes.{Appends}
@@ -10,10 +10,10 @@ use Rattle.dap_types.specs.Limits.{most_kept}
 use Rattle.dap_errors.specs.declared.cause.Cause.TheVariants.{BadMethod, BadRequest, BadTarget, HeadTooLong, OutOfMemory}
 use Rattle.dap_outside.specs.Links.{LinkState}
 use Rattle.dap_http.specs.Frames.{IsProperFront, framed}
+use Rattle.dap_http.specs.Framings.{front_of}
 use Rattle.dap_http.specs.Requests.{FirstRequest, HasNoRequest, IsBadRequest, IsGone, IsTooLong, is_other}
 use Rattle.dap_http.specs.Targets.{Asked, target_of}
 use Rattle.dap_http.specs.Texts.{version}
-use Rattle.dap_http.specs.declared.framer.Framer.{Framer}
 use Rattle.dap_http.specs.declared.kind.Kind.{Kind}
 use Rattle.dap_http.specs.declared.kind.Kind.TheVariants.{Ver}
 use Rattle.dap_http.specs.declared.target.Target.{Target}
@@ -23,6 +23,8 @@ use Rattle.dap_client.specs.declared.body_outcome.BodyOutcome.{BodyOutcome}
 use Rattle.dap_client.specs.declared.body_outcome.BodyOutcome.TheVariants.{Memory}
 use Rattle.dap_gateway.specs.Given.{Given, given_for, refused, reply, server_error, given_status, text}
 use Rattle.dap_gateway.specs.Upstream.{Dials, key_of}
+use Rattle.dap_gateway.specs.declared.ready.Extent.{Extent}
+use Rattle.dap_gateway.specs.declared.ready.Extent.TheVariants.{HeadAlone, WithBody}
 use Rattle.dap_gateway.specs.declared.ready.Ready.{Ready}
 use Rattle.dap_gateway.specs.declared.relayed.Relayed.{Relayed}
 use Rattle.dap_gateway.specs.declared.relayed.Relayed.TheVariants.{Replied, Gone, ReadFault, WriteFault}
@@ -167,13 +169,13 @@ abbrev pub Relays : {W : Type 0} → (W → LinkState) → Type 0 → List ℕ �
 Relays state NotCalled host port room bytes ended before now a b result =
     IsUnrelayed NotCalled bytes ended before now result ⊎ ComesTo state NotCalled host port room bytes before now a b result
 
--- what is put behind the first of a reply that stands ready: the body, where it is large
-abbrev pub rest_text : Option Framer → List ℕ → List ℕ
-rest_text None body = []
-rest_text (Some framer) body = framed framer.chunked body
+-- what goes out of a reply: its head alone, or the body behind it, framed
+abbrev pub extent_text : Extent → List ℕ → List ℕ
+extent_text (HeadAlone head) body = head
+extent_text (WithBody framer) body = front_of framer ++ framed framer.chunked body
 
 abbrev pub ready_text : Ready → List ℕ → List ℕ
-ready_text r body = r.first ++ rest_text r.rest body
+ready_text r body = extent_text r.extent body
 
 -- a reply of a kept or a good body, or its head alone
 abbrev pub IsReady : Kind → ℕ → Bool → List ℕ → Ready → Type 0

@@ -6,24 +6,27 @@ ghost use Rattle.dap_outside.specs.Causes.{HasCause, Rose};
 ghost use Rattle.dap_http.specs.Frames.{IsProperFront, framed};
 ghost use Rattle.dap_http.specs.Sent.{stated_length};
 ghost use Rattle.dap_gateway.specs.Given.{reply, server_error, text};
-ghost use Rattle.dap_gateway.specs.Turns.{Puts, ready_text, rest_text};
+ghost use Rattle.dap_gateway.specs.Turns.{Puts, extent_text, ready_text};
 
 use crate::relayed::Relayed;
 use dap_http::{Framer, Kind, put_framed, reply_head};
-use dap_outside::{Failed, MemSink, Sink, put_all};
-use dap_types::{Bytes, List, Memory, limits};
+use dap_outside::{Failed, Sink, put_all};
+use dap_types::{Bytes, Memory};
 use std::alloc::Global;
 
-/// The bytes of a body that goes out in one piece with its head, at most.
-const SMALL: usize = limits::MOST_PIECE;
-/// Room for a head and such a body, framed.
-const ROOM: u32 = 131_072;
+/// What goes out of a reply.
+#[derive(Drop)]
+pub enum Extent {
+    /// Its head alone.
+    HeadAlone(Bytes),
+    /// Its body too, behind the head that the framer puts before it.
+    WithBody(Framer),
+}
 
-/// What is put first, a head and behind it a small body; how a larger body behind it is framed; and the status.
+/// A reply whose head stands, and its status.
 #[derive(Drop)]
 pub struct Ready {
-    first: Bytes,
-    rest: Option<Framer>,
+    extent: Extent,
     status: u16,
 }
 
@@ -53,7 +56,7 @@ impl Ready {
         let chunked = kind.is_chunked(minor);
         let len = stated_length(kind, body);
         let head = reply_head(alloc, 200, kind.description(), len, chunked, true)?;
-        prepared(alloc, 200, head, chunked, body, head_alone)
+        prepared(alloc, 200, head, chunked, head_alone)
     }
 
     /// For an Error object of the other server, which goes out as a bad request, or its head alone. Fails
@@ -64,10 +67,10 @@ impl Ready {
     {
         let len = object.len() as u64;
         let head = reply_head(alloc, 400, b"dods_error", Some(len), false, true)?;
-        prepared(alloc, 400, head, false, object, head_alone)
+        prepared(alloc, 400, head, false, head_alone)
     }
 
-    /// Puts the reply, in one piece where its body is small. Takes no memory.
+    /// Puts the reply, its head in one piece with what begins the body. Takes no memory.
     pub fn put<O: Sink>(self, out: &mut O, body: &[u8], hit: bool) -> Relayed
         ensures puts { Puts (ready_text self body.now) self.status hit (O.written out.old) (O.written out.new) result }
         ensures fault { result ≡ Relayed.WriteFault → Rose (O.put_faults out.old) (O.put_faults out.new) }
@@ -75,12 +78,8 @@ impl Ready {
         ensures later { O.put_faults out.old ≤ O.put_faults out.new }
         ensures beside { O.beside_writing out.new ≡ O.beside_writing out.old }
     {
-        let Ready {
-            first,
-            rest,
-            status,
-        } = self;
-        match put_both(out, first.bytes(), rest, body) {
+        let Ready { extent, status } = self;
+        match put_extent(out, extent, body) {
             Ok(()) => Relayed::Replied { status, hit },
             Err(Failed) => Relayed::WriteFault,
         }
@@ -93,72 +92,33 @@ fn prepared(
     status: u16,
     head: Bytes,
     chunked: bool,
-    body: &[u8],
     head_alone: bool,
 ) -> Result<Ready, Memory>
-    ensures text { IfOk result (λ r. ready_text r body.now ≡ head ++ (if head_alone then [] else framed chunked body.now)) }
+    ensures text { IfOk result (λ r. (body : List ℕ) → ready_text r body ≡ head ++ (if head_alone then [] else framed chunked body)) }
     ensures status { IfOk result (λ r. r.status ≡ status) }
 {
     if head_alone {
         return Ok(Ready {
-            first: head,
-            rest: None,
+            extent: Extent::HeadAlone(head),
             status,
         });
     }
-    let framer = Framer::new(alloc, chunked)?;
-    if body.len() > SMALL {
-        return Ok(Ready {
-            first: head,
-            rest: Some(framer),
-            status,
-        });
-    }
+    let framer = Framer::behind(alloc, chunked, head.bytes())?;
     Ok(Ready {
-        first: whole(alloc, head.bytes(), framer, body)?,
-        rest: None,
+        extent: Extent::WithBody(framer),
         status,
     })
 }
 
-/// A head and a small body behind it, framed. Fails where memory is wanted.
-fn whole(alloc: Global, head: &[u8], framer: Framer, body: &[u8]) -> Result<Bytes, Memory>
-    ensures { IfOk result (λ b. b ≡ head.now ++ framed framer.chunked body.now) }
-{
-    let mut sink = MemSink::new(alloc, ROOM, ROOM, List::new(alloc))?;
-    match put_behind(&mut sink, head, framer, body) {
-        Ok(()) => Bytes::new(alloc, sink.bytes()),
-        // (there is room for both)
-        Err(Failed) => Err(Memory),
-    }
-}
-
-/// Puts what is first of a reply, and behind it the body, where it is large. Where that fails a front of both
-/// was put, and not all.
-fn put_both<O: Sink>(
-    out: &mut O,
-    first: &[u8],
-    rest: Option<Framer>,
-    body: &[u8],
-) -> Result<(), Failed>
-    ensures ok { OnOk result (Appends (O.written out.old) (O.written out.new) (first.now ++ rest_text rest body.now)) }
-    ensures err { OnErr result ((part : List ℕ) × Appends (O.written out.old) (O.written out.new) part × IsProperFront part (first.now ++ rest_text rest body.now)) }
+/// Puts what goes out of a reply, with this body. Where that fails a front of it was put, and not all.
+fn put_extent<O: Sink>(out: &mut O, extent: Extent, body: &[u8]) -> Result<(), Failed>
+    ensures ok { OnOk result (Appends (O.written out.old) (O.written out.new) (extent_text extent body.now)) }
+    ensures err { OnErr result ((part : List ℕ) × Appends (O.written out.old) (O.written out.new) part × IsProperFront part (extent_text extent body.now)) }
     ensures cause { HasCause (O.put_faults out.old) (O.put_faults out.new) result }
     ensures beside { O.beside_writing out.new ≡ O.beside_writing out.old }
 {
-    match rest {
-        Some(framer) => put_behind(out, first, framer, body),
-        None => put_all(out, first),
+    match extent {
+        Extent::HeadAlone(head) => put_all(out, head.bytes()),
+        Extent::WithBody(framer) => put_framed(framer, out, body),
     }
-}
-
-/// Puts a head, and the body behind it, framed. Where that fails a front of both was put, and not all.
-fn put_behind<O: Sink>(out: &mut O, head: &[u8], framer: Framer, body: &[u8]) -> Result<(), Failed>
-    ensures ok { OnOk result (Appends (O.written out.old) (O.written out.new) (head.now ++ framed framer.chunked body.now)) }
-    ensures err { OnErr result ((part : List ℕ) × Appends (O.written out.old) (O.written out.new) part × IsProperFront part (head.now ++ framed framer.chunked body.now)) }
-    ensures cause { HasCause (O.put_faults out.old) (O.put_faults out.new) result }
-    ensures beside { O.beside_writing out.new ≡ O.beside_writing out.old }
-{
-    put_all(out, head)?;
-    put_framed(framer, out, body)
 }

@@ -8,12 +8,11 @@ ghost use Rattle.dap_client.specs.Replies.{form_of};
 ghost use Rattle.dap_gateway.specs.Turns.{asked_of};
 ghost use Rattle.dap_gateway.specs.Upstream.{Dials, IsAsked, IsUnasked, key_of};
 
-use dap_client::{BodyOutcome, read_body};
+use dap_client::{BodyOutcome, host_text, read_body};
 use dap_http::{Kind, Target, Url, request_bytes};
 use dap_outside::{Dial, Failed, Link, put_all};
 use dap_types::{Bytes, Memory, limits};
 use std::alloc::Global;
-use std::str;
 
 /// How many bytes of a body are read.
 const MOST_BODY: u32 = limits::MOST_BODY;
@@ -38,17 +37,6 @@ pub fn key_for(alloc: Global, host: &[u8], port: u16, target: &Target) -> Result
         path: path_of(alloc, target.name.as_str())?,
     };
     request_bytes(alloc, &url, target.kind, target.query.bytes(), true)
-}
-
-/// A host as text.
-fn host_text(host: &[u8]) -> &str
-    requires { IsTrue (is_host host.now) }
-    ensures { result.now ≡ host.now }
-{
-    match str::from_utf8(host) {
-        Ok(text) => text,
-        Err(_) => unreachable!(),
-    }
 }
 
 /// Sends a request over a new link and reads the reply. `ReadFault` is also where it could not be sent.

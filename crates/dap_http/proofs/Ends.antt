@@ -1,5 +1,5 @@
--- How a framed body ends.
-use Rattle.std.proofs.Common.{◌≡◌, ℕ, zero, suc, eqb, ◌+◌, ◌/◌, ◌<◌, Bool, true, false, List, [], ◌∷◌, ◌++◌, length, take, drop, Option, Decides, OnOk, OnErr, Result, Ok, Err, refl, sym, ap, ◌∙◌, arith, append_assoc, append-nil, length-append, length-drop, ◌≤◌, ◌⊎◌, inl, inr, subst}
+-- How a framed body ends, and how it breaks off.
+use Rattle.std.proofs.Common.{◌≡◌, ℕ, zero, suc, eqb, ◌+◌, ◌-◌, ◌/◌, ◌<◌, Bool, true, false, List, [], ◌∷◌, ◌++◌, length, take, drop, Option, Decides, OnOk, OnErr, Result, Ok, Err, refl, sym, ap, ◌∙◌, arith, append_assoc, append-nil, length-append, length-drop, ◌≤◌, ◌⊎◌, inl, inr, subst}
 use Rattle.std.specs.List.{flat_map}
 use Rattle.std.specs.Str.{bytes_eq}
 use Rattle.std.specs.Io.KnownBytes.{Appends}
@@ -7,13 +7,14 @@ use Rattle.std.proofs.KnownBytes.{Appends-trans}
 use Rattle.std.proofs.Math.Logic.{∥∥₁_elim, ∥∥₁_map}
 use Rattle.std.proofs.Math.Seq.{drop-append_seam}
 use Rattle.std.proofs.lemmas.Bool.{cases_lt, eqb-true, false≢true}
-use Rattle.std.proofs.lemmas.List.{take-append-drop, take_all}
+use Rattle.std.proofs.lemmas.List.{take-append-drop, take_all, take_at}
 use Rattle.std.proofs.lemmas.Slice.Eq.{bytes_eq-Decides}
 use Rattle.dap_outside.specs.Streams.{AppendsFront}
-use Rattle.dap_http.specs.Frames.{IsFront, IsProperFront, chunk, chunked, first_pieces, last_chunk, piece_size}
-use Rattle.dap_http.specs.inner.UnderWay.{InChunks}
-use Rattle.dap_http.proofs.Fronts.{chunked-pieces, chunks-proper, is-front}
-use Rattle.dap_http.proofs.Gathering.{when-open}
+use Rattle.dap_http.specs.Frames.{IsFront, IsProperFront, chunk, chunked, first_pieces, framed, last_chunk, piece_size}
+use Rattle.dap_http.specs.Framings.{EndsEarly, IsUnfinished}
+use Rattle.dap_http.specs.inner.UnderWay.{InFrames, head_of, piece_of}
+use Rattle.dap_http.proofs.Fronts.{all-is, chunked-some, framed-pieces, framed-some, is-front, piece-framed, rest-of}
+use Rattle.dap_http.proofs.Gathering.{when-open, when-whole}
 
 nonzero : (n : ℕ) → eqb n 0 ≡ false → 0 < n
 nonzero zero e = absurd (false≢true (sym e))
@@ -58,17 +59,155 @@ proper-of part all f =
       | inr none ↦ absurd (not-nothing part all rest f same none)
     ]
 
--- what was gathered of a chunk is put, and the last chunk
-rest-done : (frame body gained : List ℕ) (sent : ℕ) → length frame < 65543 → InChunks frame sent body gained → gained ++ chunked (drop 7 frame) ≡ chunked body
-rest-done frame body gained sent open_one w =
-    let (few, is, none) = when-open frame w.held sent w.gathered open_one in
-    let held : drop 7 frame ≡ w.held = ap (drop 7) is in
-    let ps = w.pieces in
-    ap (λ t. gained ++ chunked t) held ∙ ap (λ t. t ++ chunked w.held) (w.gained_is ∙ ap (λ n. flat_map chunk ps ++ take n frame) none ∙ append-nil (flat_map chunk ps))
-    ∙ sym (ap chunked w.body_is ∙ chunked-pieces ps w.held w.whole)
+-- ---- a frame that is not whole, and how the body ends behind it
 
-pub all-done : (frame body gained : List ℕ) (sent : ℕ) → length frame < 65543 → ∥ InChunks frame sent body gained ∥₁ → gained ++ chunked (drop 7 frame) ≡ chunked body
-all-done frame body gained sent open_one w = same-of (gained ++ chunked (drop 7 frame)) (chunked body) (∥∥₁_map w (rest-done frame body gained sent open_one))
+lead-of : (m : Bool) (front frame body gained : List ℕ) (from sent : ℕ) (w : InFrames m front frame from sent body gained) → frame ≡ w.lead ++ (head_of m ++ w.held) → take (from - length (head_of m)) frame ≡ w.lead
+lead-of m front frame body gained from sent w is = ap (take (from - length (head_of m))) is ∙ take_at w.lead (head_of m ++ w.held) (from - length (head_of m)) (omega (arith, w.from_is))
+
+held-of : (m : Bool) (front frame body gained : List ℕ) (from sent : ℕ) (w : InFrames m front frame from sent body gained) → frame ≡ w.lead ++ (head_of m ++ w.held) → drop from frame ≡ w.held
+held-of m front frame body gained from sent w is =
+    let at : length (w.lead ++ head_of m) ≡ from = length-append w.lead (head_of m) ∙ w.from_is in
+    ap (drop from) (is ∙ sym (append_assoc w.lead (head_of m) w.held)) ∙ ap (λ n. drop n ((w.lead ++ head_of m) ++ w.held)) (sym at) ∙ drop-append_seam (w.lead ++ head_of m) w.held
+
+rest-done : (m : Bool) (front frame body gained : List ℕ) (from sent : ℕ) → length frame < from + 65536 → InFrames m front frame from sent body gained
+    → gained ++ (take (from - length (head_of m)) frame ++ framed m (drop from frame)) ≡ front ++ framed m body
+rest-done m front frame body gained from sent open_one w =
+    let (few, is, none) = when-open m w.lead frame w.held from sent w.from_is w.gathered open_one in
+    let put : gained ≡ w.before = w.gained_is ∙ ap (λ n. w.before ++ take n frame) none ∙ append-nil w.before in
+    let x = framed m w.held in
+    ap (λ t. gained ++ (t ++ framed m (drop from frame))) (lead-of m front frame body gained from sent w is)
+    ∙ ap (λ t. gained ++ (w.lead ++ framed m t)) (held-of m front frame body gained from sent w is)
+    ∙ ap (λ t. t ++ (w.lead ++ x)) put
+    ∙ sym (append_assoc w.before w.lead x)
+    ∙ ap (λ t. (w.before ++ w.lead) ++ framed m t) (sym (append-nil w.held))
+    ∙ sym (all-is m front frame body gained [] from sent w)
+    ∙ ap (λ t. front ++ framed m t) (append-nil body)
+
+pub all-done : (m : Bool) (front frame body gained : List ℕ) (from sent : ℕ) → length frame < from + 65536 → ∥ InFrames m front frame from sent body gained ∥₁
+    → gained ++ (take (from - length (head_of m)) frame ++ framed m (drop from frame)) ≡ front ++ framed m body
+all-done m front frame body gained from sent open_one w =
+    same-of (gained ++ (take (from - length (head_of m)) frame ++ framed m (drop from frame))) (front ++ framed m body) (∥∥₁_map w (rest-done m front frame body gained from sent open_one))
+
+head-stands : (m : Bool) (front frame body gained : List ℕ) (from sent : ℕ) → length frame < from + 65536 → InFrames m front frame from sent body gained
+    → drop (from - length (head_of m)) frame ≡ head_of m ++ drop from frame
+head-stands m front frame body gained from sent open_one w =
+    let (few, is, none) = when-open m w.lead frame w.held from sent w.from_is w.gathered open_one in
+    let at : length w.lead ≡ from - length (head_of m) = omega (arith, w.from_is) in
+    ap (drop (from - length (head_of m))) is ∙ ap (λ n. drop n (w.lead ++ (head_of m ++ w.held))) (sym at) ∙ drop-append_seam w.lead (head_of m ++ w.held)
+    ∙ ap (λ t. head_of m ++ t) (sym (held-of m front frame body gained from sent w is))
+
+pub head-there : (m : Bool) (front frame body gained : List ℕ) (from sent : ℕ) → length frame < from + 65536 → ∥ InFrames m front frame from sent body gained ∥₁
+    → drop (from - length (head_of m)) frame ≡ head_of m ++ drop from frame
+head-there m front frame body gained from sent open_one w = same-of (drop (from - length (head_of m)) frame) (head_of m ++ drop from frame) (∥∥₁_map w (head-stands m front frame body gained from sent open_one))
+
+-- nothing of it was put
+pub unsent : (m : Bool) (front frame body gained : List ℕ) (from sent : ℕ) → length frame < from + 65536 → ∥ InFrames m front frame from sent body gained ∥₁ → sent ≡ 0
+unsent m front frame body gained from sent open_one w = go (cases_lt 0 sent) where
+  go : (0 < sent) ⊎ (sent ≤ 0) → sent ≡ 0
+  go (inl some) = absurd (∥∥₁_elim w (λ (x : ⊥). λ (y : ⊥). absurd x) (λ v. omega (arith, some, (when-open m v.lead frame v.held from sent v.from_is v.gathered open_one).2)))
+  go (inr none) = omega (arith, none)
+
+-- ---- a body that breaks off
+
+breaks-of : (bytes front : List ℕ) (m : Bool) (body : List ℕ) → ∥ EndsEarly bytes front m body ∥₁ → EndsEarly bytes front m body
+breaks-of bytes front m body b =
+    let part = drop (length front) bytes in
+    let here : (v : EndsEarly bytes front m body) → part ≡ v.0 = λ v. ap (drop (length front)) v.1 ∙ drop-append_seam front v.0 in (
+      part,
+      same-of bytes (front ++ part) (∥∥₁_map b (λ v. v.1 ∙ ap (λ t. front ++ t) (sym (here v)))),
+      λ more. front-of part (framed m (body ++ more)) (∥∥₁_map b (λ v. subst (λ t. IsFront t (framed m (body ++ more))) (sym (here v)) (v.2 more))),
+      λ more goes. proper-of part (framed m (body ++ more)) (∥∥₁_map b (λ v. subst (λ t. IsProperFront t (framed m (body ++ more))) (sym (here v)) (v.3 more goes))),
+    )
+
+framed-is : (m : Bool) (front frame body gained more : List ℕ) (from sent : ℕ) (w : InFrames m front frame from sent body gained)
+    → framed m (body ++ more) ≡ flat_map (piece_of m) w.pieces ++ framed m (w.held ++ more)
+framed-is m front frame body gained more from sent w =
+    ap (λ t. framed m (t ++ more)) w.body_is ∙ ap (framed m) (append_assoc (flat_map (λ (p : List ℕ). p) w.pieces) w.held more) ∙ framed-pieces m w.pieces (w.held ++ more) w.whole
+
+nothing-less : (n : ℕ) → n - 0 ≡ n
+nothing-less n = omega arith
+
+-- behind the chunks that are whole
+chunks-break : (front frame body gained : List ℕ) (from sent : ℕ) → length frame < from + 65536 → InFrames true front frame from sent body gained
+    → EndsEarly (gained ++ take ((from - length (head_of true)) - sent) (drop sent frame)) front true body
+chunks-break front frame body gained from sent open_one w =
+    let (few, is, none) = when-open true w.lead frame w.held from sent w.from_is w.gathered open_one in
+    let ps = flat_map (piece_of true) w.pieces in
+    let put : gained ≡ w.before = w.gained_is ∙ ap (λ n. w.before ++ take n frame) none ∙ append-nil w.before in
+    let first : take ((from - length (head_of true)) - sent) (drop sent frame) ≡ w.lead =
+    ap (λ n. take ((from - length (head_of true)) - n) (drop n frame)) none ∙ ap (λ n. take n frame) (nothing-less (from - length (head_of true))) ∙ lead-of true front frame body gained from sent w is in
+    let goes = λ (more : List ℕ). framed-is true front frame body gained more from sent w in (
+      ps,
+      ap (λ t. t ++ take ((from - length (head_of true)) - sent) (drop sent frame)) put ∙ ap (λ t. w.before ++ t) first ∙ w.goes_on,
+      λ more. (framed true (w.held ++ more), goes more),
+      λ more unfinished. (framed true (w.held ++ more), chunked-some (w.held ++ more), goes more),
+    )
+
+pub broken-open : (m : Bool) (front frame body gained : List ℕ) (from sent h : ℕ) → m ≡ true → h ≡ length (head_of true) → length frame < from + 65536 → ∥ InFrames m front frame from sent body gained ∥₁
+    → EndsEarly (gained ++ take ((from - h) - sent) (drop sent frame)) front m body
+broken-open true front frame body gained from sent h yes_one is open_one w =
+    subst (λ n. EndsEarly (gained ++ take ((from - n) - sent) (drop sent frame)) front true body) (sym is) (breaks-of _ front true body (∥∥₁_map w (chunks-break front frame body gained from sent open_one)))
+broken-open false front frame body gained from sent h yes_one is open_one w = absurd (false≢true yes_one)
+
+-- behind all that the frame holds
+all-put : (m : Bool) (front frame body gained : List ℕ) (from sent : ℕ) (w : InFrames m front frame from sent body gained) → gained ++ take (length frame - sent) (drop sent frame) ≡ w.before ++ frame
+all-put m front frame body gained from sent w =
+    ap (λ t. gained ++ t) (take_all (length frame - sent) (drop sent frame) (omega (arith, length-drop sent frame)))
+    ∙ ap (λ t. t ++ drop sent frame) w.gained_is ∙ append_assoc w.before (take sent frame) (drop sent frame) ∙ ap (λ t. w.before ++ t) (take-append-drop sent frame)
+
+whole-break : (m : Bool) (front frame body gained : List ℕ) (from sent : ℕ) → from + 65536 ≤ length frame → InFrames m front frame from sent body gained
+    → EndsEarly (gained ++ take (length frame - sent) (drop sent frame)) front m body
+whole-break m front frame body gained from sent long w =
+    let (full, is, le) = when-whole m w.lead frame w.held from sent w.from_is w.gathered long in
+    let ps = flat_map (piece_of m) w.pieces in
+    let p = piece_of m w.held in
+    let goes = λ (more : List ℕ). framed-is m front frame body gained more from sent w ∙ ap (λ t. ps ++ t) (piece-framed m w.held more full) ∙ sym (append_assoc ps p (framed m more)) in (
+      ps ++ p,
+      all-put m front frame body gained from sent w ∙ ap (λ t. w.before ++ t) is ∙ sym (append_assoc w.before w.lead p) ∙ ap (λ t. t ++ p) w.goes_on ∙ append_assoc front ps p,
+      λ more. (framed m more, goes more),
+      λ more unfinished. (framed m more, framed-some m more unfinished, goes more),
+    )
+
+plain-break : (front frame body gained : List ℕ) (from sent : ℕ) → length frame < from + 65536 → InFrames false front frame from sent body gained
+    → EndsEarly (gained ++ take (length frame - sent) (drop sent frame)) front false body
+plain-break front frame body gained from sent open_one w =
+    let (few, is, none) = when-open false w.lead frame w.held from sent w.from_is w.gathered open_one in
+    let ps = flat_map (piece_of false) w.pieces in
+    let goes = λ (more : List ℕ). framed-is false front frame body gained more from sent w ∙ sym (append_assoc ps w.held more) in (
+      ps ++ w.held,
+      all-put false front frame body gained from sent w ∙ ap (λ t. w.before ++ t) is ∙ sym (append_assoc w.before w.lead w.held) ∙ ap (λ t. t ++ w.held) w.goes_on ∙ append_assoc front ps w.held,
+      λ more. (more, goes more),
+      λ more unfinished. (more, framed-some false more unfinished, goes more),
+    )
+
+pub broken-all : (m : Bool) (front frame body gained : List ℕ) (from sent : ℕ) → (m ≡ true → from + 65536 ≤ length frame) → ∥ InFrames m front frame from sent body gained ∥₁
+    → EndsEarly (gained ++ take (length frame - sent) (drop sent frame)) front m body
+broken-all true front frame body gained from sent long w = breaks-of _ front true body (∥∥₁_map w (whole-break true front frame body gained from sent (long refl)))
+broken-all false front frame body gained from sent long w = go (cases_lt (length frame) (from + 65536)) where
+  go : (length frame < from + 65536) ⊎ (from + 65536 ≤ length frame) → EndsEarly (gained ++ take (length frame - sent) (drop sent frame)) front false body
+  go (inl short) = breaks-of _ front false body (∥∥₁_map w (plain-break front frame body gained from sent short))
+  go (inr full) = breaks-of _ front false body (∥∥₁_map w (whole-break false front frame body gained from sent full))
+
+-- where it could not be put, something is missing of each body that begins so
+pub not-broken : {T E : Type 0} (r : Result T E) (a b : Option (List ℕ)) (gained bytes front : List ℕ) (m : Bool) (body : List ℕ) → EndsEarly (gained ++ bytes) front m body → OnErr r (AppendsFront a b bytes)
+    → OnErr r ((x : List ℕ) × Appends a b x × ((more : List ℕ) → IsProperFront (gained ++ x) (front ++ framed m (body ++ more))))
+not-broken (Ok v) a b gained bytes front m body breaks appends = tt
+not-broken (Err v) a b gained bytes front m body (part, is, first, proper) (k, less, appends) = (
+  take k bytes,
+  appends,
+  λ more.
+      let (rest, e) = first more in
+      let y = drop k bytes ++ rest in
+      let all : front ++ framed m (body ++ more) ≡ (gained ++ take k bytes) ++ y =
+      ap (λ t. front ++ t) e ∙ sym (append_assoc front part rest) ∙ ap (λ t. t ++ rest) (sym is) ∙ ap (λ t. (gained ++ t) ++ rest) (sym (take-append-drop k bytes))
+      ∙ ap (λ t. t ++ rest) (sym (append_assoc gained (take k bytes) (drop k bytes))) ∙ append_assoc (gained ++ take k bytes) (drop k bytes) rest in
+      (y, omega (arith, less, length-drop k bytes, length-append (drop k bytes) rest), all),
+)
+
+pub is-broken : {T E : Type 0} (r : Result T E) (a b : Option (List ℕ)) (gained bytes front : List ℕ) (m : Bool) (body : List ℕ) → EndsEarly (gained ++ bytes) front m body → OnOk r (Appends a b bytes)
+    → OnOk r ((x : List ℕ) × Appends a b x × EndsEarly (gained ++ x) front m body)
+is-broken (Ok v) a b gained bytes front m body breaks appends = (bytes, appends, breaks)
+is-broken (Err v) a b gained bytes front m body breaks appends = tt
 
 -- some of it is
 pub some-done : (a b : Option (List ℕ)) (gained rest whole : List ℕ) → gained ++ rest ≡ whole → AppendsFront a b rest → (x : List ℕ) × Appends a b x × IsProperFront (gained ++ x) whole
@@ -99,18 +238,29 @@ err-behind (Err v) a b c gained gained' x whole whole' first e same (y, second, 
   (rest, some, sym same ∙ is ∙ ap (λ t. (t ++ y) ++ rest) e ∙ ap (λ t. t ++ rest) (append_assoc gained x y)),
 )
 
--- a front that goes on to a whole body, under way
-pub way-front : (frame body body' gained gained' x : List ℕ) (sent : ℕ) → ∥ InChunks frame sent body gained ∥₁ → body' ≡ body → gained ≡ gained' ++ x → IsProperFront (gained' ++ x) (chunked body')
-way-front frame body body' gained gained' x sent w q r =
-    subst (λ (t : List ℕ). IsProperFront t (chunked body')) r
-    (proper-of gained (chunked body') (∥∥₁_map w (λ v.
-    let (rest, some, e) = chunks-proper frame body gained [] sent v in
-    (rest, some, ap chunked (q ∙ sym (append-nil body)) ∙ e))))
+-- what a body under way has put is a front of each that goes on so
+pub way-part : (m : Bool) (front frame body gained more : List ℕ) (from sent : ℕ) → ∥ InFrames m front frame from sent body gained ∥₁ → IsFront gained (front ++ framed m (body ++ more))
+way-part m front frame body gained more from sent w =
+    front-of gained (front ++ framed m (body ++ more)) (∥∥₁_map w (λ v. let r = rest-of m front frame body gained more from sent v in (r.rest, r.is)))
 
--- what a body under way has put is a front of each that goes on so, and not all of it
-pub way-on : (frame body gained more : List ℕ) (sent : ℕ) → ∥ InChunks frame sent body gained ∥₁ → IsProperFront gained (chunked (body ++ more))
-way-on frame body gained more sent w = proper-of gained (chunked (body ++ more)) (∥∥₁_map w (chunks-proper frame body gained more sent))
+-- and not all of it
+pub way-on : (m : Bool) (front frame body gained more : List ℕ) (from sent : ℕ) → IsUnfinished m more → ∥ InFrames m front frame from sent body gained ∥₁ → IsProperFront gained (front ++ framed m (body ++ more))
+way-on m front frame body gained more from sent goes w =
+    proper-of gained (front ++ framed m (body ++ more)) (∥∥₁_map w (λ v. let r = rest-of m front frame body gained more from sent v in (r.rest, r.some goes, r.is)))
+
+-- also of the body itself, where a frame is not put whole
+pub way-left : (m : Bool) (front frame body gained : List ℕ) (from sent : ℕ) → from + 65536 ≤ length frame → sent < length frame → ∥ InFrames m front frame from sent body gained ∥₁
+    → IsProperFront gained (front ++ framed m body)
+way-left m front frame body gained from sent long less w =
+    proper-of gained (front ++ framed m body) (∥∥₁_map w (λ v.
+    let r = rest-of m front frame body gained [] from sent v in
+    (r.rest, r.left long less, ap (λ t. front ++ framed m t) (sym (append-nil body)) ∙ r.is)))
 
 pub err-front : {T E : Type 0} (r : Result T E) (a b : Option (List ℕ)) (gained x whole : List ℕ) → Appends a b x → IsProperFront (gained ++ x) whole → OnErr r ((y : List ℕ) × Appends a b y × IsProperFront (gained ++ y) whole)
 err-front (Ok v) a b gained x whole appends front = tt
 err-front (Err v) a b gained x whole appends front = (x, appends, front)
+
+-- the whole of a body, in other words
+pub same-whole : (m m' : Bool) (front front' body body' : List ℕ) → m' ≡ m → front' ≡ front → body' ≡ body → front' ++ framed m' body' ≡ front ++ framed m body
+same-whole m m' front front' body body' chunks first same =
+    ap (λ t. t ++ framed m' body') first ∙ ap (λ b. front ++ framed b body') chunks ∙ ap (λ t. front ++ framed m t) same

@@ -1,49 +1,56 @@
 -- What a sink has gained of a body that is put framed to it.
-use Rattle.std.proofs.Common.{◌≡◌, ℕ, ◌<◌, Bool, true, false, List, [], ◌++◌, length, take, drop, Option, Some, None, option_map, inl, inr, refl, ap, sym, ◌∙◌, subst, arith, length-drop, take-append-drop}
+use Rattle.std.proofs.Common.{◌≡◌, ℕ, ◌<◌, Bool, List, [], ◌++◌, length, take, drop, Option, Some, None, inl, ap, sym, ◌∙◌, subst, arith, length-drop, take-append-drop}
 use Rattle.std.specs.Io.KnownBytes.{Appends}
+use Rattle.dap_outside.specs.Streams.{AppendsFront}
 use Rattle.dap_http.specs.Frames.{IsProperFront, framed}
 use Rattle.dap_http.specs.Framings.{IsUnfinished}
-use Rattle.dap_http.proofs.Fronts.{chunked-some}
-use Rattle.std.proofs.lemmas.Bool.{false≢true}
-use Rattle.dap_outside.specs.Streams.{AppendsFront}
 
-pub start-same : {A G : Type 0} (x y : A × G × Option (List ℕ) × Bool) → x ≡ y → x.2 ≡ y.2
-start-same {A} {G} x y e = ap (λ (t : A × G × Option (List ℕ) × Bool). t.2) e
+pub start-same : {A G : Type 0} (x y : A × G × Option (List ℕ) × Bool × List ℕ) → x ≡ y → x.2 ≡ y.2
+start-same {A} {G} x y e = ap (λ (t : A × G × Option (List ℕ) × Bool × List ℕ). t.2) e
 
-pub chunked-same : {A G : Type 0} (x y : A × G × Option (List ℕ) × Bool) → x ≡ y → x.3 ≡ y.3
-chunked-same {A} {G} x y e = ap (λ (t : A × G × Option (List ℕ) × Bool). t.3) e
+pub chunked-same : {A G : Type 0} (x y : A × G × Option (List ℕ) × Bool × List ℕ) → x ≡ y → x.3 ≡ y.3
+chunked-same {A} {G} x y e = ap (λ (t : A × G × Option (List ℕ) × Bool × List ℕ). t.3) e
 
--- the body that was put, where it is told
-told-body : (fr fr' : Option (List ℕ)) (xs text : List ℕ) → fr ≡ Some [] → Appends fr fr' text → fr' ≡ Some text
-told-body None fr' xs text e p = cc e
-told-body (Some zs) None xs text e p = absurd p
-told-body (Some zs) (Some ys) xs text e p = ap Some (p ∙ ap (λ l. l ++ text) (some-list zs [] e)) where
-  some-list : (a b : List ℕ) → Some a ≡ Some b → a ≡ b
-  some-list a b is = cc is
+pub front-same : {A G : Type 0} (x y : A × G × Option (List ℕ) × Bool × List ℕ) → x ≡ y → x.4 ≡ y.4
+front-same {A} {G} x y e = ap (λ (t : A × G × Option (List ℕ) × Bool × List ℕ). t.4) e
 
--- a body that is sent in chunks, or that has bytes, is not empty as it is sent
-framed-some : (ck : Bool) (text : List ℕ) → IsUnfinished ck text → 0 < length (framed ck text)
-framed-some true text goes = chunked-some text
-framed-some false text (inl some) = some
-framed-some false text (inr chunks) = absurd (false≢true chunks)
+-- the body that was put
+told-body : (fr fr' : Option (List ℕ)) (text : List ℕ) → fr ≡ Some [] → Appends fr fr' text → fr' ≡ Some text
+told-body fr fr' text e p = go fr' (subst (λ (o : Option (List ℕ)). Appends o fr' text) e p) where
+  go : (o : Option (List ℕ)) → Appends (Some []) o text → o ≡ Some text
+  go None q = elim q [ ]
+  go (Some ys) q = ap Some q
 
-none-sent : (ck : Bool) (text : List ℕ) → IsUnfinished ck text → IsProperFront [] (framed ck text)
-none-sent ck text goes = (framed ck text, framed-some ck text goes, refl)
+-- it is ended
+pub end-whole : (w fr fr' start start' out : Option (List ℕ)) (ck ck' : Bool) (front front' text : List ℕ) → fr ≡ Some [] → start ≡ w → start' ≡ start → ck' ≡ ck → front' ≡ front → Appends fr fr' text
+    → ((body : List ℕ) → fr' ≡ Some body → Appends start' out (front' ++ framed ck' body)) → Appends w out (front ++ framed ck text)
+end-whole w fr fr' start start' out ck ck' front front' text e s s' k f p law =
+    let all = law text (told-body fr fr' text e p) in
+    subst (λ o. Appends o out (front ++ framed ck text)) (s' ∙ s) (subst (Appends start' out) (ap (λ t. t ++ framed ck' text) f ∙ ap (λ b. front ++ framed b text) k) all)
 
 -- its end failed
-pub end-front : (w fr fr' start start' out : Option (List ℕ)) (ck ck' : Bool) (text : List ℕ) → fr ≡ option_map (λ _. []) w → start ≡ w → start' ≡ start → ck' ≡ ck → Appends fr fr' text → ck' ≡ true
-    → ((body : List ℕ) → fr' ≡ Some body → (part : List ℕ) × Appends start' out part × IsProperFront part (framed ck' body)) → (part : List ℕ) × Appends w out part × IsProperFront part (framed ck text)
-end-front None fr fr' start start' out ck ck' text e s s' k p chunks law = ([], tt, none-sent ck text (inr (sym k ∙ chunks)))
-end-front (Some xs) fr fr' start start' out ck ck' text e s s' k p chunks law =
-    let (part, appends, front) = law text (told-body fr fr' xs text e p) in
-    (part, subst (λ o. Appends o out part) (s' ∙ s) appends, subst (λ b. IsProperFront part (framed b text)) k front)
+pub end-front : (w fr fr' start start' out : Option (List ℕ)) (ck ck' : Bool) (front front' text : List ℕ) → fr ≡ Some [] → start ≡ w → start' ≡ start → ck' ≡ ck → front' ≡ front → Appends fr fr' text
+    → ((body : List ℕ) → fr' ≡ Some body → (part : List ℕ) × Appends start' out part × IsProperFront part (front' ++ framed ck' body)) → (part : List ℕ) × Appends w out part × IsProperFront part (front ++ framed ck text)
+end-front w fr fr' start start' out ck ck' front front' text e s s' k f p law =
+    let (part, appends, proper) = law text (told-body fr fr' text e p) in
+    (part, subst (λ o. Appends o out part) (s' ∙ s) appends, subst (IsProperFront part) (ap (λ t. t ++ framed ck' text) f ∙ ap (λ b. front ++ framed b text) k) proper)
 
 -- it was let go before its end
-pub stop-front : (w fr fr' start start' out : Option (List ℕ)) (ck ck' : Bool) (text : List ℕ) → fr ≡ option_map (λ _. []) w → start ≡ w → start' ≡ start → ck' ≡ ck → AppendsFront fr fr' text
-    → ((body more : List ℕ) → fr' ≡ Some body → IsUnfinished ck' more → (part : List ℕ) × Appends start' out part × IsProperFront part (framed ck' (body ++ more))) → (part : List ℕ) × Appends w out part × IsProperFront part (framed ck text)
-stop-front None fr fr' start start' out ck ck' text e s s' k (n, less, p) law = ([], tt, none-sent ck text (inl (omega (arith, less))))
-stop-front (Some xs) fr fr' start start' out ck ck' text e s s' k (n, less, p) law =
+pub stop-front : (w fr fr' start start' out : Option (List ℕ)) (ck ck' : Bool) (front front' text : List ℕ) → fr ≡ Some [] → start ≡ w → start' ≡ start → ck' ≡ ck → front' ≡ front → AppendsFront fr fr' text
+    → ((body more : List ℕ) → fr' ≡ Some body → IsUnfinished ck' more → (part : List ℕ) × Appends start' out part × IsProperFront part (front' ++ framed ck' (body ++ more)))
+    → (part : List ℕ) × Appends w out part × IsProperFront part (front ++ framed ck text)
+stop-front w fr fr' start start' out ck ck' front front' text e s s' k f (n, less, p) law =
     let some : 0 < length (drop n text) = omega (arith, less, length-drop n text) in
-    let (part, appends, front) = law (take n text) (drop n text) (told-body fr fr' xs (take n text) e p) (inl some) in
-    let whole : IsProperFront part (framed ck' text) = subst (λ l. IsProperFront part (framed ck' l)) (take-append-drop n text) front in
-    (part, subst (λ o. Appends o out part) (s' ∙ s) appends, subst (λ b. IsProperFront part (framed b text)) k whole)
+    let (part, appends, proper) = law (take n text) (drop n text) (told-body fr fr' (take n text) e p) (inl some) in
+    let whole : IsProperFront part (front' ++ framed ck' text) = subst (λ l. IsProperFront part (front' ++ framed ck' l)) (take-append-drop n text) proper in
+    (part, subst (λ o. Appends o out part) (s' ∙ s) appends, subst (IsProperFront part) (ap (λ t. t ++ framed ck' text) f ∙ ap (λ b. front ++ framed b text) k) whole)
+
+-- it was broken off before its end
+pub broken-front : (w fr fr' start start' out : Option (List ℕ)) (ck ck' : Bool) (front front' text : List ℕ) → fr ≡ Some [] → start ≡ w → start' ≡ start → ck' ≡ ck → front' ≡ front → AppendsFront fr fr' text
+    → ((body more : List ℕ) → fr' ≡ Some body → IsUnfinished ck' more → (part : List ℕ) × Appends start' out (front' ++ part) × IsProperFront part (framed ck' (body ++ more)))
+    → (part : List ℕ) × Appends w out (front ++ part) × IsProperFront part (framed ck text)
+broken-front w fr fr' start start' out ck ck' front front' text e s s' k f (n, less, p) law =
+    let some : 0 < length (drop n text) = omega (arith, less, length-drop n text) in
+    let (part, appends, proper) = law (take n text) (drop n text) (told-body fr fr' (take n text) e p) (inl some) in
+    let whole : IsProperFront part (framed ck' text) = subst (λ l. IsProperFront part (framed ck' l)) (take-append-drop n text) proper in
+    (part, subst (λ o. Appends o out (front ++ part)) (s' ∙ s) (subst (λ t. Appends start' out (t ++ part)) f appends), subst (λ b. IsProperFront part (framed b text)) k whole)

@@ -30,6 +30,7 @@ pub mod ReplyFeeds
 pub mod ReplyReading
 pub mod Runs
 pub mod Seams
+pub mod Sizes
 pub mod Stages
 pub mod Told
 pub mod Whole

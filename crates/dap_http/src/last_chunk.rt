@@ -1,79 +1,76 @@
-ghost use Rattle.std.specs.Prelude.{◌≡◌, ◌<◌, ◌++◌, length, OnOk, OnErr, false};
-ghost use Rattle.std.specs.Fmt.{digits};
-ghost use Rattle.std.specs.Io.KnownBytes.{Appends};
-ghost use Rattle.httparse.specs.Ascii.{crlf_bytes};
-ghost use Rattle.dap_outside.specs.Causes.{HasCause};
-ghost use Rattle.dap_outside.specs.Streams.{AppendsFront};
-ghost use Rattle.dap_http.specs.Frames.{chunk, chunked, last_chunk};
+//! The end of a body, made in place behind what was gathered of it.
 
-use dap_outside::{Failed, Sink, put_all};
+ghost use Rattle.std.specs.Prelude.{◌≡◌, ◌≤◌, ◌<◌, ◌+◌, ◌-◌, ◌++◌, length, take, drop, false, vec_capacity};
+ghost use Rattle.std.specs.Fmt.{digits};
+ghost use Rattle.dap_http.specs.Frames.{chunked, framed};
+ghost use Rattle.dap_http.specs.inner.UnderWay.{full_head, head_of};
+
+use crate::gathered::fill;
 use text_lines::hex_digit;
 
-/// Puts a rest of fewer than 65,536 bytes as a chunk, where there are any, and the last chunk.
-pub fn put_last<O: Sink>(out: &mut O, held: &[u8]) -> Result<(), Failed>
-    requires { length held.now < 65536 }
-    ensures ok { OnOk result (Appends (O.written out.old) (O.written out.new) (chunked held.now)) }
-    ensures err { OnErr result (AppendsFront (O.written out.old) (O.written out.new) (chunked held.now)) }
-    ensures cause { HasCause (O.put_faults out.old) (O.put_faults out.new) result }
-    ensures beside { O.beside_writing out.new ≡ O.beside_writing out.old }
+/// Ends a body whose last bytes stand behind a place, with room for the head of a chunk before them. What stands
+/// before that room goes out with them. Answers where all of it begins.
+pub fn ended(in_chunks: bool, frame: &mut Vec<u8>, from: usize) -> usize
+    requires behind { length (head_of in_chunks) ≤ from }
+    requires headed { from ≤ length frame.old.items }
+    requires few { length frame.old.items < from + 65536 }
+    requires room { from + 65543 ≤ vec_capacity frame.old }
+    requires head { drop (from - length (head_of in_chunks)) frame.old.items ≡ head_of in_chunks ++ drop from frame.old.items }
+    ensures inside { result ≤ length frame.new.items }
+    ensures ended { drop result frame.new.items ≡ take (from - length (head_of in_chunks)) frame.old.items ++ framed in_chunks (drop from frame.old.items) }
 {
-    if held.is_empty() {
-        return put_end(out);
+    if !in_chunks {
+        return 0;
     }
-    put_chunk(out, held)?;
-    put_end(out)
+    if frame.len() == from {
+        return end_alone(frame, from - 7);
+    }
+    end_chunk(frame, from - 7)
 }
 
-/// Puts the last chunk.
-fn put_end<O: Sink>(out: &mut O) -> Result<(), Failed>
-    ensures ok { OnOk result (Appends (O.written out.old) (O.written out.new) last_chunk) }
-    ensures err { OnErr result (AppendsFront (O.written out.old) (O.written out.new) last_chunk) }
-    ensures cause { HasCause (O.put_faults out.old) (O.put_faults out.new) result }
-    ensures beside { O.beside_writing out.new ≡ O.beside_writing out.old }
+/// Ends a body behind its chunks.
+fn end_alone(frame: &mut Vec<u8>, lead: usize) -> usize
+    requires headed { lead + 7 ≡ length frame.old.items }
+    requires room { lead + 7 ≤ vec_capacity frame.old }
+    ensures inside { result ≤ length frame.new.items }
+    ensures ended { drop result frame.new.items ≡ take lead frame.old.items ++ chunked (drop (lead + 7) frame.old.items) }
 {
-    put_all(out, b"0\r\n\r\n")
+    frame.truncate(lead);
+    fill(frame, b"0\r\n\r\n");
+    0
 }
 
-fn put_chunk<O: Sink>(out: &mut O, piece: &[u8]) -> Result<(), Failed>
-    ensures ok { OnOk result (Appends (O.written out.old) (O.written out.new) (chunk piece.now)) }
-    ensures err { OnErr result (AppendsFront (O.written out.old) (O.written out.new) (chunk piece.now)) }
-    ensures cause { HasCause (O.put_faults out.old) (O.put_faults out.new) result }
-    ensures beside { O.beside_writing out.new ≡ O.beside_writing out.old }
+/// Ends a body and its last chunk, whose size is written right before its bytes.
+fn end_chunk(frame: &mut Vec<u8>, lead: usize) -> usize
+    requires headed { lead + 7 < length frame.old.items }
+    requires few { length frame.old.items < lead + 65543 }
+    requires room { lead + 65550 ≤ vec_capacity frame.old }
+    requires head { drop lead frame.old.items ≡ full_head ++ drop (lead + 7) frame.old.items }
+    ensures inside { result ≤ length frame.new.items }
+    ensures ended { drop result frame.new.items ≡ take lead frame.old.items ++ chunked (drop (lead + 7) frame.old.items) }
 {
-    put_headed(out, piece)?;
-    put_all(out, b"\r\n")
+    let size = (frame.len() - lead - 7) as u64;
+    let at = write_size(frame, lead + 5, size);
+    frame.copy_within(0..lead, at - lead);
+    fill(frame, b"\r\n0\r\n\r\n");
+    at - lead
 }
 
-fn put_headed<O: Sink>(out: &mut O, piece: &[u8]) -> Result<(), Failed>
-    ensures ok { OnOk result (Appends (O.written out.old) (O.written out.new) ((digits 16 false (length piece.now) ++ crlf_bytes) ++ piece.now)) }
-    ensures err { OnErr result (AppendsFront (O.written out.old) (O.written out.new) ((digits 16 false (length piece.now) ++ crlf_bytes) ++ piece.now)) }
-    ensures cause { HasCause (O.put_faults out.old) (O.put_faults out.new) result }
-    ensures beside { O.beside_writing out.new ≡ O.beside_writing out.old }
+/// Writes a number in lower-case hexadecimal digits without leading zeros, which end before a place. Answers where
+/// they begin.
+fn write_size(frame: &mut Vec<u8>, end: usize, size: u64) -> usize
+    requires room { length (digits 16 false size) ≤ end }
+    requires inside { end ≤ length frame.old.items }
+    ensures place { result + length (digits 16 false size) ≡ end }
+    ensures before { take result frame.new.items ≡ take result frame.old.items }
+    ensures behind { drop result frame.new.items ≡ digits 16 false size ++ drop end frame.old.items }
+    ensures len { length frame.new.items ≡ length frame.old.items }
+    ensures room { vec_capacity frame.new ≡ vec_capacity frame.old }
 {
-    put_line(out, piece.len() as u64)?;
-    put_all(out, piece)
-}
-
-fn put_line<O: Sink>(out: &mut O, size: u64) -> Result<(), Failed>
-    ensures ok { OnOk result (Appends (O.written out.old) (O.written out.new) (digits 16 false size ++ crlf_bytes)) }
-    ensures err { OnErr result (AppendsFront (O.written out.old) (O.written out.new) (digits 16 false size ++ crlf_bytes)) }
-    ensures cause { HasCause (O.put_faults out.old) (O.put_faults out.new) result }
-    ensures beside { O.beside_writing out.new ≡ O.beside_writing out.old }
-{
-    put_size(out, size)?;
-    put_all(out, b"\r\n")
-}
-
-/// Puts a number in lower-case hexadecimal digits without leading zeros.
-fn put_size<O: Sink>(out: &mut O, size: u64) -> Result<(), Failed>
-    ensures ok { OnOk result (Appends (O.written out.old) (O.written out.new) (digits 16 false size)) }
-    ensures err { OnErr result (AppendsFront (O.written out.old) (O.written out.new) (digits 16 false size)) }
-    ensures cause { HasCause (O.put_faults out.old) (O.put_faults out.new) result }
-    ensures beside { O.beside_writing out.new ≡ O.beside_writing out.old }
-{
+    let at = end - 1;
+    frame[at] = hex_digit((size % 16) as u8);
     if size < 16 {
-        return put_all(out, &[hex_digit(size as u8)]);
+        return at;
     }
-    put_size(out, size / 16)?;
-    put_all(out, &[hex_digit((size % 16) as u8)])
+    write_size(frame, at, size / 16)
 }

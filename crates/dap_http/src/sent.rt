@@ -4,6 +4,7 @@ ghost use Rattle.std.specs.Prelude.{◌≡◌, ◌++◌, ℕ, List, [], Some, No
 ghost use Rattle.std.specs.Io.KnownBytes.{Appends};
 ghost use Rattle.dap_outside.specs.Causes.{HasCause};
 ghost use Rattle.dap_http.specs.Frames.{IsProperFront, framed};
+ghost use Rattle.dap_http.specs.Framings.{front_of};
 ghost use Rattle.dap_http.specs.Sent.{error_head, error_object};
 ghost use Rattle.dap_http.specs.Texts.{description_of, head_text};
 
@@ -73,10 +74,11 @@ pub fn data_head(alloc: Global, chunked: bool, ends: bool) -> Result<Bytes, Memo
     reply_head(alloc, 200, Kind::Dods.description(), None, chunked, ends)
 }
 
-/// Puts a body framed. Where that fails a front of it was put, and something of it was not. Takes no memory.
+/// Puts a body framed, behind what the framer puts before it. Where that fails a front of both was put, and
+/// something was not. Takes no memory.
 pub fn put_framed<O: Sink>(framer: Framer, out: &mut O, body: &[u8]) -> Result<(), Failed>
-    ensures ok { OnOk result (Appends (O.written out.old) (O.written out.new) (framed framer.chunked body.now)) }
-    ensures err { OnErr result ((part : List ℕ) × Appends (O.written out.old) (O.written out.new) part × IsProperFront part (framed framer.chunked body.now)) }
+    ensures ok { OnOk result (Appends (O.written out.old) (O.written out.new) (front_of framer ++ framed framer.chunked body.now)) }
+    ensures err { OnErr result ((part : List ℕ) × Appends (O.written out.old) (O.written out.new) part × IsProperFront part (front_of framer ++ framed framer.chunked body.now)) }
     ensures cause { HasCause (O.put_faults out.old) (O.put_faults out.new) result }
     ensures beside { O.beside_writing out.new ≡ O.beside_writing out.old }
 {

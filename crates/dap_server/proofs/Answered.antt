@@ -1,7 +1,5 @@
 -- The answer to a request, from what was put of it.
-use Rattle.std.proofs.Common.{◌≡◌, ◌≢◌, ℕ, ◌+◌, ◌≤◌, Bool, false, true, List, ◌++◌, Option, Some, None, IsTrue, Ok, Err, refl, sym, ◌∙◌, subst, arith, inl, inr, ◌⊎◌}
-use Rattle.std.proofs.KnownBytes.{Appends-trans}
-use Rattle.std.specs.Io.KnownBytes.{Appends}
+use Rattle.std.proofs.Common.{◌≡◌, ◌≢◌, ℕ, ◌+◌, ◌≤◌, Bool, false, true, List, Option, Some, None, IsTrue, Ok, Err, refl, sym, ◌∙◌, subst, arith, inl, inr, ◌⊎◌}
 use Rattle.dap_errors.specs.declared.cause.Cause.{Cause}
 use Rattle.dap_errors.specs.declared.cause.Cause.TheVariants.{BadMethod, BadTarget, OutOfMemory, ReadFailed}
 use Rattle.dap_http.specs.Requests.{is_other}
@@ -10,10 +8,6 @@ use Rattle.dap_http.specs.declared.kind.Kind.{Kind}
 use Rattle.dap_http.specs.declared.kind.Kind.TheVariants.{Dods, Dds, Das, Ver}
 use Rattle.dap_outside.specs.Causes.{Rose}
 use Rattle.dap_outside.specs.Files.{Told}
-use Rattle.dap_outside.specs.Streams.{AppendsFront}
-use Rattle.xdr_encode.specs.Streamed.{HasStreamCauses}
-use Rattle.xdr_encode.specs.declared.streamed.Streamed.{Streamed}
-use Rattle.xdr_encode.specs.declared.streamed.Streamed.TheVariants as streamed
 use Rattle.dap_server.specs.Connections.{FailedBy, MayAnswer, MayAsk, has_failed}
 use Rattle.dap_server.specs.Costs.{IsCost, IsFormCost, asks_shelf, most_first}
 use Rattle.dap_server.specs.Files.{form_of, saved}
@@ -22,40 +16,11 @@ use Rattle.dap_server.specs.Replies.{Request, is_head, reply_of}
 use Rattle.dap_server.specs.Results.{result_text}
 use Rattle.dap_server.specs.declared.reply_outcome.Answered.{Answered}
 use Rattle.dap_server.specs.declared.reply_outcome.Answered.TheVariants as answered
-use Rattle.dap_server.specs.inner.Serving.{Answers, AnswersWith, Costs, PutsCause, PutsFramed, PutsReply, PutsText, PutsValues, SaysWhole, ShelfRose, SinkRose, Stand, answered_by, broken, data_front, is_open}
+use Rattle.dap_server.specs.inner.Serving.{Answers, AnswersWith, Costs, PutsCause, PutsReply, PutsText, Stand, broken, data_front, is_open}
 use Rattle.dap_server.proofs.Failing.{calm, failed-once, failed-open}
-use Rattle.dap_server.proofs.Puts.{part-behind, part-longer, part-of}
 use Rattle.dap_server.proofs.Refusals.{refused-calm}
 use Rattle.dap_server.proofs.Replying.{bad-method, bad-target, failed, gives, head-reply, memory-answer, not-broken, or-false, reply-known, reply-put}
 use Rattle.dap_server.proofs.Requesting.{cause-asks, nothing-asked, stand, text-asks}
-
--- ---- a head and values
-
-pub values-put : (front text : List ℕ) (ends : Bool) (w w1 w2 : Option (List ℕ)) (s : Streamed) (r : Answered) → r ≡ answered_by ends s → Appends w w1 front → PutsFramed text w1 w2 s → PutsValues front text ends w w2 r
-values-put front text ends w w1 w2 streamed.Sent r is first puts = subst (PutsValues front text ends w w2) (sym is) (Appends-trans w w1 w2 front text first puts)
-values-put front text ends w w1 w2 streamed.ShelfFault r is first (part, more, appends) = subst (PutsValues front text ends w w2) (sym is) (part, more, Appends-trans w w1 w2 front part first appends)
-values-put front text ends w w1 w2 streamed.WriteFault r is first (part, more, appends) =
-    subst (PutsValues front text ends w w2) (sym is) (front ++ part, part-behind front part text more, Appends-trans w w1 w2 front part first appends)
-
-pub values-front : (front text : List ℕ) (ends : Bool) (w w1 : Option (List ℕ)) → AppendsFront w w1 front → PutsValues front text ends w w1 answered.WriteFault
-values-front front text ends w w1 front_only =
-    let (part, cut, appends) = part-of w w1 front front_only in
-    (part, part-longer part front text cut, appends)
-
-pub says-whole : (ends : Bool) (s : Streamed) (r : Answered) → r ≡ answered_by ends s → SaysWhole ends r
-says-whole ends streamed.Sent r is = subst (SaysWhole ends) (sym is) (refl, refl)
-says-whole ends streamed.ShelfFault r is = subst (SaysWhole ends) (sym is) tt
-says-whole ends streamed.WriteFault r is = subst (SaysWhole ends) (sym is) tt
-
-pub shelf-rose : (ends : Bool) (s : Streamed) (r : Answered) (f f' p p' : ℕ) → r ≡ answered_by ends s → HasStreamCauses s f f' p p' → ShelfRose r f f'
-shelf-rose ends streamed.Sent r f f' p p' is cause = subst (λ x. ShelfRose x f f') (sym is) cause.failed.0
-shelf-rose ends streamed.ShelfFault r f f' p p' is cause = subst (λ x. ShelfRose x f f') (sym is) cause.failed.0
-shelf-rose ends streamed.WriteFault r f f' p p' is cause = subst (λ x. ShelfRose x f f') (sym is) cause.reads_later
-
-pub sink-rose : (ends : Bool) (s : Streamed) (r : Answered) (f f' p0 p p' : ℕ) → r ≡ answered_by ends s → HasStreamCauses s f f' p p' → p ≡ p0 → SinkRose r p0 p'
-sink-rose ends streamed.Sent r f f' p0 p p' is cause same = subst (λ x. SinkRose x p0 p') (sym is) (cause.failed.1 ∙ same)
-sink-rose ends streamed.ShelfFault r f f' p0 p p' is cause same = subst (λ x. SinkRose x p0 p') (sym is) (cause.failed.1 ∙ same)
-sink-rose ends streamed.WriteFault r f f' p0 p p' is cause same = subst (λ x. SinkRose x p0 p') (sym is) (subst (λ m. Rose m p') same cause.failed.0)
 
 -- ---- one request
 

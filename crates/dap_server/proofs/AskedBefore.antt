@@ -1,23 +1,21 @@
--- What was asked of a shelf before a line of a list was told.
+-- What was asked of a shelf before a list or a line of it was refused.
 use Rattle.std.proofs.Common.{◌≡◌, ℕ, ◌+◌, ◌*◌, ◌≤◌, List, [], length, min, Option, Some, None, Result, Ok, Err, IfErr, ap, sym, ◌∙◌, subst, arith}
 use Rattle.std.specs.Option.{option_map_or}
 use Rattle.dap_errors.specs.declared.cause.Cause.{Cause}
-use Rattle.dap_errors.specs.declared.cause.Cause.TheVariants.{Damaged, NoFile}
+use Rattle.dap_errors.specs.declared.cause.Cause.TheVariants.{Damaged}
 use Rattle.dap_errors.specs.declared.file_cause.FileCause.{FileCause}
-use Rattle.dap_errors.specs.declared.file_cause.FileCause.TheVariants.{BadLine, BadMember, Differs, JoinTooLong, NoMember, NoRecord, TooManyRecords}
+use Rattle.dap_errors.specs.declared.file_cause.FileCause.TheVariants.{BadMember, Differs, NoMember, NoRecord, TooManyRecords}
 use Rattle.dap_outside.specs.Files.{Told}
 use Rattle.dap_http.specs.declared.kind.Kind.{Kind}
 use Rattle.netcdf_source.specs.File.{FileHeader}
 use Rattle.join_source.specs.declared.body.JoinBody.{JoinBody}
 use Rattle.join_source.specs.declared.refusal.JoinRefusal.{JoinRefusal}
 use Rattle.join_source.specs.declared.refusal.JoinRefusal.TheVariants as joins
-use Rattle.join_source.specs.declared.refusal.ListRefusal.{ListRefusal}
-use Rattle.join_source.specs.declared.refusal.ListRefusal.TheVariants as lists
 use Rattle.dap_server.proofs.OpeningLists.{Lines, of_any}
 use Rattle.dap_server.proofs.Refusals.{NoLine}
 use Rattle.dap_server.specs.Costs.{IsAskedBefore}
 use Rattle.dap_server.specs.Files.{Stored}
-use Rattle.dap_server.specs.Joins.{AreJoined, Lists, Member, join_cause, list_cause}
+use Rattle.dap_server.specs.Joins.{AreJoined, Member, join_cause}
 use Rattle.dap_server.specs.Prepared.{WhereRefuse}
 use Rattle.dap_server.specs.Results.{Text}
 use Rattle.dap_server.specs.inner.Joining.{most_of_size}
@@ -55,25 +53,18 @@ lines_before k start before now cause so_far own = λ count behind. omega (arith
 pub with_list : (size start before now : ℕ) (cause : Cause) → before ≤ start + most_of_size size → AsksLines cause before now → IsAskedBefore cause start now
 with_list size start before now cause listed lines = λ count behind. omega (arith, listed, of_any size, lines count behind)
 
+-- and no file of a line
+pub list_alone : (cause : Cause) (before now : ℕ) → now ≤ before + 65536 → IsAskedBefore cause before now
+list_alone cause before now listed = λ count behind. omega (arith, listed)
+
 pub no_line : (cause : Cause) (before now : ℕ) → NoLine cause → IsAskedBefore cause before now
 no_line cause before now none = λ count behind. absurd (none count behind)
-
-pub no_file : (cause : Cause) → cause ≡ NoFile → NoLine cause
-no_file cause is = subst NoLine (sym is) (λ count behind. behind)
 
 same_why : (a b : FileCause) → Some a ≡ Some b → a ≡ b
 same_why a b is = cc is
 
 of_file_cause : (why other : FileCause) (cause : Cause) → Some other ≡ Some why → cause ≡ Damaged why → NoLine (Damaged other) → NoLine cause
 of_file_cause why other cause there is none = subst NoLine (ap Damaged (same_why other why there) ∙ sym is) none
-
-list_refusal : (refusal : ListRefusal) (why : FileCause) (cause : Cause) → list_cause refusal ≡ Some why → cause ≡ Damaged why → NoLine cause
-list_refusal lists.TooLong why cause there is = of_file_cause why JoinTooLong cause there is (λ count behind. behind)
-list_refusal (lists.BadLine line) why cause there is = of_file_cause why (BadLine line) cause there is (λ count behind. behind)
-list_refusal lists.Memory why cause there is = cc there
-
-pub no_list : (bytes : List ℕ) (cause : Cause) → Lists bytes (Err cause) → NoLine cause
-no_list bytes cause (refusal, why, lists, there, is) = list_refusal refusal why cause there is
 
 join_refusal : (refusal : JoinRefusal) (why : FileCause) (cause : Cause) → join_cause refusal ≡ Some why → cause ≡ Damaged why → NoLine cause
 join_refusal joins.NoRecord why cause there is = of_file_cause why NoRecord cause there is (λ count behind. behind)

@@ -12,7 +12,6 @@ pub mod DataGiven
 pub mod Sending
 pub mod Faultless
 pub mod SavedBodies
-pub mod SavedValues
 pub mod Opening
 pub mod Turning
 pub mod Ends
@@ -25,8 +24,6 @@ pub mod Refusals
 pub mod Requesting
 pub mod Answered
 pub mod Connecting
-pub mod PutBuffers
-pub mod Through
 pub mod OneStep
 pub mod OneJoin
 pub mod Lines

@@ -34,7 +34,7 @@ use Rattle.dap_server.specs.Steps.{Is, Then, found_or, unless}
 abbrev pub IsCalm : Cause → Type 0
 IsCalm why = has_failed (Err why) ≡ 0
 
--- nor that of a line
+-- nor that of a list or a line of one
 abbrev pub NoLine : Cause → Type 0
 NoLine why = (count : ℕ) → IsBehindLines why count → ⊥
 

@@ -117,9 +117,6 @@ framed-some : (in_chunks : Bool) (text : List ℕ) → 0 < length text → 0 < l
 framed-some true text some = chunked-some text
 framed-some false text some = some
 
-pub front-some : (q : Request) → 0 < length (data_front q)
-front-some q = head-some 200 (description_of Dods) None (is_chunked Dods q.minor) q.ends
-
 -- where its values are hidden
 pub values-hidden : (told : Told) (q : Request) (text put : List ℕ) (result : Answered) → is_head q ≡ false → 0 < length text → is_hidden told q (Ok (result_text Dods text)) ≡ true
     → SaysWhole q.ends result → IsPutOf told q (Ok (result_text Dods text)) put result

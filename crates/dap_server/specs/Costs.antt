@@ -4,8 +4,8 @@ use Rattle.std.specs.Option.{option_map_or}
 use Rattle.dap_types.specs.Limits.{most_header, most_lines, most_piece, most_saved, most_table}
 use Rattle.dap_outside.specs.Files.{Told}
 use Rattle.dap_errors.specs.declared.cause.Cause.{Cause}
-use Rattle.dap_errors.specs.declared.cause.Cause.TheVariants.{Damaged}
-use Rattle.dap_errors.specs.declared.file_cause.FileCause.TheVariants.{BadMember, NoMember}
+use Rattle.dap_errors.specs.declared.cause.Cause.TheVariants.{Damaged, NoFile}
+use Rattle.dap_errors.specs.declared.file_cause.FileCause.TheVariants.{BadLine, BadMember, JoinTooLong, NoMember}
 use Rattle.dap_model.specs.Dds.{dds}
 use Rattle.dap_model.specs.Filter.{Marks, constrained}
 use Rattle.netcdf_source.specs.Header.{IsHeader}
@@ -42,9 +42,12 @@ asks_shelf a = is_of_file a.kind && is_some (form_of a.name)
 abbrev pub most_of_joined : ℕ → ℕ
 most_of_joined count = most_piece + count * most_header
 
--- where a line of a list is told, so many lines' files were read: those before a line that names none, and that
--- of a line whose file has no header with them
+-- where a list is refused by itself or by a line, so many lines' files were read: none, those before a line that
+-- names none, and that of a line whose file has no header with them
 abbrev pub IsBehindLines : Cause → ℕ → Type 0
+IsBehindLines NoFile count = count ≡ 0
+IsBehindLines (Damaged JoinTooLong) count = count ≡ 0
+IsBehindLines (Damaged (BadLine line)) count = count ≡ 0
 IsBehindLines (Damaged (NoMember line)) count = line ≡ count + 1
 IsBehindLines (Damaged (BadMember line)) count = line ≡ count
 IsBehindLines other count = ⊥

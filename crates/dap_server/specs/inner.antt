@@ -2,6 +2,5 @@ pub mod Opening
 pub mod Marking
 pub mod Preparing
 pub mod Serving
-pub mod Buffering
 pub mod Members
 pub mod Joining

@@ -15,13 +15,12 @@ use crate::joined_answer::answer_joined;
 use crate::prepared::Prepared;
 use crate::preparing::prepare;
 use crate::put::put_reply;
-use crate::reply_memory::ReplyMemory;
 use crate::reply_outcome::Answered;
 use crate::saved_answer::put_saved;
 use crate::values::put_values;
 use dap_errors::{Cause, status};
 use dap_http::{
-    Head, Kind, Target, TargetRefusal, data_head, error_reply, memory_reply, text_reply,
+    Framer, Head, Kind, Target, TargetRefusal, data_head, error_reply, memory_reply, text_reply,
 };
 use dap_outside::{Shelf, Sink};
 use dap_types::{Bytes, Memory};
@@ -139,8 +138,8 @@ fn answer_values<R: Threads + Sync, S: Shelf, O: Sink>(
     ensures beside { O.beside_writing out.new ≡ O.beside_writing out.old }
 {
     let chunked = Kind::Dods.is_chunked(head.minor);
-    match ReplyMemory::new(alloc, chunked) {
-        Ok(memory) => put_values(rt, shelf, file, body, memory, out, front, ends, workers),
+    match Framer::behind(alloc, chunked, front) {
+        Ok(framer) => put_values(rt, shelf, file, body, framer, out, ends, workers),
         Err(Memory) => put_memory(out, head, ends),
     }
 }

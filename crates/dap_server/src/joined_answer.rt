@@ -10,9 +10,8 @@ ghost use Rattle.dap_server.specs.inner.Serving.{AnswersWith, Costs, SinkRose, d
 use crate::answer::{is_head, put_memory};
 use crate::joined_values::put_joined;
 use crate::put::put_reply;
-use crate::reply_memory::ReplyMemory;
 use crate::reply_outcome::Answered;
-use dap_http::{Head, Kind, Target, data_head};
+use dap_http::{Framer, Head, Kind, Target, data_head};
 use dap_outside::{Shelf, Sink};
 use dap_types::Memory;
 use join_source::JoinBody;
@@ -50,8 +49,8 @@ fn put_with_values<R: Threads + Sync, S: Shelf, O: Sink>(
     ensures beside { O.beside_writing out.new ≡ O.beside_writing out.old }
 {
     let chunked = Kind::Dods.is_chunked(head.minor);
-    match ReplyMemory::new(alloc, chunked) {
-        Ok(memory) => put_joined(rt, shelf, files, body, memory, out, front, ends, workers),
+    match Framer::behind(alloc, chunked, front) {
+        Ok(framer) => put_joined(rt, shelf, files, body, framer, out, ends, workers),
         Err(Memory) => put_memory(out, head, ends),
     }
 }

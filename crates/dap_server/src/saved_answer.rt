@@ -8,11 +8,10 @@ ghost use Rattle.dap_server.specs.inner.Serving.{PutsReply, PutsText, SinkRose, 
 
 use crate::answer::{is_head, put_memory};
 use crate::put::put_reply;
-use crate::reply_memory::ReplyMemory;
 use crate::reply_outcome::Answered;
 use crate::saved_values::put_response;
 use dap_errors::Cause;
-use dap_http::{Head, Kind, data_head};
+use dap_http::{Framer, Head, Kind, data_head};
 use dap_outside::Sink;
 use dap_types::Memory;
 use saved_source::SavedBody;
@@ -37,8 +36,8 @@ fn put_with_values<O: Sink>(
     ensures beside { O.beside_writing out.new ≡ O.beside_writing out.old }
 {
     let chunked = Kind::Dods.is_chunked(head.minor);
-    match ReplyMemory::new(alloc, chunked) {
-        Ok(memory) => put_response(body, memory, out, front, ends),
+    match Framer::behind(alloc, chunked, front) {
+        Ok(framer) => put_response(body, framer, out, ends),
         Err(Memory) => put_memory(out, head, ends),
     }
 }

@@ -2,6 +2,7 @@
 
 use crate::relaying::{Peer, are_replies, relayed, relayed_to};
 use crate::texts::{GET_V, HEAD};
+use dap_gateway::Relayed;
 use dap_types::Memory;
 use std::alloc::Global;
 use std::test::Fail;
@@ -46,21 +47,37 @@ fn a_body_is_kept_up_to_its_limit(rt: HostRuntime) -> Result<(), Fail> {
 }
 
 /// The DDS and the line behind it have 43 bytes and the name of the dataset, the two counts 8, and the values 65,480: a
-/// name of five bytes makes 65,536, which is one chunk and goes out in one piece with its head; one of six makes one byte
-/// more, in two chunks.
+/// name of four bytes makes 65,535, which goes out in one put with its head; one of five makes a whole chunk, which
+/// goes out with the head, and behind it the last chunk; one of six makes one byte more, which goes out with that.
 #[test]
-fn a_body_is_one_piece_up_to_its_limit(rt: HostRuntime) -> Result<(), Fail> {
-    let client: Peer = (GET_V, &[], &[]);
-    for (name, framed) in [
-        (b"vwxyz".as_slice(), 65_550),
-        (b"vwxyza".as_slice(), 65_556),
+fn a_body_is_one_put_below_a_chunk(rt: HostRuntime) -> Result<(), Fail> {
+    for (name, framed, puts) in [
+        (b"vwxy".as_slice(), 65_548, 1u64),
+        (b"vwxyz".as_slice(), 65_550, 2),
+        (b"vwxyza".as_slice(), 65_556, 2),
     ] {
         let reply = reply(rt.alloc(), b"Byte b[n = 65480];", name, 8_185)?;
         let server: Peer = (reply.as_slice(), &[], &[]);
-        let done = relayed(rt.alloc(), &[server], &[], &[client, client], 1, 65_536)?;
-        assert!(rt; are_replies(done.ends.as_slice(), &[(200, false), (200, true)]));
-        for written in done.written.items() {
-            assert_eq!(rt; written.bytes().len(), HEAD.len().saturating_add(framed));
+        let clients: [Peer; 2] = [
+            (GET_V, &[], &[puts.saturating_add(1)]),
+            (GET_V, &[], &[puts]),
+        ];
+        let done = relayed(rt.alloc(), &[server], &[], &clients, 1, 131_072)?;
+        let replied = Relayed::Replied {
+            status: 200,
+            hit: false,
+        };
+        assert_eq!(rt;
+            done.ends.as_slice(),
+            [replied, Relayed::WriteFault].as_slice()
+        );
+        match done.written.items() {
+            [whole, front] => {
+                assert_eq!(rt; whole.bytes().len(), HEAD.len().saturating_add(framed));
+                assert!(rt; whole.bytes().starts_with(front.bytes()));
+                assert_eq!(rt; front.bytes().is_empty(), puts == 1);
+            }
+            _ => return Err(Fail::from("two replies")),
         }
     }
     Ok(())

@@ -1,21 +1,22 @@
 -- What is wrong with the first bytes of a body stays so, whatever follows.
-use Rattle.std.proofs.Common.{◌≡◌, ℕ, ◌+◌, ◌-◌, ◌<◌, ◌≤◌, true, List, [], ◌∷◌, ◌++◌, length, take, drop, inl, inr, ⊎_elim, refl, ap, sym, subst, ◌∙◌, append_assoc, arith, length-append, length-take}
+use Rattle.std.proofs.Common.{◌≡◌, ℕ, ◌+◌, ◌-◌, ◌<◌, ◌≤◌, true, List, [], ◌∷◌, ◌++◌, length, take, drop, inl, inr, ⊎_elim, refl, ap, sym, subst, ◌∙◌, arith, length-append, length-take}
 use Rattle.std.proofs.Math.Seq.{take-append-add}
 use Rattle.std.proofs.lemmas.Bool.{cases_lt}
 use Rattle.std.proofs.lemmas.List.{take-append-drop, take-append-le}
 use Rattle.dap_types.specs.Limits.{most_text, most_written}
 use Rattle.dap_types.specs.Model.{Dataset}
-use Rattle.dap_model.specs.Received.{Fault, IsBadField}
 use Rattle.dap_model.specs.Tokens.{Token, tokens_of}
 use Rattle.dap_model.specs.Tokens as token
 use Rattle.dds_text.proofs.Readings.{tokens_grow}
 use Rattle.dds_text.specs.Reading.{IsBadText, IsOpen, IsDdsRefused, limit}
 use Rattle.error_word.specs.Saying.{begins_error, says_error}
-use Rattle.xdr_decode.specs.Verdict.{HasMore, HasText, HasWrongValues, IsBadDataLine, IsBadLine, IsWrong, IsWrongIn, budget}
+use Rattle.xdr_decode.specs.Verdict.{HasWrongValues, IsBadLine, IsWrong, IsWrongIn, budget}
 use Rattle.reply_faults.specs.declared.bad.Bad.{Bad}
 use Rattle.dap_client.proofs.Ending.{faulty_other}
 use Rattle.dap_client.proofs.Filling.{budget_is}
+use Rattle.dap_client.proofs.Lines.{bad_line_more, text_more}
 use Rattle.dap_client.proofs.Objects.{bad_stays}
+use Rattle.dap_client.proofs.Values.{bad_more, piece_head, trailing_more}
 use Rattle.dap_client.specs.Verdict.{IsVerdict, Judges, JudgesError, Verdict, bad, dods_form, is_fault}
 use Rattle.netcdf_writer.specs.Laws.{FirstBytesDecide}
 
@@ -42,58 +43,17 @@ text_on front more place long (inr (o, le, is)) =
     let all = length-append front more in
     inr (subst IsOpen (sym (take-append-le limit front more long)) o, omega (arith, le, all), is)
 
-has_on : (bytes more text rest : List ℕ) (d : Dataset) → HasText bytes d text rest → HasText (bytes ++ more) d text (rest ++ more)
-has_on bytes more text rest d has = record { parts = ap (λ l. l ++ more) has.parts ∙ append_assoc text rest more; is_text = has.is_text; text_limit = has.text_limit }
-
-bad_line_on : (rest more : List ℕ) (at : ℕ) → IsBadDataLine rest at → IsBadDataLine (rest ++ more) at
-bad_line_on rest more at b = record {
-  front = b.front;
-  next = b.next;
-  rest = b.rest ++ more;
-  parts = ap (λ l. l ++ more) b.parts ∙ append_assoc b.front (b.next ∷ b.rest) more;
-  begun = b.begun;
-  bad = b.bad;
-  is_place = b.is_place;
-}
-
 line_on : (front more : List ℕ) (place : ℕ) → IsBadLine front place → IsBadLine (front ++ more) place
-line_on front more place (d, text, rest, at, has, b, is) = (d, text, rest ++ more, at, has_on front more text rest d has, bad_line_on rest more at b, is)
-
-field_on : (d : Dataset) (values more : List ℕ) (fault : Fault) (at : ℕ) → IsBadField d values fault at → IsBadField d (values ++ more) fault at
-field_on d values more fault at b = record {
-  front = b.front;
-  own = b.own;
-  rest = b.rest ++ more;
-  fields = b.fields;
-  wanted = b.wanted;
-  parts = ap (λ l. l ++ more) b.parts ∙ append_assoc (b.front ++ b.own) b.rest more;
-  good = b.good;
-  may_follow = b.may_follow;
-  whole = b.whole;
-  bad = b.bad;
-  is_fault = b.is_fault;
-  is_place = b.is_place;
-}
-
-trailing_on : (d : Dataset) (values more : List ℕ) (at : ℕ) → HasMore d values at → HasMore d (values ++ more) at
-trailing_on d values more at m = record {
-  trees = m.trees;
-  whole = m.whole;
-  next = m.next;
-  rest = m.rest ++ more;
-  parts = ap (λ l. l ++ more) m.parts ∙ append_assoc m.whole (m.next ∷ m.rest) more;
-  spelled = m.spelled;
-  is_place = m.is_place;
-}
+line_on front more place (d, text, rest, at, has, b, is) = (d, text, rest ++ more, at, text_more front more text rest d has, bad_line_more rest more at b, is)
 
 wrong_on : (d : Dataset) (values more : List ℕ) (kind : Bad) (at : ℕ) → is_fault kind ≡ true → IsWrong d values kind at → IsWrong d (values ++ more) kind at
-wrong_on d values more kind at final (inl (fault, b, is)) = inl (fault, field_on d values more fault at b, is)
-wrong_on d values more kind at final (inr (inl (m, is))) = inr (inl (trailing_on d values more at m, is))
+wrong_on d values more kind at final (inl (fault, b, is)) = inl (fault, bad_more d values more fault at b, is)
+wrong_on d values more kind at final (inr (inl (m, is))) = inr (inl (trailing_more d values more at m, is))
 wrong_on d values more kind at final (inr (inr (o, end, is))) = absurd (faulty_other kind final is)
 
 values_on : (front more : List ℕ) (kind : Bad) (place : ℕ) → is_fault kind ≡ true → HasWrongValues front kind place → HasWrongValues (front ++ more) kind place
 values_on front more kind place final (d, head, values, at, (h, parts), w, is) =
-    (d, head, values ++ more, at, (h, ap (λ l. l ++ more) parts ∙ append_assoc head values more), wrong_on d values more kind at final w, is)
+    (d, head, values ++ more, at, piece_head d front more head values (h, parts), wrong_on d values more kind at final w, is)
 
 dods_on : (front more : List ℕ) (kind : Bad) (place : ℕ) → most_text ≤ length front → is_fault kind ≡ true → IsWrongIn front kind place → IsWrongIn (front ++ more) kind place
 dods_on front more kind place long final (inl (wrong, is)) = inl (text_on front more place long wrong, is)

@@ -8,26 +8,14 @@ ghost use Rattle.netcdf_writer.specs.Outcomes.{OnReadFault, OnWriteFault};
 
 use crate::Stored;
 use crate::saving::save_body;
-use dap_client::{BodyOutcome, read_body};
+use dap_client::{BodyOutcome, host_of, read_body};
 use dap_http::{Kind, Url, request_bytes};
 use dap_outside::{Dial, Failed, Link, Sink, put_all};
 use dap_types::limits;
 use std::alloc::Global;
-use std::str;
 
 /// The most bytes of a body that is saved.
 const MOST_BODY: u32 = limits::MOST_WRITTEN as u32;
-
-/// The host of a URL.
-fn host_of(url: &Url) -> &str
-    requires { IsUrl url.now }
-    ensures { result.now ≡ url.now.host }
-{
-    match str::from_utf8(url.host.bytes()) {
-        Ok(host) => host,
-        Err(_) => unreachable!(),
-    }
-}
 
 /// Saves what a reply brought.
 fn save_outcome<O: Sink>(alloc: Global, outcome: BodyOutcome, out: &mut O) -> Stored

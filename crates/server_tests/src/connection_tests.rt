@@ -145,6 +145,13 @@ const SURE: Faults<'static> = Faults {
     piece: 100_000,
 };
 
+const THIRD_READ_AND_FIRST_PUT: Faults<'static> = Faults {
+    shelf: &[3],
+    takes: &[],
+    puts: &[1],
+    piece: 100_000,
+};
+
 fn numbers(alloc: Global, all: &[u64]) -> Result<List<u64>, Memory> {
     let mut list = List::new(alloc);
     for number in all {
@@ -551,6 +558,19 @@ fn a_failed_read_behind_the_head_breaks_off(rt: HostRuntime) -> Result<(), Fail>
     Ok(())
 }
 
+/// The link fails where the head of a reply that breaks off is put.
+#[test]
+fn a_failed_put_of_a_reply_that_breaks_off(rt: HostRuntime) -> Result<(), Fail> {
+    let found = served_over(
+        &rt,
+        b"GET /v.nc.dods HTTP/1.1\r\n\r\n",
+        THIRD_READ_AND_FIRST_PUT,
+    )?;
+    assert_eq!(rt; found.written.bytes(), b"".as_slice());
+    assert_eq!(rt; found.served, as_served(0, 0, Ending::WriteFault));
+    Ok(())
+}
+
 /// Of three files the headers are read by calls 3 to 8, behind the list, and the records by the ninth and tenth.
 #[test]
 fn each_call_of_the_shelf_for_a_list_may_fail(rt: HostRuntime) -> Result<(), Fail> {
@@ -687,5 +707,39 @@ fn small_replies_are_one_put(rt: HostRuntime) -> Result<(), Fail> {
         let found = served_over(&rt, input, faults)?;
         assert_eq!(rt; found.served.replies, replies);
     }
+    Ok(())
+}
+
+/// A table of one cell of 70,000 bytes.
+fn long_table(alloc: Global) -> Result<List<MemFile>, Memory> {
+    let mut text = Vec::from_slice(alloc, b"s\n")?;
+    text.resize(70_002, b'x')?;
+    let mut files = List::new(alloc);
+    files.push(file(alloc, "long.csv", &[], &text)?)?;
+    Ok(files)
+}
+
+/// A request for it, of which that put fails.
+fn long_response<R: Threads + AllocGlobal + Sync>(rt: &R, put: u64) -> Result<Done, Memory> {
+    let fails: [u64; 1] = [put];
+    let faults = Faults {
+        puts: &fails,
+        ..SURE
+    };
+    let input = b"GET /long.csv.dods HTTP/1.1\r\n\r\n";
+    served_from(rt, long_table(rt.alloc())?, input, faults)
+}
+
+/// The head of a long response goes out with its first chunk, in one put, and what is left in a second.
+#[test]
+fn a_long_response_is_two_puts(rt: HostRuntime) -> Result<(), Fail> {
+    let first = DATA_HEAD.len().saturating_add(65_545);
+    for (put, length) in [(1, 0), (2, first)] {
+        let found = long_response(&rt, put)?;
+        assert_eq!(rt; found.written.bytes().len(), length);
+        assert_eq!(rt; found.served, as_served(0, 0, Ending::WriteFault));
+    }
+    let found = long_response(&rt, 3)?;
+    assert_eq!(rt; found.served, as_served(1, 200, Ending::Gone));
     Ok(())
 }

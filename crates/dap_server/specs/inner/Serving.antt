@@ -14,8 +14,6 @@ use Rattle.dap_outside.specs.Causes.{Rose}
 use Rattle.dap_outside.specs.Files.{Told}
 use Rattle.xdr_encode.specs.Bodies.{HasNoFile}
 use Rattle.xdr_encode.specs.declared.body.Body.{Body}
-use Rattle.xdr_encode.specs.declared.streamed.Streamed.{Streamed}
-use Rattle.xdr_encode.specs.declared.streamed.Streamed.TheVariants as streamed
 use Rattle.dap_server.specs.Connections.{Connection, ConnectionMayAsk, FailedBy, IsBroken, IsPut, IsServedFrom, IsTurn, MayAnswer, MayAsk, RoseFor, failures, has_failed, is_hidden, is_last_turn, leaves_open, sends_data, sends_values}
 use Rattle.dap_server.specs.Costs.{IsCost}
 use Rattle.dap_server.specs.Replies.{Request, Turn, is_last, last_reply, reply_of, reply_status, request, wants}
@@ -43,12 +41,6 @@ PutsText bytes status last old new answered.WriteFault = PutsPart bytes old new
 abbrev pub GoesOver : Body → Option (List ℕ) → List ℕ → Type 0
 GoesOver b content bytes = (content ≡ Some bytes) ⊎ HasNoFile b
 
--- a framed body is put, or a part of it
-abbrev pub PutsFramed : List ℕ → Option (List ℕ) → Option (List ℕ) → Streamed → Type 0
-PutsFramed text old new streamed.Sent = Appends old new text
-PutsFramed text old new streamed.ShelfFault = (part : List ℕ) × IsProperFront part text × Appends old new part
-PutsFramed text old new streamed.WriteFault = (part : List ℕ) × IsProperFront part text × Appends old new part
-
 -- a head and a framed body are put, or a part of them. It breaks off behind the head
 abbrev pub PutsValues : List ℕ → List ℕ → Bool → Option (List ℕ) → Option (List ℕ) → Answered → Type 0
 PutsValues front text ends old new (answered.Whole status last) = Appends old new (front ++ text)
@@ -60,11 +52,6 @@ abbrev pub SaysWhole : Bool → Answered → Type 0
 SaysWhole ends (answered.Whole status last) = (status ≡ 200) × (last ≡ ends)
 SaysWhole ends answered.Broken = ⊤
 SaysWhole ends answered.WriteFault = ⊤
-
-abbrev pub answered_by : Bool → Streamed → Answered
-answered_by ends streamed.Sent = answered.Whole 200 ends
-answered_by ends streamed.ShelfFault = answered.Broken
-answered_by ends streamed.WriteFault = answered.WriteFault
 
 -- the reply of an answer is put, or some of it
 abbrev pub PutsReply : Request → Result Text Cause → Option (List ℕ) → Option (List ℕ) → Answered → Type 0

@@ -1,18 +1,25 @@
 use crate::tests::counted::Counted;
 use crate::tests::expecting::expect;
-use dap_http::Framer;
+use dap_http::{Framer, put_framed};
 use dap_outside::{MemSink, Sink, put_all};
 use dap_types::{List, Memory};
 use std::alloc::Global;
 use std::process::Abort;
 use std::test::Fail;
 
-fn sink(alloc: Global, piece: u32, fails: &[u64]) -> Result<MemSink, Memory> {
+/// What goes out before a body.
+const HEAD: &[u8] = b"HTTP/1.1 200 OK\r\n\r\n";
+
+/// A sink that takes so many bytes a call; these calls fail, and no call has the number 0.
+fn sink(alloc: Global, piece: u32, fails: &[u64]) -> Result<Counted<MemSink>, Memory> {
     let mut numbers = List::new(alloc);
     for number in fails {
         numbers.push(*number)?;
     }
-    MemSink::new(alloc, 1_000_000, piece.max(1), numbers)
+    Ok(Counted {
+        inner: MemSink::new(alloc, 1_000_000, piece.max(1), numbers)?,
+        calls: 0,
+    })
 }
 
 /// A body is put so.
@@ -27,7 +34,7 @@ fn expect_framed<R: Abort>(
     let mut framing = Framer::new(alloc, chunked)?.over(&mut out);
     assert!(rt; put_all(&mut framing, body).is_ok());
     assert!(rt; framing.end().is_ok());
-    expect(rt, out.bytes(), wanted);
+    expect(rt, out.inner.bytes(), wanted);
     Ok(())
 }
 
@@ -50,6 +57,44 @@ fn short_bodies_are_one_chunk_or_none(rt: HostRuntime) -> Result<(), Fail> {
     Ok(())
 }
 
+/// A body is put so behind a front, in one put.
+fn expect_behind<R: Abort>(
+    rt: &R,
+    alloc: Global,
+    chunked: bool,
+    front: &[u8],
+    body: &[u8],
+    wanted: &[u8],
+) -> Result<(), Fail> {
+    let mut out = sink(alloc, 1_000_000, &[])?;
+    let framer = Framer::behind(alloc, chunked, front)?;
+    assert!(rt; put_framed(framer, &mut out, body).is_ok());
+    expect(rt, out.inner.bytes(), wanted);
+    expect(rt, out.calls, 1);
+    Ok(())
+}
+
+#[test]
+fn a_short_body_goes_out_with_its_front(rt: HostRuntime) -> Result<(), Fail> {
+    let rows: [(bool, &[u8], &[u8], &[u8]); 6] = [
+        (true, HEAD, b"", b"HTTP/1.1 200 OK\r\n\r\n0\r\n\r\n"),
+        (
+            true,
+            HEAD,
+            b"0123456789abcdef0123456789",
+            b"HTTP/1.1 200 OK\r\n\r\n1a\r\n0123456789abcdef0123456789\r\n0\r\n\r\n",
+        ),
+        (true, b"x", b"a", b"x1\r\na\r\n0\r\n\r\n"),
+        (true, b"", b"a", b"1\r\na\r\n0\r\n\r\n"),
+        (false, HEAD, b"", b"HTTP/1.1 200 OK\r\n\r\n"),
+        (false, HEAD, b"abc", b"HTTP/1.1 200 OK\r\n\r\nabc"),
+    ];
+    for (chunked, front, body, wanted) in rows {
+        expect_behind(&rt, rt.alloc(), chunked, front, body, wanted)?;
+    }
+    Ok(())
+}
+
 /// So many bytes.
 fn bytes(alloc: Global, count: usize) -> Result<Vec<u8>, Memory> {
     let mut body = Vec::new(alloc);
@@ -57,47 +102,152 @@ fn bytes(alloc: Global, count: usize) -> Result<Vec<u8>, Memory> {
     Ok(body)
 }
 
-/// A body of so many bytes is put with this front, and as so many bytes.
+/// A body of so many bytes is put as so many bytes in so many puts, with this front and this end.
 fn expect_cut<R: Abort>(
     rt: &R,
     alloc: Global,
+    framer: Framer,
     count: usize,
     front: &[u8],
-    wanted: usize,
+    end: &[u8],
+    wanted: (usize, u64),
 ) -> Result<(), Fail> {
     let body = bytes(alloc, count)?;
     let mut out = sink(alloc, 1_000_000, &[])?;
-    let mut framing = Framer::new(alloc, true)?.over(&mut out);
+    let mut framing = framer.over(&mut out);
     assert!(rt; put_all(&mut framing, body.as_slice()).is_ok());
     assert!(rt; framing.end().is_ok());
-    assert!(rt; out.bytes().starts_with(front));
-    assert!(rt; out.bytes().ends_with(b"a\r\n0\r\n\r\n"));
-    expect(rt, out.bytes().len(), wanted);
+    assert!(rt; out.inner.bytes().starts_with(front));
+    assert!(rt; out.inner.bytes().ends_with(end));
+    expect(rt, (out.inner.bytes().len(), out.calls), wanted);
     Ok(())
 }
 
+/// Each whole chunk is one put, and the last one that is not whole goes out with the end of the body.
 #[test]
 fn long_bodies_are_cut_at_65_536(rt: HostRuntime) -> Result<(), Fail> {
-    let rows: [(usize, &[u8], usize); 4] = [
-        (65_535, b"ffff\r\na", 65_548),
-        (65_536, b"10000\r\na", 65_550),
-        (65_537, b"10000\r\na", 65_556),
-        (131_072, b"10000\r\na", 131_095),
+    let rows: [(usize, &[u8], &[u8], (usize, u64)); 4] = [
+        (65_535, b"ffff\r\na", b"a\r\n0\r\n\r\n", (65_548, 1)),
+        (65_536, b"10000\r\na", b"a\r\n0\r\n\r\n", (65_550, 2)),
+        (
+            65_537,
+            b"10000\r\na",
+            b"a\r\n1\r\na\r\n0\r\n\r\n",
+            (65_556, 2),
+        ),
+        (131_072, b"10000\r\na", b"a\r\n0\r\n\r\n", (131_095, 3)),
     ];
-    for (count, front, wanted) in rows {
-        expect_cut(&rt, rt.alloc(), count, front, wanted)?;
+    for (count, front, end, wanted) in rows {
+        let framer = Framer::new(rt.alloc(), true)?;
+        expect_cut(&rt, rt.alloc(), framer, count, front, end, wanted)?;
+    }
+    Ok(())
+}
+
+/// The front, of 19 bytes, goes out in one put with the first 65,536 bytes of the body.
+#[test]
+fn a_front_takes_no_room_of_the_body(rt: HostRuntime) -> Result<(), Fail> {
+    let chunks: [(usize, &[u8], &[u8], (usize, u64)); 3] = [
+        (
+            65_535,
+            b"HTTP/1.1 200 OK\r\n\r\nffff\r\na",
+            b"a\r\n0\r\n\r\n",
+            (65_567, 1),
+        ),
+        (
+            65_536,
+            b"HTTP/1.1 200 OK\r\n\r\n10000\r\na",
+            b"a\r\n0\r\n\r\n",
+            (65_569, 2),
+        ),
+        (
+            65_537,
+            b"HTTP/1.1 200 OK\r\n\r\n10000\r\na",
+            b"a\r\n1\r\na\r\n0\r\n\r\n",
+            (65_575, 2),
+        ),
+    ];
+    for (count, front, end, wanted) in chunks {
+        let framer = Framer::behind(rt.alloc(), true, HEAD)?;
+        expect_cut(&rt, rt.alloc(), framer, count, front, end, wanted)?;
+    }
+    let plain: [(usize, (usize, u64)); 3] = [
+        (65_535, (65_554, 1)),
+        (65_536, (65_555, 1)),
+        (65_537, (65_556, 2)),
+    ];
+    for (count, wanted) in plain {
+        let framer = Framer::behind(rt.alloc(), false, HEAD)?;
+        let front = b"HTTP/1.1 200 OK\r\n\r\na";
+        expect_cut(&rt, rt.alloc(), framer, count, front, b"aa", wanted)?;
+    }
+    Ok(())
+}
+
+/// A body that is broken off behind so many bytes is put with this end, as so many bytes in so many puts.
+fn expect_broken<R: Abort>(
+    rt: &R,
+    alloc: Global,
+    framer: Framer,
+    count: usize,
+    end: &[u8],
+    wanted: (usize, u64),
+) -> Result<(), Fail> {
+    let body = bytes(alloc, count)?;
+    let mut out = sink(alloc, 1_000_000, &[])?;
+    let mut framing = framer.over(&mut out);
+    assert!(rt; put_all(&mut framing, body.as_slice()).is_ok());
+    assert!(rt; framing.break_off().is_ok());
+    assert!(rt; out.inner.bytes().ends_with(end));
+    expect(rt, (out.inner.bytes().len(), out.calls), wanted);
+    Ok(())
+}
+
+/// Of a chunk that is not whole nothing goes out, nor does the last chunk; of a body that is sent as it is all does.
+#[test]
+fn a_broken_body_is_its_whole_chunks(rt: HostRuntime) -> Result<(), Fail> {
+    let rows: [(bool, &[u8], usize, &[u8], (usize, u64)); 10] = [
+        (true, HEAD, 0, HEAD, (19, 1)),
+        (true, HEAD, 3, HEAD, (19, 1)),
+        (true, HEAD, 65_535, HEAD, (19, 1)),
+        (true, HEAD, 65_536, b"a\r\n", (65_564, 1)),
+        (true, HEAD, 65_537, b"a\r\n", (65_564, 1)),
+        (true, b"", 3, b"", (0, 0)),
+        (true, b"", 131_072, b"a\r\n", (131_090, 2)),
+        (false, HEAD, 0, HEAD, (19, 1)),
+        (false, HEAD, 3, b"\r\n\r\naaa", (22, 1)),
+        (false, HEAD, 65_537, b"aa", (65_556, 2)),
+    ];
+    for (chunked, front, count, end, wanted) in rows {
+        let framer = Framer::behind(rt.alloc(), chunked, front)?;
+        expect_broken(&rt, rt.alloc(), framer, count, end, wanted)?;
+    }
+    Ok(())
+}
+
+/// A put that fails then is told, and what was put is a front.
+#[test]
+fn a_body_may_fail_as_it_is_broken_off(rt: HostRuntime) -> Result<(), Fail> {
+    for chunked in [true, false] {
+        let mut out = sink(rt.alloc(), 7, &[2])?;
+        let mut framing = Framer::behind(rt.alloc(), chunked, HEAD)?.over(&mut out);
+        assert!(rt; put_all(&mut framing, b"abc").is_ok());
+        assert!(rt; framing.break_off().is_err());
+        expect(&rt, out.inner.bytes(), b"HTTP/1.".as_slice());
     }
     Ok(())
 }
 
 /// What a body becomes over a sink of which a call fails: that sink, and how many calls of the framing
-/// failed. No call has the number 0.
-fn sent(alloc: Global, body: &[u8], failing: u64) -> Result<(Counted<MemSink>, u64), Memory> {
-    let mut out = Counted {
-        inner: sink(alloc, 40_000, &[failing])?,
-        calls: 0,
-    };
-    let mut framing = Framer::new(alloc, true)?.over(&mut out);
+/// failed.
+fn sent(
+    alloc: Global,
+    framer: Framer,
+    body: &[u8],
+    failing: u64,
+) -> Result<(Counted<MemSink>, u64), Memory> {
+    let mut out = sink(alloc, 40_000, &[failing])?;
+    let mut framing = framer.over(&mut out);
     let mut at = 0usize;
     let mut failed = 0u64;
     for _ in 0..10 {
@@ -118,24 +268,36 @@ fn sent(alloc: Global, body: &[u8], failing: u64) -> Result<(Counted<MemSink>, u
 
 /// Each call of the other sink fails in turn, of as many as a run without a fault makes. Behind a failed
 /// `put` the next goes on in the middle of the chunk; behind a failed end a front was put.
-#[test]
-fn a_chunk_goes_on_behind_a_fault(rt: HostRuntime) -> Result<(), Fail> {
-    let mut body = bytes(rt.alloc(), 65_536)?;
+fn expect_goes_on<R: Abort>(
+    rt: &R,
+    alloc: Global,
+    chunked: bool,
+    front: &[u8],
+    end: &[u8],
+    wanted: usize,
+) -> Result<(), Fail> {
+    let mut body = bytes(alloc, 65_536)?;
     body.push(b'b')?;
-    let (whole, failed) = sent(rt.alloc(), body.as_slice(), 0)?;
-    expect(&rt, failed, 0);
-    expect(&rt, whole.inner.bytes().len(), 65_556);
-    assert!(rt; whole.inner.bytes().ends_with(b"a\r\n1\r\nb\r\n0\r\n\r\n"));
-    expect(&rt, whole.calls, 7);
+    let framer = Framer::behind(alloc, chunked, front)?;
+    let (whole, failed) = sent(alloc, framer, body.as_slice(), 0)?;
+    expect(rt, failed, 0);
+    expect(rt, whole.inner.bytes().len(), wanted);
+    assert!(rt; whole.inner.bytes().ends_with(end));
+    expect(rt, whole.calls, 3);
     for failing in 1..whole.calls.saturating_add(1) {
-        let (out, failed) = sent(rt.alloc(), body.as_slice(), failing)?;
-        expect(&rt, failed, 1);
+        let framer = Framer::behind(alloc, chunked, front)?;
+        let (out, failed) = sent(alloc, framer, body.as_slice(), failing)?;
+        expect(rt, failed, 1);
         assert!(rt; whole.inner.bytes().starts_with(out.inner.bytes()));
-        expect(
-            &rt,
-            out.inner.bytes().len() == whole.inner.bytes().len(),
-            failing < 3,
-        );
+        expect(rt, out.inner.bytes().len() == wanted, failing < 3);
     }
     Ok(())
+}
+
+#[test]
+fn a_chunk_goes_on_behind_a_fault(rt: HostRuntime) -> Result<(), Fail> {
+    let end = b"a\r\n1\r\nb\r\n0\r\n\r\n".as_slice();
+    expect_goes_on(&rt, rt.alloc(), true, b"", end, 65_556)?;
+    expect_goes_on(&rt, rt.alloc(), true, HEAD, end, 65_575)?;
+    expect_goes_on(&rt, rt.alloc(), false, HEAD, b"ab", 65_556)
 }

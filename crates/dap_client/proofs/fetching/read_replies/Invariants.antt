@@ -1,4 +1,4 @@
-use Rattle.std.proofs.Common.{◌≡◌, ◌≤◌, None}
+use Rattle.std.proofs.Common.{◌≡◌, None}
 use Rattle.dap_client.proofs.Sequels.{SoFar}
 use Rattle.dap_client.specs.Following.{pending}
 use Rattle.dap_client.specs.Replies.{form_of}

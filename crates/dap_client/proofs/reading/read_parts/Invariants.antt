@@ -1,4 +1,4 @@
-use Rattle.std.proofs.Common.{◌≡◌, ◌≤◌, ◌^◌, ◌++◌, ◌-◌, ℕ, List, []}
+use Rattle.std.proofs.Common.{◌≡◌, ◌^◌, ◌++◌, ◌-◌, ℕ, List, []}
 use Rattle.std.specs.Io.KnownBytes.{Consumes}
 use Rattle.dap_http.specs.Following.{Follows, IsInTime, body_coding}
 use Rattle.dap_client.specs.Verdict.{Form}

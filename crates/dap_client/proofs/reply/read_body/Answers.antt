@@ -1,4 +1,4 @@
-use Rattle.std.proofs.Common.{◌≤◌, ◌++◌, [], length, refl, sym, subst, ap, ◌∙◌, arith, append-nil, length-append}
+use Rattle.std.proofs.Common.{◌≤◌, ◌++◌, [], length, refl, sym, ap, ◌∙◌, arith, length-append}
 use Rattle.std.proofs.KnownBytes.{Appends-nil, Consumes-nil}
 use Rattle.dap_http.specs.Following.{body_coding, waiting}
 use Rattle.dap_http.specs.Reading.{rest_of}

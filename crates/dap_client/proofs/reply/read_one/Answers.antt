@@ -1,4 +1,4 @@
-use Rattle.std.proofs.Common.{◌++◌, ℕ, List, [], ap, subst, arith, append_assoc, inr, ◌∙◌}
+use Rattle.std.proofs.Common.{◌++◌, ℕ, List, [], ap, subst, append_assoc, inr, ◌∙◌}
 use Rattle.std.proofs.KnownBytes.{Appends-nil, Consumes-trans}
 use Rattle.dap_http.proofs.Finals.{gives-more}
 use Rattle.dap_http.specs.Reading.{rest_of}

@@ -105,14 +105,17 @@ returns-clause-asked_lines g c =
 
 pub returns-in_err-list-clause-asked_before : goal.returns-in_err-list-clause-asked_before
 returns-in_err-list-clause-asked_before g c =
+    let none : g.S.Shelf.asked c.find.new.shelf ≤ g.S.Shelf.asked c.args.shelf.now + 65536 = omega (arith, c.in_err-list.ensures.asked) in
     let stop : WhereRefused (λ cause. IsAskedBefore cause (g.S.Shelf.asked c.args.shelf.now) (g.S.Shelf.asked c.find.new.shelf)) c.in_err-list.field-0.0 =
-    for_refused (λ cause (is, missing). before.no_line cause _ _ (before.no_file cause is)) c.in_err-list.field-0.0 c.in_err-list.ensures.refused in
+    for_refused (λ cause refused. before.list_alone cause _ _ none) c.in_err-list.field-0.0 c.in_err-list.ensures.refused in
     search (rules, stop)
 
 pub returns-in_err-names-clause-asked_before : goal.returns-in_err-names-clause-asked_before
 returns-in_err-names-clause-asked_before g c =
+    let listed : g.S.Shelf.asked c.open_list.new.shelf ≤ g.S.Shelf.asked c.args.shelf.now + 65536 =
+    omega (arith, opening.of_any (g.S.Shelf.size_of c.find.new.shelf c.in_ok-list.list), c.in_err-names.ensures.asked, c.in_ok-list.ensures.asked) in
     let stop : WhereRefused (λ cause. IsAskedBefore cause (g.S.Shelf.asked c.args.shelf.now) (g.S.Shelf.asked c.open_list.new.shelf)) c.in_err-names.field-0.0 =
-    for_refused (λ cause (bytes, read, lists). before.no_line cause _ _ (before.no_list bytes cause lists)) c.in_err-names.field-0.0 c.in_err-names.ensures.refused in
+    for_refused (λ cause refused. before.list_alone cause _ _ listed) c.in_err-names.field-0.0 c.in_err-names.ensures.refused in
     search (rules, stop)
 
 pub returns-in_err-members-clause-asked_before : goal.returns-in_err-members-clause-asked_before

@@ -1,17 +1,26 @@
-use Rattle.dap_http.specs.inner.Putting.{body_in, gained_by}
-use Rattle.dap_http.proofs.Framed.{chunks-only, err-end, ok-end, tells-on}
+use Rattle.dap_http.specs.inner.Putting.{body_in, front_in, gained_by}
+use Rattle.dap_http.proofs.Framed.{err-end, gains-of, grown, grown-on, ok-end}
 use Rattle.dap_http.proofs.framing.Framing+O+Gathered.end.Goals as goal
 
 pub returns-clause-ok : goal.returns-clause-ok
 returns-clause-ok g c =
-    ok-end c.end.result c.args.self.chunked _ _ _ (gained_by c.args.self.gathered) (body_in c.args.self.gathered) c.end.ensures.plain c.end.ensures.ok
+    let s = c.args.self in
+    let w = s.gathered in
+    ok-end c.end.result _ _ _ (gained_by w) (body_in w) (front_in w) w.chunked c.end.ensures.ok
 
 pub returns-clause-err : goal.returns-clause-err
 returns-clause-err g c =
-    err-end c.end.result c.args.self.chunked _ _ _ (gained_by c.args.self.gathered) (body_in c.args.self.gathered) c.end.ensures.plain c.end.ensures.err
+    let s = c.args.self in
+    let w = s.gathered in
+    err-end c.end.result _ _ _ (gained_by w) (body_in w) (front_in w) w.chunked c.end.ensures.err
 
-pub returns-clause-chunks : goal.returns-clause-chunks
-returns-clause-chunks g c = chunks-only c.end.result c.args.self.chunked _ c.end.ensures.plain
+pub returns-clause-grown : goal.returns-clause-grown
+returns-clause-grown g c =
+    let s = c.args.self in
+    grown _ _ _ s.grows (gains-of c.end.result _ _ _ _ c.end.ensures.ok c.end.ensures.err)
 
 pub invariant_of-self : goal.invariant_of-self
-invariant_of-self g c = let (x, more) = c.end.ensures.gains in record { tells = tells-on _ _ _ x c.args.self.tells more }
+invariant_of-self g c =
+    let s = c.args.self in
+    let (x, more) = gains-of c.end.result _ _ _ _ c.end.ensures.ok c.end.ensures.err in
+    record { grows = grown-on _ _ _ x s.grows more }

@@ -1,48 +1,58 @@
-use Rattle.std.proofs.Common.{◌≡◌, List, ℕ, ap, sym, subst, length, arith, ◌∙◌}
+use Rattle.std.proofs.Common.{◌≡◌, ◌++◌, ◌≤◌, List, ℕ, ap, length, arith, refl, ◌∙◌}
 use Rattle.std.proofs.Math.Logic.{∥∥₁_map}
-use Rattle.std.proofs.lemmas.List.{length-take-le}
-use Rattle.dap_http.specs.inner.UnderWay.{InChunks, body_of, chunks_of, gained_of}
-use Rattle.dap_http.proofs.Gathering.{body-begun, chunks-more, gained-begun, next-begun, room-small}
+use Rattle.dap_http.specs.inner.Putting.{body_in, front_in, gained_by}
+use Rattle.dap_http.specs.inner.UnderWay.{body_of, frames_of, front_before, gained_of, head_of}
+use Rattle.dap_http.proofs.Gathering.{body-begun, frames-more, front-begun, gained-begun, moved, next-begun, room-small}
 use Rattle.dap_http.proofs.gathered.Gathered.begin.Goals as goal
 
 pub invariant_of-self : goal.invariant_of-self
 invariant_of-self c =
     let s = c.args.self.now in
+    let m = s.chunked in
     let f = s.frame.items in
-    let cs = chunks_of s.whole.items in
-    let more = ap chunks_of c.and-self.ensures ∙ chunks-more s.whole.items s.frame 0 in
-    let items = c.truncate.ensures.items in
-    let short : length c.truncate.new.self.items ≡ 7 = ap length items ∙ length-take-le 7 f (omega (arith, c.requires.whole)) in
-    let h = c.truncate.new.self.items in
-    let body : body_of (chunks_of c.and-self.result.items) h ≡ body_of cs f = ap (λ t. body_of t h) more ∙ body-begun cs f h short in
-    let gained : gained_of (chunks_of c.and-self.result.items) h 0 ≡ gained_of cs f s.sent = ap (λ t. gained_of t h 0) more ∙ gained-begun cs f h s.sent c.requires.put in
+    let cs = frames_of s.whole.items in
+    let h = c.fill.new.frame.items in
+    let k = length c.head-head.result.now in
+    let is : h ≡ head_of m = c.fill.ensures.items ∙ ap (λ t. t ++ c.head-head.result.now) c.clear.ensures.items ∙ c.head-head.ensures in
+    let k_is : k ≡ length (head_of m) = ap length c.head-head.ensures in
+    let more = ap frames_of c.and-self.ensures ∙ frames-more s.whole.items s.frame s.from in
+    let all = frames_of c.and-self.result.items in
+    let short : length h ≤ k = omega (arith, ap length is, k_is) in
+    let body : body_of all h k ≡ body_in s = ap (λ t. body_of t h k) more ∙ body-begun cs f h s.from k short in
+    let gained : gained_of all h 0 ≡ gained_by s = ap (λ t. gained_of t h 0) more ∙ gained-begun cs f h s.from s.sent c.requires.put in
+    let front : front_before m all h k ≡ front_in s = ap (λ t. front_before m t h k) more ∙ front-begun m cs f h s.from k in
     record {
       under_way = ∥∥₁_map s.under_way (λ w.
-          subst (λ (b : List ℕ). InChunks h 0 b (gained_of (chunks_of c.and-self.result.items) h 0)) (sym body)
-          (subst (InChunks h 0 (body_of cs f)) (sym gained)
-          (subst (λ (t : List ℕ). InChunks t 0 (body_of cs f) (gained_of cs f s.sent)) (sym items)
-          (next-begun f (body_of cs f) (gained_of cs f s.sent) s.sent c.requires.whole c.requires.put w))));
-      gathers = room-small (length h) (omega (arith, short));
-      headed = omega (arith, short);
+          moved m (front_in s) (front_before m all h k) (head_of m) h (body_in s) (body_of all h k) (gained_by s) (gained_of all h 0) (length (head_of m)) k 0 front is k_is body gained
+          (next-begun m (front_in s) f (body_in s) (gained_by s) s.from s.sent c.requires.whole c.requires.put w));
+      gathers = room-small m k (length h) (omega (arith, ap length is, k_is));
+      headed = omega (arith, ap length is, k_is);
+      behind = omega (arith, k_is);
       within = omega arith;
-      room = omega (arith, c.truncate.ensures.capacity, s.room);
+      room = omega (arith, c.fill.ensures.room, c.clear.ensures.capacity, s.room, s.behind, k_is);
     }
 
 pub returns-clause-body : goal.returns-clause-body
 returns-clause-body c =
     let s = c.args.self.now in
-    let f = s.frame.items in
-    let cs = chunks_of s.whole.items in
-    let h = c.truncate.new.self.items in
-    let more = ap chunks_of c.and-self.ensures ∙ chunks-more s.whole.items s.frame 0 in
-    let short : length h ≡ 7 = ap length c.truncate.ensures.items ∙ length-take-le 7 f (omega (arith, c.requires.whole)) in
-    ap (λ t. body_of t h) more ∙ body-begun cs f h short
+    let h = c.fill.new.frame.items in
+    let k = length c.head-head.result.now in
+    let is : h ≡ head_of s.chunked = c.fill.ensures.items ∙ ap (λ t. t ++ c.head-head.result.now) c.clear.ensures.items ∙ c.head-head.ensures in
+    let short : length h ≤ k = omega (arith, ap length is, ap length c.head-head.ensures) in
+    let more = ap frames_of c.and-self.ensures ∙ frames-more s.whole.items s.frame s.from in
+    ap (λ t. body_of t h k) more ∙ body-begun (frames_of s.whole.items) s.frame.items h s.from k short
 
 pub returns-clause-gained : goal.returns-clause-gained
 returns-clause-gained c =
     let s = c.args.self.now in
-    let f = s.frame.items in
-    let cs = chunks_of s.whole.items in
-    let h = c.truncate.new.self.items in
-    let more = ap chunks_of c.and-self.ensures ∙ chunks-more s.whole.items s.frame 0 in
-    ap (λ t. gained_of t h 0) more ∙ gained-begun cs f h s.sent c.requires.put
+    let h = c.fill.new.frame.items in
+    let more = ap frames_of c.and-self.ensures ∙ frames-more s.whole.items s.frame s.from in
+    ap (λ t. gained_of t h 0) more ∙ gained-begun (frames_of s.whole.items) s.frame.items h s.from s.sent c.requires.put
+
+pub returns-clause-same : goal.returns-clause-same
+returns-clause-same c =
+    let s = c.args.self.now in
+    let h = c.fill.new.frame.items in
+    let k = length c.head-head.result.now in
+    let more = ap frames_of c.and-self.ensures ∙ frames-more s.whole.items s.frame s.from in
+    (refl, ap (λ t. front_before s.chunked t h k) more ∙ front-begun s.chunked (frames_of s.whole.items) s.frame.items h s.from k)

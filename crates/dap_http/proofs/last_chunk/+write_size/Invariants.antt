@@ -1,0 +1,4 @@
+use Rattle.dap_http.proofs.last_chunk.+write_size.Given as goal
+
+abbrev pub decreases-write_size : goal.decreases-write_size
+decreases-write_size l = l.size
