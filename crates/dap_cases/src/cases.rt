@@ -6,10 +6,10 @@ ghost use Rattle.dap_cases.specs.Reports.{report_of};
 ghost use Rattle.dap_cases.specs.Runs.{IsVerdictIn};
 
 use crate::case::read_case;
+use crate::case_verdict::verdict_on;
 use crate::files::{find_file, joined};
 use crate::lines::report;
 use crate::outcome::Outcome;
-use crate::running::verdict_on;
 use crate::stop::Stop;
 use crate::texts::lines_in;
 use crate::verdict::Verdict;

@@ -5,13 +5,13 @@
 
 mod below;
 mod case;
+mod case_verdict;
 mod cases;
 mod differences;
 mod ending;
 mod files;
 mod lines;
 mod outcome;
-mod running;
 mod said;
 mod stop;
 mod texts;

@@ -14,7 +14,7 @@ use Rattle.dap_server.specs.Files.{Form, form_of, is_read_first, joined, netcdf,
 use Rattle.dap_server.specs.Prepared.{IsOver, MayGive, MustGive}
 use Rattle.dap_server.specs.Results.{AnswersAmong, Text, error_object, result_text}
 use Rattle.dap_server.specs.Steps.{found_or}
-use Rattle.dap_commands.specs.Answer.{AnswerSays, HasNoText, MayAskAs, MayAskFor, MayHaveAsked, MayResult, MustResult, WhereKnown, is_read_late, looks_up, most_before, status_of}
+use Rattle.dap_commands.specs.Answer.{AnswerSays, HasNoText, MayAskAs, MayAskFor, MayHaveAsked, MayResult, MustResult, WhereKnown, is_read_late, looks_up, most_before, status_of_cause}
 use Rattle.dap_commands.specs.inner.Puts.{BodyPut, IsPut, RefusalPut, TextPut, start_of}
 use Rattle.dap_commands.specs.Lines.{cause_line, damaged_line, line_of, refused_line}
 use Rattle.dap_commands.specs.Words.{AreAnswer}
@@ -69,7 +69,7 @@ where_known None target (Err cause) P is = is
 where_known None target (Ok t) P is = λ late. is
 
 -- a cause with that status
-damaged_is : (cause : Cause) → status_of cause ≡ Damaged → (why : FileCause) × (cause ≡ causes.Damaged why)
+damaged_is : (cause : Cause) → status_of_cause cause ≡ Damaged → (why : FileCause) × (cause ≡ causes.Damaged why)
 damaged_is (causes.Damaged why) is = (why, refl)
 damaged_is (causes.Syntax place) is = cc is
 damaged_is (causes.UnknownName spot) is = cc is
@@ -244,7 +244,7 @@ body_only Reads Rises ServerError put reads rises still quiet = absurd put
 body_only Reads Rises LinkFault put reads rises still quiet = absurd put
 
 pub refuse_only : (cause : Cause) (Out Front Line : List ℕ → Type 0) (Rises : Type 0) (status : Status) → RefusalPut cause Out Front Line status → (status ≡ WriteFault → Rises) → ¬ Rises
-    → status ≢ Memory → status ≡ status_of cause
+    → status ≢ Memory → status ≡ status_of_cause cause
 refuse_only cause Out Front Line Rises Refused put rises quiet had = sym put.0
 refuse_only cause Out Front Line Rises Damaged put rises quiet had = sym put.0
 refuse_only cause Out Front Line Rises WriteFault put rises quiet had = absurd (quiet (rises refl))

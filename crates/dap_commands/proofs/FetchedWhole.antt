@@ -25,7 +25,7 @@ use Rattle.dap_client.specs.declared.outcome.Outcome.{Outcome}
 use Rattle.dap_client.specs.declared.outcome.Outcome.TheVariants as outcomes
 use Rattle.dap_commands.proofs.ShownWhole.{one-response}
 use Rattle.dap_commands.specs.ClientHalf.{AreReplies, FetchesData, Fetching, HasRead, IsFetched, IsResponse, Response, text_of, text_of_all}
-use Rattle.dap_commands.specs.Fetch.{status_of}
+use Rattle.dap_commands.specs.Fetch.{status_of_outcome}
 use Rattle.dap_commands.specs.declared.status.Status.{Status}
 use Rattle.dap_commands.specs.declared.status.Status.TheVariants.{Complete, Memory}
 use Rattle.dap_client.proofs.Lasts.{IsWhole}
@@ -210,7 +210,7 @@ are-good (r ∷ rs) bytes (suc n) e (rest, delivers, is, others) =
 record Over {W : Type 0} (f : Fetching W) (link : W) (input : List ℕ) (status : Status) : Type 0 where
   fetched : Fetched
   came : LinkState
-  is_status : status ≡ status_of fetched.last
+  is_status : status ≡ status_of_outcome fetched.last
   is_input : came.left ≡ Some input
   takes : came.take_faults ≡ 0
   puts : came.put_faults ≡ 0
@@ -254,7 +254,7 @@ over-link {W} f link input status (fetched, inr c, is, line) h =
 
 -- ---- a run that is complete
 
-complete-is : (o : Outcome) → Complete ≡ status_of o → is_complete o ≡ true
+complete-is : (o : Outcome) → Complete ≡ status_of_outcome o → is_complete o ≡ true
 complete-is (outcomes.Complete n) e = refl
 complete-is (outcomes.ServerError code message) e = cc e
 complete-is (outcomes.BadReply field) e = cc e
@@ -322,7 +322,7 @@ counted-whole outcomes.WriteFault before n whole most is all = absurd (omega (ar
 counted-whole outcomes.LinkFault before n whole most is all = absurd (omega (arith, most, is, all))
 counted-whole outcomes.Memory before n whole most is all = absurd (omega (arith, most, is, all))
 
-status-complete : (o : Outcome) → is_complete o ≡ true → status_of o ≡ Complete
+status-complete : (o : Outcome) → is_complete o ≡ true → status_of_outcome o ≡ Complete
 status-complete (outcomes.Complete n) e = refl
 status-complete (outcomes.ServerError code message) e = cc e
 status-complete (outcomes.BadReply field) e = cc e
@@ -341,7 +341,7 @@ asked-complete f link input status rs o a stand long takes outs memory =
     let r = a.read in
     let k = r.counted in
     let calm = no-fault o.fetched.last (λ e. takes (rose-from o.came.take_faults (f.state link).take_faults o.takes (a.read_fault e))) (λ e. outs (a.write_fault e))
-    (λ e. last-tells [] k.before k.final (subst (λ (l : List Reply). AreRead dods_form [] l) k.parts r.read) (sym k.is_last ∙ e)) (λ e. memory (o.is_status ∙ ap status_of e)) in
+    (λ e. last-tells [] k.before k.final (subst (λ (l : List Reply). AreRead dods_form [] l) k.parts r.read) (sym k.is_last ∙ e)) (λ e. memory (o.is_status ∙ ap status_of_outcome e)) in
     let whole = r.complete input o.is_input (are-good rs input (length f.constraints) long stand) calm in
     let done = counted-whole k.final.outcome (length k.before) (length f.constraints) o.fetched.whole k.most k.whole whole in
     o.is_status ∙ status-complete o.fetched.last (ap is_complete k.is_last ∙ done)

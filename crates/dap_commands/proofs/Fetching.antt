@@ -7,7 +7,7 @@ use Rattle.dap_http.specs.declared.kind.Kind.TheVariants as kinds
 use Rattle.dap_client.specs.Fetched.{DialState, SinkState}
 use Rattle.dap_client.specs.declared.outcome.Outcome.{Outcome}
 use Rattle.dap_client.specs.declared.outcome.Outcome.TheVariants as outcomes
-use Rattle.dap_commands.specs.Fetch.{FetchSays, SaysWhy, status_of}
+use Rattle.dap_commands.specs.Fetch.{FetchSays, FetchedLine, status_of_outcome}
 use Rattle.dap_commands.specs.Lines.{line_of}
 use Rattle.dap_commands.specs.Words.{AreAnswer, AreFetch, AreRelay, AreServe, AreSoak, HaveFetchForm, HaveSaveForm, IsCommand, IsFetch, IsKindWord, IsSave, IsShow, IsVer}
 use Rattle.dap_commands.specs.declared.status.Status.{Status}
@@ -158,7 +158,7 @@ no-command words url kind ces form none (inr (inr (inr (inr (inr (inr (inr (inl 
 no-command words url kind ces form none (inr (inr (inr (inr (inr (inr (inr (inr (u, ce, (other, is, known)))))))))) = no-save-url words other ce url kind ces is form
 
 -- what is said on another line, where the status has no line of its own
-why-other : (o : Outcome) (status : Status) (Line Other : List ℕ → Type 0) → status ≡ status_of o → (line_of status ≡ None → (l : List ℕ) → Line l → Other l) → SaysWhy o Line → SaysWhy o Other
+why-other : (o : Outcome) (status : Status) (Line Other : List ℕ → Type 0) → status ≡ status_of_outcome o → (line_of status ≡ None → (l : List ℕ) → Line l → Other l) → FetchedLine o Line → FetchedLine o Other
 why-other (outcomes.ServerError code message) status Line Other is pass why = pass (ap line_of is) _ why
 why-other (outcomes.BadReply field) status Line Other is pass why = pass (ap line_of is) _ why
 why-other (outcomes.Complete bytes) status Line Other is pass why = tt

@@ -30,7 +30,7 @@ use Rattle.dap_gateway.specs.Upstream.{Dials, IsAsked, IsAskedOver, IsExact, IsU
 use Rattle.dap_gateway.specs.declared.relayed.Relayed.{Relayed}
 use Rattle.dap_gateway.specs.declared.relayed.Relayed.TheVariants as endings
 use Rattle.dap_gateway.specs.declared.wanted.Wanted.{Wanted}
-use Rattle.dap_commands.specs.Relay.{AreCounted, CameTo, Follow, Gateway, IsAnsweredAlike, IsAsWithout, IsBacked, IsRelayed, MayHaveFailed, RelaySays, RelayedLink, Relays, RelaysFrom, Standing, TellsWritten, came_back, ending_name, failed_in, failures_in, fault_in, fault_of, faults_in, has_failed, history_of, lines_from, relay_line, source_name}
+use Rattle.dap_commands.specs.Relay.{AreCounted, CameTo, Follow, Gateway, IsAnsweredAlike, IsAsWithout, IsBacked, IsRelayed, MayHaveFailed, RelaySays, RelayedLink, Relays, RelaysFrom, RelayStanding, TellsWritten, came_back, relayed_name, failed_in, failures_in, fault_in, fault_of, faults_in, has_failed, history_of, lines_from, relay_line, source_name}
 use Rattle.dap_commands.specs.declared.status.Status.{Status}
 use Rattle.dap_commands.specs.declared.status.Status.TheVariants.{Complete, Words, Unsaved, Refused, Damaged, BadReply, ReadFault, WriteFault, LinkFault, Memory, ServerError}
 use Rattle.dap_gateway.proofs.Coming.{Pairs}
@@ -88,12 +88,12 @@ rose-some before now none up = omega (arith, none, up)
 -- ---- The line of a link.
 
 -- in its pieces
-pub line-is : (k : ℕ) (relayed : Relayed) (number ending source : List ℕ) → number ≡ decimal k → ending ≡ ending_name relayed → source ≡ source_name relayed
+pub line-is : (k : ℕ) (relayed : Relayed) (number ending source : List ℕ) → number ≡ decimal k → ending ≡ relayed_name relayed → source ≡ source_name relayed
     → codes "connection " ++ (number ++ (codes " " ++ (ending ++ (source ++ (codes "\n" ++ []))))) ≡ relay_line k relayed
 line-is k relayed number ending source p q r =
     ap (λ n. codes "connection " ++ (n ++ (codes " " ++ (ending ++ (source ++ codes "\n"))))) p
     ∙ ap (λ n. codes "connection " ++ (decimal k ++ (codes " " ++ (n ++ (source ++ codes "\n"))))) q
-    ∙ ap (λ n. codes "connection " ++ (decimal k ++ (codes " " ++ (ending_name relayed ++ (n ++ codes "\n"))))) r
+    ∙ ap (λ n. codes "connection " ++ (decimal k ++ (codes " " ++ (relayed_name relayed ++ (n ++ codes "\n"))))) r
 
 says-more : (requests came : ℕ) (line lines : List ℕ) (a m b : Option (List ℕ)) (status : Status) → status ≢ Memory → Appends a m line
     → RelaySays requests came lines (Appends m b) (AppendsFront m b) status → RelaySays (requests + 1) (suc came) (line ++ lines) (Appends a b) (AppendsFront a b) status
@@ -274,7 +274,7 @@ module _ {V W C : Type 0} (g : Gateway V W C) where
 
   -- ---- Links one after the other.
 
-  abbrev pub standing : Option (List V) → C → Option (List ℕ) → Standing V C
+  abbrev pub standing : Option (List V) → C → Option (List ℕ) → RelayStanding V C
   standing back d written = record { back = back; dial = d; written = written }
 
   abbrev Worth : C → Pairs → Type 0
@@ -293,7 +293,7 @@ module _ {V W C : Type 0} (g : Gateway V W C) where
   none-counted : (n : ℕ) → AreCounted (faults_in g []) (failures_in g []) n n
   none-counted n = λ below. no-more n n (faults_in g []) (failures_in g []) refl (same-le n)
 
-  relays-more : (k requests : ℕ) (r : RelayedLink V W C) (back back1 : Option (List V)) (written written1 : Option (List ℕ)) (b : Standing V C) (relays : List (RelayedLink V W C)) (status : Status) → status ≢ Memory
+  relays-more : (k requests : ℕ) (r : RelayedLink V W C) (back back1 : Option (List V)) (written written1 : Option (List ℕ)) (b : RelayStanding V C) (relays : List (RelayedLink V W C)) (status : Status) → status ≢ Memory
       → back1 ≡ option_map (λ links. links ++ r.back ∷ []) back → IsRelayed g r → Keeps r.dial r.dial_then r.pairs r.pairs_then → Appends written written1 (relay_line k r.relayed)
       → RelaysFrom g (k + 1) requests r.pairs_then (standing back1 r.dial_then written1) b relays status → RelaysFrom g k (requests + 1) r.pairs (standing back r.dial written) b (r ∷ relays) status
   relays-more k requests r back back1 written written1 b relays status had came is keeps puts rest =
@@ -322,7 +322,7 @@ module _ {V W C : Type 0} (g : Gateway V W C) where
       }
 
   -- no link came
-  relays-none : (k requests : ℕ) (ps : Pairs) (a : Standing V C) → 0 < requests → RelaysFrom g k requests ps a a [] LinkFault
+  relays-none : (k requests : ℕ) (ps : Pairs) (a : RelayStanding V C) → 0 < requests → RelaysFrom g k requests ps a a [] LinkFault
   relays-none k requests ps a some =
       record {
         back = back-none a.back;
@@ -335,7 +335,7 @@ module _ {V W C : Type 0} (g : Gateway V W C) where
       }
 
   -- none is asked for
-  relays-all : (k requests : ℕ) (ps : Pairs) (a : Standing V C) → requests ≡ 0 → RelaysFrom g k requests ps a a [] Complete
+  relays-all : (k requests : ℕ) (ps : Pairs) (a : RelayStanding V C) → requests ≡ 0 → RelaysFrom g k requests ps a a [] Complete
   relays-all k requests ps a none =
       record {
         back = back-none a.back;
@@ -348,31 +348,31 @@ module _ {V W C : Type 0} (g : Gateway V W C) where
       }
 
   -- what comes of the links from here on is what comes of all
-  abbrev pub All-from : ℕ → Pairs → Standing V C → ℕ → Pairs → Standing V C → Type 0
-  All-from requests first start n ps a = (b : Standing V C) (relays : List (RelayedLink V W C)) (status : Status) → status ≢ Memory → RelaysFrom g (n + 1) (requests - n) ps a b relays status
+  abbrev pub All-from : ℕ → Pairs → RelayStanding V C → ℕ → Pairs → RelayStanding V C → Type 0
+  All-from requests first start n ps a = (b : RelayStanding V C) (relays : List (RelayedLink V W C)) (status : Status) → status ≢ Memory → RelaysFrom g (n + 1) (requests - n) ps a b relays status
       → (all : List (RelayedLink V W C)) × RelaysFrom g 1 requests first start b all status
 
   one-less : (requests n : ℕ) → n < requests → requests - (n + 1) + 1 ≡ requests - n
   one-less requests n within = omega (arith, within)
 
-  pub all-start : (requests : ℕ) (ps : Pairs) (start : Standing V C) → All-from requests ps start 0 ps start
+  pub all-start : (requests : ℕ) (ps : Pairs) (start : RelayStanding V C) → All-from requests ps start 0 ps start
   all-start requests ps start = λ b relays status had rest. (relays, subst (λ r. RelaysFrom g 1 r ps start b relays status) (omega arith) rest)
 
-  all-step : (requests n : ℕ) (first : Pairs) (start : Standing V C) (r : RelayedLink V W C) (back back1 : Option (List V)) (written written1 : Option (List ℕ)) → n < requests
+  all-step : (requests n : ℕ) (first : Pairs) (start : RelayStanding V C) (r : RelayedLink V W C) (back back1 : Option (List V)) (written written1 : Option (List ℕ)) → n < requests
       → All-from requests first start n r.pairs (standing back r.dial written) → back1 ≡ option_map (λ links. links ++ r.back ∷ []) back → IsRelayed g r → Keeps r.dial r.dial_then r.pairs r.pairs_then
       → Appends written written1 (relay_line (n + 1) r.relayed) → All-from requests first start (n + 1) r.pairs_then (standing back1 r.dial_then written1)
   all-step requests n first start r back back1 written written1 within so_far came is keeps puts = λ b relays status had rest.
       so_far b (r ∷ relays) status had (subst (λ m. RelaysFrom g (n + 1) m r.pairs (standing back r.dial written) b (r ∷ relays) status) (one-less requests n within)
       (relays-more (n + 1) (requests - (n + 1)) r back back1 written written1 b relays status had came is keeps puts rest))
 
-  all-part : (requests n : ℕ) (first : Pairs) (start : Standing V C) (r : RelayedLink V W C) (back back1 : Option (List V)) (written written1 : Option (List ℕ)) → n < requests
+  all-part : (requests n : ℕ) (first : Pairs) (start : RelayStanding V C) (r : RelayedLink V W C) (back back1 : Option (List V)) (written written1 : Option (List ℕ)) → n < requests
       → All-from requests first start n r.pairs (standing back r.dial written) → back1 ≡ option_map (λ links. links ++ r.back ∷ []) back → IsRelayed g r → AppendsFront written written1 (relay_line (n + 1) r.relayed)
       → (all : List (RelayedLink V W C)) × RelaysFrom g 1 requests first start (standing back1 r.dial_then written1) all WriteFault
   all-part requests n first start r back back1 written written1 within so_far came is puts =
       so_far (standing back1 r.dial_then written1) (r ∷ []) WriteFault (λ e. cc e) (subst (λ m. RelaysFrom g (n + 1) m r.pairs (standing back r.dial written) (standing back1 r.dial_then written1) (r ∷ []) WriteFault) (one-less requests n within)
       (relays-part (n + 1) (requests - (n + 1)) r back back1 written written1 came is puts))
 
-  pub loop-step : (requests n : ℕ) (first : Pairs) (start : Standing V C) (back back1 : Option (List V)) (d d1 : C) (ps ps1 : Pairs) (written written1 : Option (List ℕ)) (relayed : Relayed) → n < requests
+  pub loop-step : (requests n : ℕ) (first : Pairs) (start : RelayStanding V C) (back back1 : Option (List V)) (d d1 : C) (ps ps1 : Pairs) (written written1 : Option (List ℕ)) (relayed : Relayed) → n < requests
       → All-from requests first start n ps (standing back d written) → Came back back1 d d1 ps ps1 relayed → Keeps d d1 ps ps1 → Appends written written1 (relay_line (n + 1) relayed)
       → All-from requests first start (n + 1) ps1 (standing back1 d1 written1)
   loop-step requests n first start back back1 d d1 ps ps1 written written1 relayed within so_far (r, told, from, to, found, left, in_back, is) keeps puts =
@@ -384,7 +384,7 @@ module _ {V W C : Type 0} (g : Gateway V W C) where
       (subst (λ x. Keeps x r.dial_then r.pairs r.pairs_then) (sym from) (subst (λ x. Keeps d x r.pairs r.pairs_then) (sym to) (subst (λ qs. Keeps d d1 qs r.pairs_then) (sym found) (subst (λ qs. Keeps d d1 ps qs) (sym left) keeps))))
       (subst (λ x. Appends written written1 (relay_line (n + 1) x)) (sym told) puts)))
 
-  pub loop-part : (requests n : ℕ) (first : Pairs) (start : Standing V C) (back back1 : Option (List V)) (d d1 : C) (ps ps1 : Pairs) (written written1 : Option (List ℕ)) (relayed : Relayed) → n < requests
+  pub loop-part : (requests n : ℕ) (first : Pairs) (start : RelayStanding V C) (back back1 : Option (List V)) (d d1 : C) (ps ps1 : Pairs) (written written1 : Option (List ℕ)) (relayed : Relayed) → n < requests
       → All-from requests first start n ps (standing back d written) → Came back back1 d d1 ps ps1 relayed → AppendsFront written written1 (relay_line (n + 1) relayed)
       → (all : List (RelayedLink V W C)) × RelaysFrom g 1 requests first start (standing back1 d1 written1) all WriteFault
   loop-part requests n first start back back1 d d1 ps ps1 written written1 relayed within so_far (r, told, from, to, found, left, in_back, is) puts =
@@ -394,7 +394,7 @@ module _ {V W C : Type 0} (g : Gateway V W C) where
       in_back is (subst (λ x. AppendsFront written written1 (relay_line (n + 1) x)) (sym told) puts))
 
   -- none came
-  pub loop-none : (requests n : ℕ) (first : Pairs) (start : Standing V C) (back back1 : Option (List V)) (d d1 : C) (ps : Pairs) (written : Option (List ℕ)) → n < requests
+  pub loop-none : (requests n : ℕ) (first : Pairs) (start : RelayStanding V C) (back back1 : Option (List V)) (d d1 : C) (ps : Pairs) (written : Option (List ℕ)) → n < requests
       → All-from requests first start n ps (standing back d written) → back1 ≡ back → d1 ≡ d → (all : List (RelayedLink V W C)) × RelaysFrom g 1 requests first start (standing back1 d1 written) all LinkFault
   loop-none requests n first start back back1 d d1 ps written within so_far p q =
       subst (λ x. (all : List (RelayedLink V W C)) × RelaysFrom g 1 requests first start (standing x d1 written) all LinkFault) (sym p)
@@ -402,7 +402,7 @@ module _ {V W C : Type 0} (g : Gateway V W C) where
       (so_far (standing back d written) [] LinkFault (λ e. cc e) (relays-none (n + 1) (requests - n) ps (standing back d written) (omega (arith, within)))))
 
   -- all came
-  pub loop-all : (requests n : ℕ) (first : Pairs) (start : Standing V C) (ps : Pairs) (a : Standing V C) → requests ≤ n → All-from requests first start n ps a
+  pub loop-all : (requests n : ℕ) (first : Pairs) (start : RelayStanding V C) (ps : Pairs) (a : RelayStanding V C) → requests ≤ n → All-from requests first start n ps a
       → (all : List (RelayedLink V W C)) × RelaysFrom g 1 requests first start a all Complete
   loop-all requests n first start ps a over so_far = so_far a [] Complete (λ e. cc e) (relays-all (n + 1) (requests - n) ps a (omega (arith, over)))
 
@@ -472,7 +472,7 @@ module _ {V W C : Type 0} (g : Gateway V W C) where
   no-pairs None = tt
   no-pairs (Some es) = All-nil (backing.IsBacked g.host g.port es)
 
-  pub relays-whole : (requests : ℕ) (ps : Pairs) (a b : Standing V C) (relays : List (RelayedLink V W C)) (status : Status) → ps ≡ [] → RelaysFrom g 1 requests ps a b relays status → Relays g requests a b relays status
+  pub relays-whole : (requests : ℕ) (ps : Pairs) (a b : RelayStanding V C) (relays : List (RelayedLink V W C)) (status : Status) → ps ≡ [] → RelaysFrom g 1 requests ps a b relays status → Relays g requests a b relays status
   relays-whole requests ps a b relays status none from =
       let all = subst (λ qs. RelaysFrom g 1 requests qs a b relays status) none from in
       let worth = λ (tells : TellsWritten g). all.backed tells (no-pairs (history_of g a.dial)) in
@@ -484,7 +484,7 @@ module _ {V W C : Type 0} (g : Gateway V W C) where
       subst (λ x. Relays g requests (standing back d written) (standing x d written) [] LinkFault) (sym p) (relays-whole requests [] (standing back d written) (standing back d written) [] LinkFault refl (relays-none 1 requests [] (standing back d written) some))
 
   -- memory was wanted before
-  pub none-had : (requests : ℕ) (a : Standing V C) → Relays g requests a a [] Memory
+  pub none-had : (requests : ℕ) (a : RelayStanding V C) → Relays g requests a a [] Memory
   none-had requests a =
       relays-whole requests [] a a [] Memory refl
       (record {
@@ -505,7 +505,7 @@ came-for door_link dial_link dial host port room other same back back1 d e ps qs
     subst (λ n. Came (record { door_link = door_link; dial_link = dial_link; dial = dial; host = host; port = port; room = n }) back back1 d e ps qs relayed) same came
 
 -- over the empty cache with that room, once the door listens
-pub whole-for : {V W C : Type 0} (door_link : V → LinkState) (dial_link : W → LinkState) (dial : C → DialState W) (host : List ℕ) (port room other requests : ℕ) (ps : Pairs) (back back0 : Option (List V)) (d : C) (written : Option (List ℕ)) (b : Standing V C)
+pub whole-for : {V W C : Type 0} (door_link : V → LinkState) (dial_link : W → LinkState) (dial : C → DialState W) (host : List ℕ) (port room other requests : ℕ) (ps : Pairs) (back back0 : Option (List V)) (d : C) (written : Option (List ℕ)) (b : RelayStanding V C)
     (status : Status) (heard listens : Option ℕ) (p : ℕ) → room ≡ other → ps ≡ [] → back ≡ back0 → listens ≡ heard → heard ≡ Some p
     → (relays : List (RelayedLink V W C))
     × RelaysFrom (record { door_link = door_link; dial_link = dial_link; dial = dial; host = host; port = port; room = room }) 1 requests ps (record { back = back; dial = d; written = written }) b relays status

@@ -32,7 +32,7 @@ use Rattle.dap_commands.proofs.Connected.{answers-get}
 use Rattle.dap_commands.proofs.Shortness.{object-short}
 use Rattle.dap_commands.proofs.Visited.{visits-are-good}
 use Rattle.dap_commands.specs.Causes.{IsCause}
-use Rattle.dap_commands.specs.Answer.{AnswerSays, MayResult, status_of}
+use Rattle.dap_commands.specs.Answer.{AnswerSays, MayResult, status_of_cause}
 use Rattle.dap_commands.proofs.FetchedWhole.{fetched-alone, fetched-whole}
 use Rattle.dap_commands.proofs.ReadBack.{read-back, too-long}
 use Rattle.dap_commands.proofs.ShownWhole.{shown-alone, shown-whole}
@@ -98,19 +98,19 @@ err-is : (v w : Cause) → Path (Result Text Cause) (Err v) (Err w) → v ≡ w
 err-is v w e = cc
 
 put-cause : (files : Files) (target : List ℕ) (why : Cause) → HasResult target files (Err why) → (Out Front Line : List ℕ → Type 0) (s : Status) → (s ≡ status.Refused) ⊎ (s ≡ status.Damaged)
-    → AnswerSays (Some files) target Out Front Line s → (s ≡ status_of why) × Out (error_object why)
+    → AnswerSays (Some files) target Out Front Line s → (s ≡ status_of_cause why) × Out (error_object why)
 put-cause files target why has Out Front Line s (inl e) says = refused (subst (AnswerSays (Some files) target Out Front Line) e says)
   where
-    refused : AnswerSays (Some files) target Out Front Line status.Refused → (s ≡ status_of why) × Out (error_object why)
+    refused : AnswerSays (Some files) target Out Front Line status.Refused → (s ≡ status_of_cause why) × Out (error_object why)
     refused (k, may, is, out, line) =
         let same : k ≡ why = err-is k why (has.only (Err k) (told files target (Err k) may)) in
-        (e ∙ sym is ∙ ap status_of same, subst (λ c. Out (error_object c)) same out)
+        (e ∙ sym is ∙ ap status_of_cause same, subst (λ c. Out (error_object c)) same out)
 put-cause files target why has Out Front Line s (inr e) says = damaged (subst (AnswerSays (Some files) target Out Front Line) e says)
   where
-    damaged : AnswerSays (Some files) target Out Front Line status.Damaged → (s ≡ status_of why) × Out (error_object why)
+    damaged : AnswerSays (Some files) target Out Front Line status.Damaged → (s ≡ status_of_cause why) × Out (error_object why)
     damaged (k, may, out, line) =
         let same : causes.Damaged k ≡ why = err-is (causes.Damaged k) why (has.only (Err (causes.Damaged k)) (told files target (Err (causes.Damaged k)) may)) in
-        (e ∙ ap status_of same, subst (λ c. Out (error_object c)) same out)
+        (e ∙ ap status_of_cause same, subst (λ c. Out (error_object c)) same out)
 
 -- ---- what is carried
 

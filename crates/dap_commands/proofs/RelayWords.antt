@@ -7,7 +7,7 @@ use Rattle.dap_outside.specs.Links.{LinkState}
 use Rattle.dap_outside.specs.Streams.{AppendsFront}
 use Rattle.dap_http.specs.Urls.{is_host}
 use Rattle.dap_client.specs.Fetched.{DialState}
-use Rattle.dap_commands.specs.Relay.{Gateway, RelaySays, RelayedLink, Relays, Standing, lines_from}
+use Rattle.dap_commands.specs.Relay.{Gateway, RelaySays, RelayedLink, Relays, RelayStanding, lines_from}
 use Rattle.dap_commands.specs.Words.{AreRelay, IsCommand, IsNumber}
 use Rattle.dap_commands.specs.declared.status.Status.{Status}
 use Rattle.dap_commands.specs.declared.status.Status.TheVariants.{Words}
@@ -65,7 +65,7 @@ abbrev gateway : {V W C : Type 0} → (V → LinkState) → (W → LinkState) �
 gateway door_link dial_link dial host port room = record { door_link = door_link; dial_link = dial_link; dial = dial; host = host; port = port; room = room }
 
 -- what is said of a host and numbers is said of these words
-pub relay-for : {V W C : Type 0} (door_link : V → LinkState) (dial_link : W → LinkState) (dial : C → DialState W) (words : List (List ℕ)) (h h2 : List ℕ) (u u2 p p2 r r2 q q2 : ℕ) (a b : Standing V C) (status : Status) (listens : Option ℕ)
+pub relay-for : {V W C : Type 0} (door_link : V → LinkState) (dial_link : W → LinkState) (dial : C → DialState W) (words : List (List ℕ)) (h h2 : List ℕ) (u u2 p p2 r r2 q q2 : ℕ) (a b : RelayStanding V C) (status : Status) (listens : Option ℕ)
     → AreRelay words h u p r q
     → (relays : List (RelayedLink V W C)) × Relays (record { door_link = door_link; dial_link = dial_link; dial = dial; host = h; port = u; room = r }) q a b relays status × (relays ≢ [] → listens ≡ Some p)
     → AreRelay words h2 u2 p2 r2 q2
@@ -83,7 +83,7 @@ relay-for door_link dial_link dial words h h2 u u2 p p2 r r2 q q2 a b status lis
 relay-no-words : (requests came : ℕ) (lines : List ℕ) (Out Front : List ℕ → Type 0) (status : Status) → RelaySays requests came lines Out Front status → status ≡ Words → ⊥
 relay-no-words requests came lines Out Front status says is = subst (RelaySays requests came lines Out Front) is says
 
-pub relays-no-words : {V W C : Type 0} (g : Gateway V W C) (requests : ℕ) (a b : Standing V C) (relays : List (RelayedLink V W C)) (status : Status) → Relays g requests a b relays status → status ≡ Words → ⊥
+pub relays-no-words : {V W C : Type 0} (g : Gateway V W C) (requests : ℕ) (a b : RelayStanding V C) (relays : List (RelayedLink V W C)) (status : Status) → Relays g requests a b relays status → status ≡ Words → ⊥
 relays-no-words g requests a b relays status relayed is = relay-no-words requests (length relays) (lines_from g 1 relays) (Appends a.written b.written) (AppendsFront a.written b.written) status relayed.all.says is
 
 -- the host in other words that are the same

@@ -11,7 +11,7 @@ use Rattle.dap_server.specs.Files.{Files, Stored}
 use Rattle.dap_server.specs.Results.{Text, error_object}
 use Rattle.dap_commands.proofs.Headlines.{headline}
 use Rattle.dap_commands.proofs.ShownWhole.{shown-alone, shown-whole}
-use Rattle.dap_commands.specs.Answer.{AnswerSays, MustResult, status_for, status_of}
+use Rattle.dap_commands.specs.Answer.{AnswerSays, MustResult, status_of_result, status_of_cause}
 use Rattle.dap_commands.specs.ClientHalf.{IsResponse, Response, Showing, Shows, text_of}
 use Rattle.dap_commands.specs.Headline.{Headline}
 use Rattle.dap_commands.specs.ServerHalf.{Answering, Asks, IsAccepted, IsFirstCause, IsRefused, IsServed, IsSound, Says, SaysLine, served_body}
@@ -21,7 +21,7 @@ use Rattle.dap_commands.specs.declared.status.Status.TheVariants.{Complete, Refu
 -- what `run` says of `answer`, over a shelf that tells these files
 pub run-says : (told : Told) (files : Files) (target : List ℕ) (a : Answering) (status : Status) → told ≡ Some files
     → AnswerSays told target (Appends a.puts.out a.puts.out_then) (AppendsFront a.puts.out a.puts.out_then) (SaysLine a.puts) status
-    → ((r : Result Text Cause) → MustResult told target r → ¬ (Rose a.shelf_faults a.shelf_faults_then) → ¬ (Rose a.puts.out_faults a.puts.out_faults_then) → status ≢ Memory → status ≡ status_for r)
+    → ((r : Result Text Cause) → MustResult told target r → ¬ (Rose a.shelf_faults a.shelf_faults_then) → ¬ (Rose a.puts.out_faults a.puts.out_faults_then) → status ≢ Memory → status ≡ status_of_result r)
     → Says target files a status
 run-says told files target a status is says comes = record {
   says = subst (λ (t : Told). AnswerSays t target (Appends a.puts.out a.puts.out_then) (AppendsFront a.puts.out a.puts.out_then) (SaysLine a.puts) status) is says;
@@ -42,7 +42,7 @@ run-accepted target query files s c a status says asks accepted sound =
     let complete = served.complete a status says sound in
     (complete, served.put a (subst (λ (x : Status). Says target files a x) complete says))
 
-refused-so : (why : Cause) → (status_of why ≡ Refused) ⊎ (status_of why ≡ Damaged)
+refused-so : (why : Cause) → (status_of_cause why ≡ Refused) ⊎ (status_of_cause why ≡ Damaged)
 refused-so (causes.Damaged why) = inr refl
 refused-so (causes.Syntax place) = inl refl
 refused-so (causes.UnknownName spot) = inl refl
@@ -73,10 +73,10 @@ either-status status other is (inl refused) = inl (is ∙ refused)
 either-status status other is (inr damaged) = inr (is ∙ damaged)
 
 pub run-refused : (target query : List ℕ) (files : Files) (s : Stored) (why : Cause) (a : Answering) (status : Status) → Says target files a status → Asks target query files s → IsFirstCause query s why → IsSound a status
-    → (status ≡ status_of why) × Appends a.puts.out a.puts.out_then (error_object why)
+    → (status ≡ status_of_cause why) × Appends a.puts.out a.puts.out_then (error_object why)
 run-refused target query files s why a status says asks first sound =
     let answered : IsRefused target files why = whole.refused target query files s why asks first in
-    answered.put a status (either-status status (status_of why) (answered.refused a status says sound) (refused-so why)) says
+    answered.put a status (either-status status (status_of_cause why) (answered.refused a status says sound) (refused-so why)) says
 
 pub run-shown : (s : Showing) (status : Status) (r : Response) → Shows s status → s.left ≡ Some r.bytes → IsResponse r → ¬ (Rose s.take_faults s.take_faults_then) → ¬ (Rose s.puts.out_faults s.puts.out_faults_then) → status ≢ Memory
     → (status ≡ Complete) × Appends s.puts.out s.puts.out_then (text_of r)

@@ -9,14 +9,14 @@ use Rattle.netcdf_writer.specs.declared.stored.Stored.{Stored}
 use Rattle.netcdf_writer.specs.declared.stored.Stored.TheVariants as stored
 use Rattle.dap_commands.proofs.Fetching.{answer-named, no-save, no-save-url, no-words, soak-named, some-or-none}
 use Rattle.dap_commands.specs.Lines.{line_of}
-use Rattle.dap_commands.specs.Save.{SaveSays, SaysWhy, status_of}
+use Rattle.dap_commands.specs.Save.{SaveSays, SavedLine, status_of_stored}
 use Rattle.dap_commands.specs.Words.{AreAnswer, AreSaveUrl, AreSoak, HaveSaveForm, IsCommand, IsFetch, IsSave, IsSaveUrl}
 use Rattle.dap_commands.specs.declared.status.Status.{Status}
 use Rattle.dap_commands.specs.declared.status.Status.TheVariants.{BadReply, ServerError, ReadFault, WriteFault, LinkFault, Memory}
 
 -- ---- a status and its answer
 
-read_answer : (s : Stored) → status_of s ≡ ReadFault → s ≡ stored.ReadFault
+read_answer : (s : Stored) → status_of_stored s ≡ ReadFault → s ≡ stored.ReadFault
 read_answer (stored.Written bytes) is = cc is
 read_answer (stored.Unsavable member why) is = cc is
 read_answer stored.BodyTooLarge is = cc is
@@ -28,7 +28,7 @@ read_answer stored.WriteFault is = cc is
 read_answer stored.LinkFault is = cc is
 read_answer stored.Memory is = cc is
 
-write_answer : (s : Stored) → status_of s ≡ WriteFault → s ≡ stored.WriteFault
+write_answer : (s : Stored) → status_of_stored s ≡ WriteFault → s ≡ stored.WriteFault
 write_answer (stored.Written bytes) is = cc is
 write_answer (stored.Unsavable member why) is = cc is
 write_answer stored.BodyTooLarge is = cc is
@@ -40,7 +40,7 @@ write_answer stored.WriteFault is = refl
 write_answer stored.LinkFault is = cc is
 write_answer stored.Memory is = cc is
 
-link_answer : (s : Stored) → status_of s ≡ LinkFault → s ≡ stored.LinkFault
+link_answer : (s : Stored) → status_of_stored s ≡ LinkFault → s ≡ stored.LinkFault
 link_answer (stored.Written bytes) is = cc is
 link_answer (stored.Unsavable member why) is = cc is
 link_answer stored.BodyTooLarge is = cc is
@@ -52,27 +52,27 @@ link_answer stored.WriteFault is = cc is
 link_answer stored.LinkFault is = refl
 link_answer stored.Memory is = cc is
 
-pub read-fault : (P : Type 0) (s : Stored) (status : Status) → status ≡ status_of s → OnReadFault P s → status ≡ ReadFault → P
+pub read-fault : (P : Type 0) (s : Stored) (status : Status) → status ≡ status_of_stored s → OnReadFault P s → status ≡ ReadFault → P
 read-fault P s status told on is = subst (OnReadFault P) (read_answer s (sym told ∙ is)) on
 
-pub write-fault : (P : Type 0) (s : Stored) (status : Status) → status ≡ status_of s → OnWriteFault P s → status ≡ WriteFault → P
+pub write-fault : (P : Type 0) (s : Stored) (status : Status) → status ≡ status_of_stored s → OnWriteFault P s → status ≡ WriteFault → P
 write-fault P s status told on is = subst (OnWriteFault P) (write_answer s (sym told ∙ is)) on
 
-pub no-link : (s : Stored) (status : Status) → status ≡ status_of s → OnLinkFault ⊥ s → status ≡ LinkFault → ⊥
+pub no-link : (s : Stored) (status : Status) → status ≡ status_of_stored s → OnLinkFault ⊥ s → status ≡ LinkFault → ⊥
 no-link s status told on is = subst (OnLinkFault ⊥) (link_answer s (sym told ∙ is)) on
 
-pub link-fault : (P : Type 0) (s : Stored) (status : Status) → status ≡ status_of s → (s ≡ stored.LinkFault → P) → status ≡ LinkFault → P
+pub link-fault : (P : Type 0) (s : Stored) (status : Status) → status ≡ status_of_stored s → (s ≡ stored.LinkFault → P) → status ≡ LinkFault → P
 link-fault P s status told on is = on (link_answer s (sym told ∙ is))
 
 -- with another status comes another answer
-pub other-read : (s : Stored) (status : Status) → status ≡ status_of s → status ≢ ReadFault → ¬ (s ≡ stored.ReadFault)
-other-read s status told other is = other (told ∙ ap status_of is)
+pub other-read : (s : Stored) (status : Status) → status ≡ status_of_stored s → status ≢ ReadFault → ¬ (s ≡ stored.ReadFault)
+other-read s status told other is = other (told ∙ ap status_of_stored is)
 
-pub other-write : (s : Stored) (status : Status) → status ≡ status_of s → status ≢ WriteFault → ¬ (s ≡ stored.WriteFault)
-other-write s status told other is = other (told ∙ ap status_of is)
+pub other-write : (s : Stored) (status : Status) → status ≡ status_of_stored s → status ≢ WriteFault → ¬ (s ≡ stored.WriteFault)
+other-write s status told other is = other (told ∙ ap status_of_stored is)
 
-pub other-link : (s : Stored) (status : Status) → status ≡ status_of s → status ≢ LinkFault → ¬ (s ≡ stored.LinkFault)
-other-link s status told other is = other (told ∙ ap status_of is)
+pub other-link : (s : Stored) (status : Status) → status ≡ status_of_stored s → status ≢ LinkFault → ¬ (s ≡ stored.LinkFault)
+other-link s status told other is = other (told ∙ ap status_of_stored is)
 
 -- ---- what is said of a URL
 
@@ -85,7 +85,7 @@ saves-as state u ce heard a b before now s same says = subst (λ (l : List ℕ).
 
 -- ---- another line, where the status has no line of its own
 
-why-other : (s : Stored) (status : Status) (Line Other : List ℕ → Type 0) → status ≡ status_of s → (line_of status ≡ None → (l : List ℕ) → Line l → Other l) → SaysWhy s Line → SaysWhy s Other
+why-other : (s : Stored) (status : Status) (Line Other : List ℕ → Type 0) → status ≡ status_of_stored s → (line_of status ≡ None → (l : List ℕ) → Line l → Other l) → SavedLine s Line → SavedLine s Other
 why-other (stored.Unsavable member why) status Line Other is pass says = pass (ap line_of is) _ says
 why-other stored.BodyTooLarge status Line Other is pass says = pass (ap line_of is) _ says
 why-other stored.HeaderTooLong status Line Other is pass says = pass (ap line_of is) _ says

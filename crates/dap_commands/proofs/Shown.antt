@@ -11,7 +11,7 @@ use Rattle.dap_client.specs.Shows.{Gains, IsWrongTaken, Takes}
 use Rattle.dap_client.specs.Verdict.{Verdict, IsVerdict, bad, dods_form, good, good_das, good_dds, server_error}
 use Rattle.dap_client.specs.declared.outcome.Outcome.TheVariants as outcome
 use Rattle.dap_commands.specs.Lines.{bad_reply_line, line_of, server_error_line}
-use Rattle.dap_commands.specs.Show.{IsFor, ShowSays, status_for}
+use Rattle.dap_commands.specs.Show.{IsFor, ShowSays, status_of_verdict}
 use Rattle.dap_commands.specs.declared.status.Status.{Status}
 use Rattle.dap_commands.specs.declared.status.Status.TheVariants.{Complete, Words, Unsaved, Refused, Damaged, BadReply, ServerError, ReadFault, WriteFault, LinkFault, Memory}
 
@@ -68,7 +68,7 @@ another_show_line left now Ended AtEnd old new Line Other Damaged pass says = sa
 another_show_line left now Ended AtEnd old new Line Other LinkFault pass says = says
 
 -- no fault, and memory was had
-pub told_status : (v : Verdict) (status : Status) (Read Write : Type 0) → (status ≡ ReadFault → Read) → (status ≡ WriteFault → Write) → ¬ Read → ¬ Write → status ≢ Memory → IsFor v status → status ≡ status_for v
+pub told_status : (v : Verdict) (status : Status) (Read Write : Type 0) → (status ≡ ReadFault → Read) → (status ≡ WriteFault → Write) → ¬ Read → ¬ Write → status ≢ Memory → IsFor v status → status ≡ status_of_verdict v
 told_status v Complete Read Write read write still quiet had is = is
 told_status v Words Read Write read write still quiet had is = is
 told_status v Unsaved Read Write read write still quiet had is = is

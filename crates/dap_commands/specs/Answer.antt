@@ -28,35 +28,35 @@ abbrev pub MustResult : Told → List ℕ → Result Text Cause → Type 0
 MustResult told target r = (files : Files) → MayHave told files → ResultsAmong told target files r
 
 -- a cause in a file, or another one
-abbrev pub status_of : Cause → Status
-status_of (causes.Damaged why) = Damaged
-status_of (causes.Syntax place) = Refused
-status_of (causes.UnknownName spot) = Refused
-status_of (causes.NotArray spot) = Refused
-status_of (causes.SlabCount spot) = Refused
-status_of (causes.BadSlab spot) = Refused
-status_of (causes.TwoSlabs spot) = Refused
-status_of (causes.TooMany spot) = Refused
-status_of (causes.NotColumn spot) = Refused
-status_of (causes.TypeMismatch spot) = Refused
-status_of (causes.FloatCompared spot) = Refused
-status_of (causes.Unsupported spot) = Refused
-status_of (causes.BigNumber spot) = Refused
-status_of (causes.TooLarge leaf) = Refused
-status_of causes.BadTarget = Refused
-status_of causes.NoFile = Refused
-status_of causes.BadMethod = Refused
-status_of causes.BadRequest = Refused
-status_of causes.HeadTooLong = Refused
-status_of causes.ReadFailed = Refused
-status_of causes.OutOfMemory = Refused
-status_of (causes.UpstreamBad place) = Refused
-status_of causes.UpstreamFault = Refused
-status_of causes.UpstreamLarge = Refused
+abbrev pub status_of_cause : Cause → Status
+status_of_cause (causes.Damaged why) = Damaged
+status_of_cause (causes.Syntax place) = Refused
+status_of_cause (causes.UnknownName spot) = Refused
+status_of_cause (causes.NotArray spot) = Refused
+status_of_cause (causes.SlabCount spot) = Refused
+status_of_cause (causes.BadSlab spot) = Refused
+status_of_cause (causes.TwoSlabs spot) = Refused
+status_of_cause (causes.TooMany spot) = Refused
+status_of_cause (causes.NotColumn spot) = Refused
+status_of_cause (causes.TypeMismatch spot) = Refused
+status_of_cause (causes.FloatCompared spot) = Refused
+status_of_cause (causes.Unsupported spot) = Refused
+status_of_cause (causes.BigNumber spot) = Refused
+status_of_cause (causes.TooLarge leaf) = Refused
+status_of_cause causes.BadTarget = Refused
+status_of_cause causes.NoFile = Refused
+status_of_cause causes.BadMethod = Refused
+status_of_cause causes.BadRequest = Refused
+status_of_cause causes.HeadTooLong = Refused
+status_of_cause causes.ReadFailed = Refused
+status_of_cause causes.OutOfMemory = Refused
+status_of_cause (causes.UpstreamBad place) = Refused
+status_of_cause causes.UpstreamFault = Refused
+status_of_cause causes.UpstreamLarge = Refused
 
-abbrev pub status_for : Result Text Cause → Status
-status_for (Ok t) = Complete
-status_for (Err cause) = status_of cause
+abbrev pub status_of_result : Result Text Cause → Status
+status_of_result (Ok t) = Complete
+status_of_result (Err cause) = status_of_cause cause
 
 -- the target looks for a file
 abbrev pub looks_up : List ℕ → Bool
@@ -84,7 +84,7 @@ WhereKnown None target (Ok t) P = is_read_late target ≡ false → P
 abbrev pub AnswerSays : Told → List ℕ → (List ℕ → Type 0) → (List ℕ → Type 0) → (List ℕ → Type 0) → Status → Type 0
 AnswerSays told target Out Front Line Complete = (t : Text) × MayResult told target (Ok t) × WhereKnown told target (Ok t) (Out t.text)
 AnswerSays told target Out Front Line Refused =
-    (cause : Cause) × MayResult told target (Err cause) × (status_of cause ≡ Refused) × Out (error_object cause) × Line (refused_line (message_text cause))
+    (cause : Cause) × MayResult told target (Err cause) × (status_of_cause cause ≡ Refused) × Out (error_object cause) × Line (refused_line (message_text cause))
 AnswerSays told target Out Front Line Damaged =
     (why : FileCause) × MayResult told target (Err (causes.Damaged why)) × Out (error_object (causes.Damaged why)) × Line (damaged_line (message_text (causes.Damaged why)))
 AnswerSays told target Out Front Line ReadFault =

@@ -18,7 +18,7 @@ use Rattle.dap_client.specs.Verdict.{Verdict, IsVerdict, dods_form}
 use Rattle.dap_commands.specs.Fetch.{FetchSays}
 use Rattle.dap_commands.specs.Lines.{bad_reply_line}
 use Rattle.dap_commands.specs.ServerHalf.{Puts, SaysLine}
-use Rattle.dap_commands.specs.Show.{ShowSays, status_for}
+use Rattle.dap_commands.specs.Show.{ShowSays, status_of_verdict}
 use Rattle.dap_commands.specs.declared.status.Status.{Status}
 use Rattle.dap_commands.specs.declared.status.Status.TheVariants.{BadReply, Complete, Memory}
 
@@ -61,7 +61,7 @@ pub record Showing : Type 0 where
 pub record Shows (s : Showing) (status : Status) : Type 0 where
   pub says : ShowSays s.left s.left_then (IsTrue s.is_ended_then) (IsAtEnd s.left_then) s.puts.out s.puts.out_then (SaysLine s.puts) status
   pub comes : (body : List ℕ) (v : Verdict) → s.left ≡ Some body → IsVerdict dods_form body v → ¬ (Rose s.take_faults s.take_faults_then) → ¬ (Rose s.puts.out_faults s.puts.out_faults_then)
-      → status ≢ Memory → status ≡ status_for v
+      → status ≢ Memory → status ≡ status_of_verdict v
 
 -- It is complete, but for faults and want of memory; and wherever it is, it put this text and nothing else, and
 -- nothing of its input is left.

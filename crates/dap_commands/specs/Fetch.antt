@@ -13,22 +13,22 @@ use Rattle.dap_commands.specs.declared.status.Status.{Status}
 use Rattle.dap_commands.specs.declared.status.Status.TheVariants.{Complete, BadReply, ServerError, ReadFault, WriteFault, LinkFault, Memory}
 
 -- the status for the last outcome
-abbrev pub status_of : Outcome → Status
-status_of (outcomes.Complete bytes) = Complete
-status_of (outcomes.ServerError code message) = ServerError
-status_of (outcomes.BadReply field) = BadReply
-status_of outcomes.ReadFault = ReadFault
-status_of outcomes.WriteFault = WriteFault
-status_of outcomes.LinkFault = LinkFault
-status_of outcomes.Memory = Memory
+abbrev pub status_of_outcome : Outcome → Status
+status_of_outcome (outcomes.Complete bytes) = Complete
+status_of_outcome (outcomes.ServerError code message) = ServerError
+status_of_outcome (outcomes.BadReply field) = BadReply
+status_of_outcome outcomes.ReadFault = ReadFault
+status_of_outcome outcomes.WriteFault = WriteFault
+status_of_outcome outcomes.LinkFault = LinkFault
+status_of_outcome outcomes.Memory = Memory
 
 -- the line that says what is wrong, where the outcome does
-abbrev pub SaysWhy : Outcome → (List ℕ → Type 0) → Type 0
-SaysWhy (outcomes.ServerError code message) Line = Line (server_error_line (signed_decimal code) message)
-SaysWhy (outcomes.BadReply field) Line = Line (bad_reply_line field)
-SaysWhy outcome Line = ⊤
+abbrev pub FetchedLine : Outcome → (List ℕ → Type 0) → Type 0
+FetchedLine (outcomes.ServerError code message) Line = Line (server_error_line (signed_decimal code) message)
+FetchedLine (outcomes.BadReply field) Line = Line (bad_reply_line field)
+FetchedLine outcome Line = ⊤
 
 -- the replies of a URL for these constraints, as `fetch_all` reads them, and the last of them as a status and a line
 abbrev pub FetchSays : {W : Type 0} → (W → LinkState) → UrlParts → Kind → List (List ℕ) → DialState W → DialState W → SinkState → SinkState → (List ℕ → Type 0) → Status → Type 0
 FetchSays state u kind ces a b before now Line status =
-    (fetched : Fetched) × Fetches state u kind ces a b before now fetched × (status ≡ status_of fetched.last) × SaysWhy fetched.last Line
+    (fetched : Fetched) × Fetches state u kind ces a b before now fetched × (status ≡ status_of_outcome fetched.last) × FetchedLine fetched.last Line

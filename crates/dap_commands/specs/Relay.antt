@@ -21,11 +21,11 @@ use Rattle.dap_commands.specs.declared.status.Status.TheVariants.{Complete, Word
 -- ---- The line of a link.
 
 -- the status of the reply, or why there is none
-abbrev pub ending_name : Relayed → List ℕ
-ending_name (endings.Replied status kept) = decimal status
-ending_name endings.Gone = codes "gone"
-ending_name endings.ReadFault = codes "read fault"
-ending_name endings.WriteFault = codes "write fault"
+abbrev pub relayed_name : Relayed → List ℕ
+relayed_name (endings.Replied status kept) = decimal status
+relayed_name endings.Gone = codes "gone"
+relayed_name endings.ReadFault = codes "read fault"
+relayed_name endings.WriteFault = codes "write fault"
 
 -- whether a reply came out of the cache
 abbrev pub source_name : Relayed → List ℕ
@@ -37,7 +37,7 @@ source_name endings.WriteFault = []
 
 -- connection K STATUS hit
 abbrev pub relay_line : ℕ → Relayed → List ℕ
-relay_line k relayed = codes "connection " ++ (decimal k ++ (codes " " ++ (ending_name relayed ++ (source_name relayed ++ codes "\n"))))
+relay_line k relayed = codes "connection " ++ (decimal k ++ (codes " " ++ (relayed_name relayed ++ (source_name relayed ++ codes "\n"))))
 
 -- ---- Faults of the other server.
 
@@ -200,7 +200,7 @@ RelaySays requests came lines Out Front ReadFault = ⊥
 RelaySays requests came lines Out Front ServerError = ⊥
 
 -- the links that came back to a door, a dial, and what the output has
-pub record Standing (V C : Type 0) : Type 0 where
+pub record RelayStanding (V C : Type 0) : Type 0 where
   pub back : Option (List V)
   pub dial : C
   pub written : Option (List ℕ)
@@ -208,7 +208,7 @@ pub record Standing (V C : Type 0) : Type 0 where
 -- These links came back to the door, in order, the first of so many that were asked for being link k and finding
 -- these pairs in the cache, and a line was put for each. Where the bodies in the cache that the first found are those of
 -- the last replies to their requests, they are so for each.
-pub record RelaysFrom {V W C : Type 0} (g : Gateway V W C) (k requests : ℕ) (pairs : List (List ℕ × List ℕ)) (a b : Standing V C) (relays : List (RelayedLink V W C)) (status : Status) : Type 0 where
+pub record RelaysFrom {V W C : Type 0} (g : Gateway V W C) (k requests : ℕ) (pairs : List (List ℕ × List ℕ)) (a b : RelayStanding V C) (relays : List (RelayedLink V W C)) (status : Status) : Type 0 where
   pub back : b.back ≡ option_map (λ links. links ++ map (λ r. r.back) relays) a.back
   pub relayed : All (IsRelayed g) relays
   pub follow : Follow g a.dial pairs relays b.dial
@@ -219,7 +219,7 @@ pub record RelaysFrom {V W C : Type 0} (g : Gateway V W C) (k requests : ℕ) (p
 
 -- From the first on, with the empty cache. Where equal requests got equal replies, each link is answered as it would be
 -- without the cache.
-pub record Relays {V W C : Type 0} (g : Gateway V W C) (requests : ℕ) (a b : Standing V C) (relays : List (RelayedLink V W C)) (status : Status) : Type 0 where
+pub record Relays {V W C : Type 0} (g : Gateway V W C) (requests : ℕ) (a b : RelayStanding V C) (relays : List (RelayedLink V W C)) (status : Status) : Type 0 where
   pub all : RelaysFrom g 1 requests [] a b relays status
   pub backed : TellsWritten g → All (IsBacked g) relays
   pub alike : TellsWritten g → (exchanges : List Exchange) → history_of g b.dial ≡ Some exchanges → IsSteady exchanges → All (IsAnsweredAlike g exchanges) relays

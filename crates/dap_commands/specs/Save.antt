@@ -30,27 +30,27 @@ abbrev pub member_line : List ℕ → Why → List ℕ
 member_line member why = reason_line member (why_text why)
 
 -- the status for how a saving ended
-abbrev pub status_of : Stored → Status
-status_of (stored.Written bytes) = Complete
-status_of (stored.Unsavable member why) = Unsaved
-status_of stored.BodyTooLarge = Unsaved
-status_of stored.HeaderTooLong = Unsaved
-status_of (stored.ServerError code message) = ServerError
-status_of (stored.BadReply field) = BadReply
-status_of stored.ReadFault = ReadFault
-status_of stored.WriteFault = WriteFault
-status_of stored.LinkFault = LinkFault
-status_of stored.Memory = Memory
+abbrev pub status_of_stored : Stored → Status
+status_of_stored (stored.Written bytes) = Complete
+status_of_stored (stored.Unsavable member why) = Unsaved
+status_of_stored stored.BodyTooLarge = Unsaved
+status_of_stored stored.HeaderTooLong = Unsaved
+status_of_stored (stored.ServerError code message) = ServerError
+status_of_stored (stored.BadReply field) = BadReply
+status_of_stored stored.ReadFault = ReadFault
+status_of_stored stored.WriteFault = WriteFault
+status_of_stored stored.LinkFault = LinkFault
+status_of_stored stored.Memory = Memory
 
 -- and its line, where that is not the line of the status
-abbrev pub SaysWhy : Stored → (List ℕ → Type 0) → Type 0
-SaysWhy (stored.Unsavable member why) Line = Line (member_line (decimal member) why)
-SaysWhy stored.BodyTooLarge Line = Line (unsaved_line (codes "body too large"))
-SaysWhy stored.HeaderTooLong Line = Line (unsaved_line (codes "header too long"))
-SaysWhy (stored.ServerError code message) Line = Line (server_error_line (signed_decimal code) message)
-SaysWhy (stored.BadReply field) Line = Line (bad_reply_line field)
-SaysWhy answer Line = ⊤
+abbrev pub SavedLine : Stored → (List ℕ → Type 0) → Type 0
+SavedLine (stored.Unsavable member why) Line = Line (member_line (decimal member) why)
+SavedLine stored.BodyTooLarge Line = Line (unsaved_line (codes "body too large"))
+SavedLine stored.HeaderTooLong Line = Line (unsaved_line (codes "header too long"))
+SavedLine (stored.ServerError code message) Line = Line (server_error_line (signed_decimal code) message)
+SavedLine (stored.BadReply field) Line = Line (bad_reply_line field)
+SavedLine answer Line = ⊤
 
 -- some answer is so of what came in and of the output, and the status and the line are those for it
 abbrev pub SaveSays : (Stored → Type 0) → (List ℕ → Type 0) → Status → Type 0
-SaveSays Saves Line status = (answer : Stored) × Saves answer × (status ≡ status_of answer) × SaysWhy answer Line
+SaveSays Saves Line status = (answer : Stored) × Saves answer × (status ≡ status_of_stored answer) × SavedLine answer Line

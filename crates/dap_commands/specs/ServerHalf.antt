@@ -28,7 +28,7 @@ use Rattle.dap_server.specs.Replies.{IsRequestAnswered, Turn, replies, reply_of,
 use Rattle.dap_server.specs.Results.{Opens, Results, Text, error_object, left_of, result_text}
 use Rattle.dap_server.specs.declared.served.Served.{Served}
 use Rattle.both_ends.specs.Ends.{reply_behind}
-use Rattle.dap_commands.specs.Answer.{AnswerSays, MustResult, status_for, status_of}
+use Rattle.dap_commands.specs.Answer.{AnswerSays, MustResult, status_of_result, status_of_cause}
 use Rattle.dap_commands.specs.Causes.{IsCause}
 use Rattle.dap_commands.specs.Lines.{IsSaid}
 use Rattle.dap_commands.specs.declared.status.Status.{Status}
@@ -91,7 +91,7 @@ IsSound a status = ¬ (Rose a.shelf_faults a.shelf_faults_then) × ¬ (Rose a.pu
 -- the clauses `answer` and `answered` of `run` for this target, over a shelf that tells these files
 pub record Says (target : List ℕ) (files : Files) (a : Answering) (status : Status) : Type 0 where
   pub says : AnswerSays (Some files) target (Appends a.puts.out a.puts.out_then) (AppendsFront a.puts.out a.puts.out_then) (SaysLine a.puts) status
-  pub comes : (r : Result Text Cause) → MustResult (Some files) target r → ¬ (Rose a.shelf_faults a.shelf_faults_then) → ¬ (Rose a.puts.out_faults a.puts.out_faults_then) → status ≢ Memory → status ≡ status_for r
+  pub comes : (r : Result Text Cause) → MustResult (Some files) target r → ¬ (Rose a.shelf_faults a.shelf_faults_then) → ¬ (Rose a.puts.out_faults a.puts.out_faults_then) → status ≢ Memory → status ≡ status_of_result r
 
 -- ---- On a connection.
 
@@ -133,8 +133,8 @@ pub record IsServed (target : List ℕ) (files : Files) (body : List ℕ) : Type
 -- this one; the reply to GET carries that, and on every connection GET is answered by it.
 pub record IsRefused (target : List ℕ) (files : Files) (why : Cause) : Type 0 where
   pub has : HasResult target files (Err why)
-  pub refused : (a : Answering) (status : Status) → Says target files a status → IsSound a status → status ≡ status_of why
+  pub refused : (a : Answering) (status : Status) → Says target files a status → IsSound a status → status ≡ status_of_cause why
   pub never : (a : Answering) → Says target files a Complete → ⊥
-  pub put : (a : Answering) (status : Status) → (status ≡ Refused) ⊎ (status ≡ Damaged) → Says target files a status → (status ≡ status_of why) × Appends a.puts.out a.puts.out_then (error_object why)
+  pub put : (a : Answering) (status : Status) → (status ≡ Refused) ⊎ (status ≡ Damaged) → Says target files a status → (status ≡ status_of_cause why) × Appends a.puts.out a.puts.out_then (error_object why)
   pub carried : (k : ℕ) (head : RequestHead) → head.method ≡ codes "GET" → IsCause why → Carries (reply_of (request k head) (Err why)) (error_object why)
   pub answered : AnswersGet target files (Err why)

@@ -16,19 +16,19 @@ use Rattle.dap_commands.specs.declared.status.Status.{Status}
 use Rattle.dap_commands.specs.declared.status.Status.TheVariants.{Complete, Words, Unsaved, Refused, Damaged, BadReply, ServerError, ReadFault, WriteFault, LinkFault, Memory}
 
 -- the status for a verdict
-abbrev pub status_for : Verdict → Status
-status_for (good d ts) = Complete
-status_for (good_dds d) = Complete
-status_for (good_das a) = Complete
-status_for (server_error e) = ServerError
-status_for (bad kind place) = BadReply
+abbrev pub status_of_verdict : Verdict → Status
+status_of_verdict (good d ts) = Complete
+status_of_verdict (good_dds d) = Complete
+status_of_verdict (good_das a) = Complete
+status_of_verdict (server_error e) = ServerError
+status_of_verdict (bad kind place) = BadReply
 
 -- nothing but a fault, or want of memory, comes in its place
 abbrev pub IsFor : Verdict → Status → Type 0
 IsFor v ReadFault = ⊤
 IsFor v WriteFault = ⊤
 IsFor v Memory = ⊤
-IsFor v status = status ≡ status_for v
+IsFor v status = status ≡ status_of_verdict v
 
 -- By the status, of the bytes that the input had left and has left now, of whether its end mark stands and
 -- nothing is left, of what the output gained, and of the line that says what is wrong.

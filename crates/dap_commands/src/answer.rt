@@ -14,7 +14,7 @@ ghost use Rattle.join_source.specs.Bodies as join;
 ghost use Rattle.join_source.specs.Pieces.{AreTold};
 ghost use Rattle.saved_source.specs.Bodies.{Sends};
 ghost use Rattle.xdr_encode.specs.Streamed.{Stops};
-ghost use Rattle.dap_commands.specs.Answer.{AnswerSays, HasNoText, MayAskFor, MayHaveAsked, MustResult, looks_up, most_before, status_for, status_of};
+ghost use Rattle.dap_commands.specs.Answer.{AnswerSays, HasNoText, MayAskFor, MayHaveAsked, MustResult, looks_up, most_before, status_of_result, status_of_cause};
 ghost use Rattle.dap_commands.specs.Lines.{IsSaid};
 ghost use Rattle.dap_commands.specs.inner.Puts.{BodyPut, IsPut, RefusalPut, TextPut, status_start};
 
@@ -126,8 +126,8 @@ fn put_saved<O: Sink>(mut body: SavedBody, out: &mut O) -> Status
 }
 
 /// The status for a cause, and what its line begins with.
-fn status_of(cause: &Cause) -> (Status, &'static [u8])
-    ensures status { result.0 ≡ status_of cause.now }
+fn status_of_cause(cause: &Cause) -> (Status, &'static [u8])
+    ensures status { result.0 ≡ status_of_cause cause.now }
     ensures start { result.1.now ≡ status_start cause.now }
 {
     match cause {
@@ -154,7 +154,7 @@ fn put_cause<O: Sink, E: Sink>(alloc: Global, cause: &Cause, out: &mut O, err: &
     };
     match put_all(out, text.bytes()) {
         Ok(()) => {
-            let (status, start) = status_of(cause);
+            let (status, start) = status_of_cause(cause);
             say_cause(err, start, message.bytes());
             status
         }
@@ -179,7 +179,7 @@ fn answer_asked<R: Threads + Sync, S: Shelf, O: Sink, E: Sink>(
     ensures says { AnswerSays (S.files shelf.old) target.now (Appends (O.written out.old) (O.written out.new)) (AppendsFront (O.written out.old) (O.written out.new))
         (λ line. IsSaid line (E.put_faults err.old) (E.put_faults err.new) (E.written err.old) (E.written err.new)) result }
     ensures only { (r : Result Text Cause) → MustResult (S.files shelf.old) target.now r → ¬ (Rose (S.faults shelf.old) (S.faults shelf.new)) → ¬ (Rose (O.put_faults out.old) (O.put_faults out.new))
-        → result ≢ Status.Memory → result ≡ status_for r }
+        → result ≢ Status.Memory → result ≡ status_of_result r }
     ensures asked { (most : ℕ) × MayAskFor (S.files shelf.old) target.now most × (S.asked shelf.new ≤ S.asked shelf.old + most) }
     ensures asked_first { HasNoText result → S.asked shelf.new ≤ S.asked shelf.old + most_before (S.files shelf.old) target.now }
     ensures asked_then { IsSome (S.files shelf.old) → result ≡ Status.WriteFault → MayHaveAsked (S.files shelf.old) target.now (O.written out.old) (O.written out.new) (S.asked shelf.old) (S.asked shelf.new) }
@@ -220,7 +220,7 @@ pub fn answer<R: Threads + Sync, S: Shelf, O: Sink, E: Sink>(
     ensures says { AnswerSays (S.files shelf.old) target.now (Appends (O.written out.old) (O.written out.new)) (AppendsFront (O.written out.old) (O.written out.new))
         (λ line. IsSaid line (E.put_faults err.old) (E.put_faults err.new) (E.written err.old) (E.written err.new)) result }
     ensures only { (r : Result Text Cause) → MustResult (S.files shelf.old) target.now r → ¬ (Rose (S.faults shelf.old) (S.faults shelf.new)) → ¬ (Rose (O.put_faults out.old) (O.put_faults out.new))
-        → result ≢ Status.Memory → result ≡ status_for r }
+        → result ≢ Status.Memory → result ≡ status_of_result r }
     ensures asked { (most : ℕ) × MayAskFor (S.files shelf.old) target.now most × (S.asked shelf.new ≤ S.asked shelf.old + most) }
     ensures asked_first { HasNoText result → S.asked shelf.new ≤ S.asked shelf.old + most_before (S.files shelf.old) target.now }
     ensures asked_then { IsSome (S.files shelf.old) → result ≡ Status.WriteFault → MayHaveAsked (S.files shelf.old) target.now (O.written out.old) (O.written out.new) (S.asked shelf.old) (S.asked shelf.new) }

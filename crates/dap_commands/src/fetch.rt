@@ -5,7 +5,7 @@ ghost use Rattle.dap_outside.specs.Causes.{Rose};
 ghost use Rattle.dap_http.specs.Urls.{UrlParts, url_of};
 ghost use Rattle.dap_http.specs.declared.kind.Kind.TheVariants.{Ver};
 ghost use Rattle.dap_client.specs.Fetched.{IsUrl, link_state, parts_of};
-ghost use Rattle.dap_commands.specs.Fetch.{FetchSays, SaysWhy, status_of};
+ghost use Rattle.dap_commands.specs.Fetch.{FetchSays, FetchedLine, status_of_outcome};
 ghost use Rattle.dap_commands.specs.Lines.{IsSaid};
 
 use crate::lines::{say_bad_reply, say_server_error};
@@ -36,8 +36,8 @@ fn code_of(code: &i32) -> i32
 
 /// The status for an outcome. What an Error object says, and what is wrong with a reply, goes to `err`.
 fn told<E: Sink>(err: &mut E, last: &Outcome) -> Status
-    ensures status { result ≡ status_of last.now }
-    ensures line { SaysWhy last.now (λ line. IsSaid line (E.put_faults err.old) (E.put_faults err.new) (E.written err.old) (E.written err.new)) }
+    ensures status { result ≡ status_of_outcome last.now }
+    ensures line { FetchedLine last.now (λ line. IsSaid line (E.put_faults err.old) (E.put_faults err.new) (E.written err.old) (E.written err.new)) }
     ensures quiet { result ≢ Status.BadReply → result ≢ Status.ServerError → err.new ≡ err.old }
     ensures beside { E.beside_writing err.new ≡ E.beside_writing err.old }
 {

@@ -7,7 +7,7 @@ ghost use Rattle.dap_outside.specs.Streams.{AppendsFront};
 ghost use Rattle.dap_http.specs.Urls.{is_host};
 ghost use Rattle.dap_gateway.specs.Backed.{AreBacked};
 ghost use Rattle.dap_gateway.specs.Pairs.{pairs, room_of};
-ghost use Rattle.dap_commands.specs.Relay.{IsRelayed, RelayedLink, Relays, RelaysFrom, TellsWritten, ending_name, history_of, relay_line, source_name};
+ghost use Rattle.dap_commands.specs.Relay.{IsRelayed, RelayedLink, Relays, RelaysFrom, TellsWritten, relayed_name, history_of, relay_line, source_name};
 ghost use Rattle.dap_client.specs.Fetched.{link_state};
 
 use crate::lines::put_each;
@@ -18,8 +18,8 @@ use dap_types::Memory;
 use std::alloc::Global;
 
 /// How a line names the status of a reply, or why there is none.
-fn ending_name(relayed: Relayed, digits: &mut itoa::Buffer) -> &str
-    ensures { result.now ≡ ending_name relayed }
+fn relayed_name(relayed: Relayed, digits: &mut itoa::Buffer) -> &str
+    ensures { result.now ≡ relayed_name relayed }
 {
     match relayed {
         Relayed::Replied { status, .. } => digits.format(status),
@@ -50,7 +50,7 @@ fn put_line<O: Sink>(out: &mut O, number: u32, relayed: Relayed) -> Result<(), F
     let mut digits = itoa::Buffer::new();
     let mut status_digits = itoa::Buffer::new();
     let number = digits.format(number).as_bytes();
-    let ending = ending_name(relayed, &mut status_digits).as_bytes();
+    let ending = relayed_name(relayed, &mut status_digits).as_bytes();
     let source = source_name(relayed).as_bytes();
     put_each(out, &[b"connection ", number, b" ", ending, source, b"\n"])
 }

@@ -10,7 +10,7 @@ ghost use Rattle.dap_http.specs.declared.kind.Kind.TheVariants.{Dods};
 ghost use Rattle.dap_outside.specs.Causes.{Rose};
 ghost use Rattle.dap_server.specs.Files.{Files, Stored};
 ghost use Rattle.dap_server.specs.Results.{error_object};
-ghost use Rattle.dap_commands.specs.Answer.{status_of};
+ghost use Rattle.dap_commands.specs.Answer.{status_of_cause};
 ghost use Rattle.dap_commands.specs.ClientHalf.{FetchesData, IsResponse, Response, Shows, text_of};
 ghost use Rattle.dap_commands.specs.ServerHalf.{Asks, IsAccepted, IsFirstCause, Says, served_body};
 ghost use Rattle.dap_commands.specs.Words.{AreAnswer, AreFetch, IsShow};
@@ -58,7 +58,7 @@ pub fn run_answer<R: Threads + Sync, S: Shelf, I: Source, O: Sink, E: Sink, D: D
         → (result ≡ Status.Complete) × Appends (O.written out.old) (O.written out.new) (served_body s c) }
     ensures refused { (target query : List ℕ) (workers : ℕ) (files : Files) (s : Stored) (why : Cause) → AreAnswer words.now target workers → S.files shelf.old ≡ Some files
         → Asks target query files s → IsFirstCause query s why → ¬ (Rose (S.faults shelf.old) (S.faults shelf.new)) → ¬ (Rose (O.put_faults out.old) (O.put_faults out.new)) → result ≢ Status.Memory
-        → (result ≡ status_of why) × Appends (O.written out.old) (O.written out.new) (error_object why) }
+        → (result ≡ status_of_cause why) × Appends (O.written out.old) (O.written out.new) (error_object why) }
 {
     run(rt, alloc, words, shelf, input, out, err, door, dial)
 }

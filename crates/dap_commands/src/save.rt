@@ -8,7 +8,7 @@ ghost use Rattle.dap_client.specs.Fetched.{IsUrl, link_state, parts_of};
 ghost use Rattle.netcdf_writer.specs.Fetching.{SavesUrl};
 ghost use Rattle.netcdf_writer.specs.Saving.{Saves};
 ghost use Rattle.dap_commands.specs.Lines.{IsSaid, server_error_line};
-ghost use Rattle.dap_commands.specs.Save.{SaveSays, SaysWhy, member_line, status_of};
+ghost use Rattle.dap_commands.specs.Save.{SaveSays, SavedLine, member_line, status_of_stored};
 
 use crate::lines::{say_bad_reply, say_member, say_server_error, say_unsaved};
 use crate::status::Status;
@@ -38,8 +38,8 @@ fn say_object<E: Sink>(err: &mut E, code: i32, message: &Bytes)
 
 /// The status for how a saving ended. What is wrong, and an Error object, goes to `err`.
 fn said<E: Sink>(stored: Stored, err: &mut E) -> Status
-    ensures status { result ≡ status_of stored }
-    ensures line { SaysWhy stored (λ line. IsSaid line (E.put_faults err.old) (E.put_faults err.new) (E.written err.old) (E.written err.new)) }
+    ensures status { result ≡ status_of_stored stored }
+    ensures line { SavedLine stored (λ line. IsSaid line (E.put_faults err.old) (E.put_faults err.new) (E.written err.old) (E.written err.new)) }
     ensures words { result ≢ Status.Words }
     ensures quiet { result ≢ Status.Unsaved → result ≢ Status.BadReply → result ≢ Status.ServerError → err.new ≡ err.old }
     ensures beside { E.beside_writing err.new ≡ E.beside_writing err.old }

@@ -18,7 +18,7 @@ ghost use Rattle.dap_commands.specs.Fetch.{FetchSays};
 ghost use Rattle.dap_commands.specs.Lines.{IsSaid, line_of};
 ghost use Rattle.dap_commands.specs.Relay.{RelayedLink, Relays};
 ghost use Rattle.dap_commands.specs.Save.{SaveSays};
-ghost use Rattle.dap_commands.specs.Show.{ShowSays, status_for};
+ghost use Rattle.dap_commands.specs.Show.{ShowSays, status_of_verdict};
 ghost use Rattle.dap_commands.specs.Soak.{SoakSays};
 ghost use Rattle.dap_commands.specs.Serve.{Serves, VerSays, Visit};
 ghost use Rattle.dap_commands.specs.Words.{AreAnswer, AreFetch, AreRelay, AreSaveUrl, AreServe, AreSoak, IsCommand, IsFetch, IsRelay, IsSave, IsSaveUrl, IsServe, IsShow, IsSoak, IsVer};
@@ -70,7 +70,7 @@ pub fn run<R: Threads + Sync, S: Shelf, I: Source, O: Sink, E: Sink, D: Door, C:
     // rose and memory was had.
     ensures answered { (target : List ℕ) (workers : ℕ) → AreAnswer words.now target workers → (r : Result Text Cause) → MustResult (S.files shelf.old) target r
         → ¬ (Rose (S.faults shelf.old) (S.faults shelf.new)) → ¬ (Rose (O.put_faults out.old) (O.put_faults out.new))
-        → result ≢ Status.Memory → result ≡ answers.status_for r }
+        → result ≢ Status.Memory → result ≡ answers.status_of_result r }
 
     // What is asked of the shelf for a target; where no text of it is put, and where the output failed.
     ensures answer_asks { (target : List ℕ) (workers : ℕ) → AreAnswer words.now target workers → (most : ℕ) × MayAskFor (S.files shelf.old) target most × (S.asked shelf.new ≤ S.asked shelf.old + most) }
@@ -113,7 +113,7 @@ pub fn run<R: Threads + Sync, S: Shelf, I: Source, O: Sink, E: Sink, D: Door, C:
         (λ line. IsSaid line (E.put_faults err.old) (E.put_faults err.new) (E.written err.old) (E.written err.new)) result }
     ensures shows { IsShow words.now → (body : List ℕ) (v : Verdict) → I.left input.old ≡ Some body → IsVerdict dods_form body v
         → ¬ (Rose (I.take_faults input.old) (I.take_faults input.new)) → ¬ (Rose (O.put_faults out.old) (O.put_faults out.new))
-        → result ≢ Status.Memory → result ≡ status_for v }
+        → result ≢ Status.Memory → result ≡ status_of_verdict v }
 
     // However `show` ends, no more bytes are taken than the first that no data response has.
     ensures most { IsShow words.now → Takes (I.left input.old) (I.left input.new) (λ taken. length taken ≤ body_limit) }

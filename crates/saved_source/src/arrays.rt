@@ -14,9 +14,10 @@ ghost use Rattle.xdr_encode.specs.Leaves.{counts_of, filler_of};
 
 use crate::cut::put_cut;
 use crate::elements::{behind, elements};
-use crate::value::{fill, padding, put_word, split};
+use crate::value::{fill, put_word, split};
 use dap_outside::{Buffer, Failed, Sink};
 use dap_types::{ArrayDecl, BaseType, Dim, Slab};
+use xdr_encode::padding;
 
 /// How many bytes the counts before the elements have: one count before strings, and else two.
 #[tactic(auto, unfolding(xdr_encode::specs::Leaves::counts_of))]

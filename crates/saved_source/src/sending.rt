@@ -1,4 +1,4 @@
-ghost use Rattle.std.specs.Prelude.{◌≡◌, ◌<◌, ◌≤◌, ◌+◌, ◌^◌, ◌++◌, ℕ, List, None, codes, length, IfOk, IfErr, IsOk, OnErr, OnOk};
+ghost use Rattle.std.specs.Prelude.{◌≡◌, ◌<◌, ◌≤◌, ℕ, List, None, length, IfOk, IfErr, IsOk, OnErr, OnOk};
 ghost use Rattle.std.specs.Io.KnownBytes.{Appends};
 ghost use Rattle.dap_model.specs.Body.{too_large};
 ghost use Rattle.dap_model.specs.Dds.{dds};
@@ -21,32 +21,24 @@ use crate::refusal::SavedBodyRefusal;
 use crate::saved::Saved;
 use constraint_parse::Constraint;
 use dap_outside::{Buffer, Failed, Sink};
-use dap_types::{Bytes, Dataset, Index, Memory, limits};
-use dds_text::print;
+use dap_types::{Bytes, Dataset, Index};
 use grid_projection::Marks;
 use sequence_select::Tests;
 use std::alloc::Global;
+use xdr_encode::{BodyRefusal, head_of, left_dds};
 
-/// The most bytes of a DDS.
-const DDS_MAX: usize = limits::MOST_TEXT;
-
-/// The DDS of what the marks leave of a dataset, of any length.
-fn left_dds(alloc: Global, dataset: &Dataset, marks: &Marks) -> Result<Bytes, Memory>
+/// The DDS of what the marks leave of a dataset.
+fn text_left(alloc: Global, dataset: &Dataset, marks: &Marks) -> Result<Bytes, SavedBodyRefusal>
     requires { IsWellFormed (dataset_view dataset.now) }
-    ensures { IfOk result (λ text. text ≡ dds (constrained (marks_in marks.now) (dataset_view dataset.now))) }
+    ensures text { IfOk result (λ text. text ≡ dds (constrained (marks_in marks.now) (dataset_view dataset.now))) }
+    ensures short { IfOk result (λ text. length text ≤ 16777216) }
+    ensures refused { IfErr result (IsBodyRefusal (constrained (marks_in marks.now) (dataset_view dataset.now))) }
 {
-    let left = marks.constrained(alloc, dataset)?;
-    print(alloc, &left)
-}
-
-/// A DDS and the line `Data:`.
-fn head_of(alloc: Global, text: &[u8]) -> Result<Bytes, Memory>
-    ensures { IfOk result (λ head. head ≡ text.now ++ codes "Data:\n") }
-{
-    let mut head = Vec::with_capacity(alloc, text.len().saturating_add(6))?;
-    head.extend_from_slice(text)?;
-    head.extend_from_slice(b"Data:\n")?;
-    Ok(Bytes::from_vec(head))
+    match left_dds(alloc, dataset, marks) {
+        Ok(text) => Ok(text),
+        Err(BodyRefusal::TooLarge { leaf: _ }) => Err(SavedBodyRefusal::TooLarge),
+        Err(BodyRefusal::Memory) => Err(SavedBodyRefusal::Memory),
+    }
 }
 
 impl SavedBody {
@@ -76,10 +68,7 @@ impl SavedBody {
             too_large (constrained (marks_in marks.now) (dataset_view dataset.now)) ≡ None }
         ensures refused { IfErr result (IsBodyRefusal (constrained (marks_in marks.now) (dataset_view dataset.now))) }
     {
-        let text = left_dds(alloc, dataset, marks)?;
-        if text.bytes().len() > DDS_MAX {
-            return Err(SavedBodyRefusal::TooLarge);
-        }
+        let text = text_left(alloc, dataset, marks)?;
         Ok(SavedBody {
             head: head_of(alloc, text.bytes())?,
             saved,

@@ -41,18 +41,6 @@ pub fn fill(count: usize) -> usize
     }
 }
 
-/// The zero bytes behind so many bytes, up to a multiple of four.
-pub fn padding(count: usize) -> &'static [u8]
-    ensures { result.now ≡ xdr.zeros count }
-{
-    match count % 4 {
-        1 => b"\0\0\0",
-        2 => b"\0\0",
-        3 => b"\0",
-        _ => b"",
-    }
-}
-
 /// Puts a word: four bytes, the high one first (RFC 4506, unsigned integer).
 pub fn put_word<O: Sink>(buffer: &mut Buffer, out: &mut O, word: u32) -> Result<(), Failed>
     ensures puts { Puts (O.written out.old) buffer.old.bytes.items (O.written out.new) buffer.new.bytes.items result (xdr.word word) }

@@ -3,7 +3,7 @@ use Rattle.std.specs.Prelude.{◌≡◌, ℕ, ⊤, List, [], codes}
 use Rattle.dap_errors.specs.Causes.{message_text}
 use Rattle.dap_errors.specs.declared.cause.Cause.{Cause}
 use Rattle.dap_server.specs.Results.{error_object}
-use Rattle.dap_commands.specs.Answer.{status_of}
+use Rattle.dap_commands.specs.Answer.{status_of_cause}
 use Rattle.dap_commands.specs.Lines.{cause_line}
 use Rattle.dap_commands.specs.declared.status.Status.{Status}
 use Rattle.dap_commands.specs.declared.status.Status.TheVariants.{Complete, Words, Unsaved, Refused, Damaged, BadReply, ReadFault, WriteFault, LinkFault, Memory, ServerError}
@@ -44,11 +44,11 @@ start_of Damaged = codes "dap2: damaged: "
 start_of status = codes "dap2: refused: "
 
 abbrev pub status_start : Cause → List ℕ
-status_start cause = start_of (status_of cause)
+status_start cause = start_of (status_of_cause cause)
 
 abbrev pub RefusalPut : Cause → (List ℕ → Type 0) → (List ℕ → Type 0) → (List ℕ → Type 0) → Status → Type 0
-RefusalPut cause Out Front Line Refused = (status_of cause ≡ Refused) × Out (error_object cause) × Line (cause_line (status_start cause) (message_text cause))
-RefusalPut cause Out Front Line Damaged = (status_of cause ≡ Damaged) × Out (error_object cause) × Line (cause_line (status_start cause) (message_text cause))
+RefusalPut cause Out Front Line Refused = (status_of_cause cause ≡ Refused) × Out (error_object cause) × Line (cause_line (status_start cause) (message_text cause))
+RefusalPut cause Out Front Line Damaged = (status_of_cause cause ≡ Damaged) × Out (error_object cause) × Line (cause_line (status_start cause) (message_text cause))
 RefusalPut cause Out Front Line WriteFault = Front (error_object cause)
 RefusalPut cause Out Front Line Memory = Out []
 RefusalPut cause Out Front Line Complete = ⊥

@@ -11,7 +11,7 @@ use Rattle.join_source.specs.Bodies as join
 use Rattle.join_source.specs.Pieces.{AreTold}
 use Rattle.dap_client.proofs.Told.{rose_later}
 use Rattle.dap_commands.proofs.Answering as answering
-use Rattle.dap_commands.specs.Answer.{status_for}
+use Rattle.dap_commands.specs.Answer.{status_of_result}
 use Rattle.dap_commands.specs.Lines.{IsSaid}
 use Rattle.dap_commands.specs.inner.Puts.{TextPut}
 use Rattle.dap_commands.proofs.answer.answer_asked.Goals as goal
@@ -27,7 +27,7 @@ returns-in-Text-clause-says g c =
 pub returns-in-Text-clause-only : goal.returns-in-Text-clause-only
 returns-in-Text-clause-only g c = λ r must still quiet had.
     answering.text_only c.bytes.result.now (Appends (g.O.Sink.written c.args.out.now) (g.O.Sink.written c.put_text.new.out)) (AppendsFront (g.O.Sink.written c.args.out.now) (g.O.Sink.written c.put_text.new.out)) (Rose (g.O.Sink.put_faults c.args.out.now) (g.O.Sink.put_faults c.put_text.new.out)) c.put_text.result c.put_text.ensures.put c.put_text.ensures.write_fault quiet
-    ∙ sym (ap status_for (c.in-Text.ensures.only r (answering.must_give _ c.args.target.now (asked_of c.args.asked.now) r c.requires.is_asked must)))
+    ∙ sym (ap status_of_result (c.in-Text.ensures.only r (answering.must_give _ c.args.target.now (asked_of c.args.asked.now) r c.requires.is_asked must)))
 
 pub returns-in-Text-clause-asked : goal.returns-in-Text-clause-asked
 returns-in-Text-clause-asked g c = answering.asks_first _ c.args.target.now (asked_of c.args.asked.now) _ _ c.requires.is_asked c.in-Text.ensures.asked
@@ -43,7 +43,7 @@ returns-in-Body-clause-only g c = λ r must still quiet had.
     answering.body_only (Rose (g.S.Shelf.faults c.args.shelf.now) (g.S.Shelf.faults c.put_body.new.shelf)) (Rose (g.O.Sink.put_faults c.args.out.now) (g.O.Sink.put_faults c.put_body.new.out)) c.put_body.result c.put_body.ensures.is_put
     (λ is. rose_later (g.S.Shelf.faults c.args.shelf.now) (g.S.Shelf.faults c.prepare.new.shelf) (g.S.Shelf.faults c.put_body.new.shelf) c.in-Body.ensures.later (c.put_body.ensures.read_fault is))
     c.put_body.ensures.write_fault still quiet
-    ∙ sym (ap status_for (c.in-Body.ensures.only r (answering.must_give _ c.args.target.now (asked_of c.args.asked.now) r c.requires.is_asked must)).1)
+    ∙ sym (ap status_of_result (c.in-Body.ensures.only r (answering.must_give _ c.args.target.now (asked_of c.args.asked.now) r c.requires.is_asked must)).1)
 
 pub returns-in-Body-clause-asked : goal.returns-in-Body-clause-asked
 returns-in-Body-clause-asked g c =
@@ -68,7 +68,7 @@ returns-in-Joined-clause-only g c = λ r must still quiet had.
     answering.body_only (Rose (g.S.Shelf.faults c.args.shelf.now) (g.S.Shelf.faults c.put_joined.new.shelf)) (Rose (g.O.Sink.put_faults c.args.out.now) (g.O.Sink.put_faults c.put_joined.new.out)) c.put_joined.result c.put_joined.ensures.is_put
     (λ is. rose_later (g.S.Shelf.faults c.args.shelf.now) (g.S.Shelf.faults c.prepare.new.shelf) (g.S.Shelf.faults c.put_joined.new.shelf) c.in-Joined.ensures.later (c.put_joined.ensures.read_fault is))
     c.put_joined.ensures.write_fault still quiet
-    ∙ sym (ap status_for (c.in-Joined.ensures.only r (answering.must_give _ c.args.target.now (asked_of c.args.asked.now) r c.requires.is_asked must)).1)
+    ∙ sym (ap status_of_result (c.in-Joined.ensures.only r (answering.must_give _ c.args.target.now (asked_of c.args.asked.now) r c.requires.is_asked must)).1)
 
 pub returns-in-Joined-clause-asked : goal.returns-in-Joined-clause-asked
 returns-in-Joined-clause-asked g c =
@@ -92,7 +92,7 @@ pub returns-in-Saved-clause-only : goal.returns-in-Saved-clause-only
 returns-in-Saved-clause-only g c = λ r must still quiet had.
     let (text, sends, may) = c.in-Saved.ensures.sends in
     answering.text_only text (Appends (g.O.Sink.written c.args.out.now) (g.O.Sink.written c.put_saved.new.out)) (AppendsFront (g.O.Sink.written c.args.out.now) (g.O.Sink.written c.put_saved.new.out)) (Rose (g.O.Sink.put_faults c.args.out.now) (g.O.Sink.put_faults c.put_saved.new.out)) c.put_saved.result (c.put_saved.ensures.put text sends) c.put_saved.ensures.write_fault quiet
-    ∙ sym (ap status_for (c.in-Saved.ensures.only r (answering.must_give _ c.args.target.now (asked_of c.args.asked.now) r c.requires.is_asked must)).1)
+    ∙ sym (ap status_of_result (c.in-Saved.ensures.only r (answering.must_give _ c.args.target.now (asked_of c.args.asked.now) r c.requires.is_asked must)).1)
 
 pub returns-in-Saved-clause-asked : goal.returns-in-Saved-clause-asked
 returns-in-Saved-clause-asked g c = answering.asks_first _ c.args.target.now (asked_of c.args.asked.now) _ _ c.requires.is_asked c.in-Saved.ensures.asked
@@ -110,7 +110,7 @@ returns-in-Refuse-clause-says g c =
 pub returns-in-Refuse-clause-only : goal.returns-in-Refuse-clause-only
 returns-in-Refuse-clause-only g c = λ r must still quiet had.
     answering.refuse_only c.in-Refuse.cause (Appends (g.O.Sink.written c.args.out.now) (g.O.Sink.written c.put_cause.new.out)) (AppendsFront (g.O.Sink.written c.args.out.now) (g.O.Sink.written c.put_cause.new.out)) (λ line. IsSaid line (g.E.Sink.put_faults c.args.err.now) (g.E.Sink.put_faults c.put_cause.new.err) (g.E.Sink.written c.args.err.now) (g.E.Sink.written c.put_cause.new.err)) (Rose (g.O.Sink.put_faults c.args.out.now) (g.O.Sink.put_faults c.put_cause.new.out)) c.put_cause.result c.put_cause.ensures.put c.put_cause.ensures.write_fault quiet had
-    ∙ sym (ap status_for (c.in-Refuse.ensures.only r (answering.must_give _ c.args.target.now (asked_of c.args.asked.now) r c.requires.is_asked must)))
+    ∙ sym (ap status_of_result (c.in-Refuse.ensures.only r (answering.must_give _ c.args.target.now (asked_of c.args.asked.now) r c.requires.is_asked must)))
 
 pub returns-in-Refuse-clause-asked : goal.returns-in-Refuse-clause-asked
 returns-in-Refuse-clause-asked g c = answering.asks_first _ c.args.target.now (asked_of c.args.asked.now) _ _ c.requires.is_asked c.in-Refuse.ensures.asked

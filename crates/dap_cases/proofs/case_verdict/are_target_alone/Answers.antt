@@ -1,6 +1,6 @@
 use Rattle.std.proofs.Common.{rules, ◌≡◌, ◌∙◌, List, [], ◌∷◌, ℕ, ap, arith, codes}
 use Rattle.dap_cases.proofs.Giving.{two-items}
-use Rattle.dap_cases.proofs.running.are_target_alone.Goals as goal
+use Rattle.dap_cases.proofs.case_verdict.are_target_alone.Goals as goal
 
 pub returns-in-len2 : goal.returns-in-len2
 returns-in-len2 c = λ same.

@@ -1,7 +1,7 @@
 use Rattle.std.proofs.Common.{rules, ◌≡◌, true}
 use Rattle.dap_cases.proofs.Judging.{agreed, judged-later}
 use Rattle.dap_cases.specs.Verdicts.{is_agreed}
-use Rattle.dap_cases.proofs.running.verdict_on.Goals as goal
+use Rattle.dap_cases.proofs.case_verdict.verdict_on.Goals as goal
 
 pub returns : goal.returns
 returns g c =

@@ -1,6 +1,6 @@
 use Rattle.std.proofs.Common.{◌∙◌, Some, ap, drop, sym}
 use Rattle.dap_cases.proofs.Giving.{given}
-use Rattle.dap_cases.proofs.running.said_of.Goals as goal
+use Rattle.dap_cases.proofs.case_verdict.said_of.Goals as goal
 
 pub returns-clause-given : goal.returns-clause-given
 returns-clause-given g c =
