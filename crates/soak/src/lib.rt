@@ -9,8 +9,6 @@ mod numbers;
 mod reply;
 mod request;
 mod round_trip;
-#[cfg(test)]
-mod tests;
 
 pub use file::soak_file;
 pub use laws::{bytes_are_counted, elements_are_counted, header_is_read, is_read, is_served};

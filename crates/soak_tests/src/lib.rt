@@ -2,4 +2,6 @@
 #![tactic(auto)]
 
 #[cfg(test)]
+mod generated_tests;
+#[cfg(test)]
 mod tests;

@@ -1,4 +1,6 @@
-use crate::{soak, soak_file, soak_reply, soak_request};
+//! The generated file, its request, its reply and what is read of it, by `soak`'s own calls.
+
+use soak::{soak, soak_file, soak_reply, soak_request};
 use std::test::Fail;
 
 /// One record from seed 1: the header, and the first and the last values of `s` and `i`.
