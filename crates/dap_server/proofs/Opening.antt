@@ -18,7 +18,7 @@ use Rattle.xdr_encode.specs.Costs.{marks_cost}
 use Rattle.xdr_encode.specs.declared.body.Body.{Body}
 use Rattle.dap_server.proofs.DataGiven.{not_first}
 use Rattle.dap_server.proofs.Sending.{asks_nothing}
-use Rattle.dap_server.specs.Costs.{IsAsked, IsFormCost, IsFormCostAt, head_len, marks_of}
+use Rattle.dap_server.specs.Costs.{IsFileAsked, IsFormCost, IsFormCostAt, head_len, marks_of}
 use Rattle.dap_server.specs.Files.{form_of, is_read_first, netcdf_stored, saved_stored, table_stored}
 use Rattle.dap_server.specs.Results.{DodsAnswers, result_text}
 use Rattle.dap_server.specs.inner.Opening.{Has, IsHeldBy, OpenedAs, WhereRefused, stored_of}
@@ -49,7 +49,7 @@ pub netcdf_fits : (h : FileHeader) (name : List ℕ) (b : Body) → FitsFile b h
 netcdf_fits h name b is bytes ts as_file = subst (FitsFile b) as_file.2 is
 
 asked : (h : FileHeader) (told : Told) (name query bytes : List ℕ) (ts : List Tree) (constraint : Constraint) → OpenedAs (opened.Netcdf h) name bytes ts → Has told name bytes → Spells query constraint
-    → IsAsked told name query bytes h.contents constraint
+    → IsFileAsked told name query bytes h.contents constraint
 asked h told name query bytes ts constraint as_file has spells =
     record { files = has.0; may_have = has.1; there = has.2; is_header = as_file.1; spells = spells }
 

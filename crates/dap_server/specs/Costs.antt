@@ -92,7 +92,7 @@ most_first None name = most_of_form (form_of name)
 most_first (Some files) name = option_map_or (most_of_file files (form_of name)) (files name) 0
 
 -- What the shelf has of a name and a query: some bytes, that are a file with this header, and a constraint.
-pub record IsAsked (told : Told) (name query : List ℕ) (bytes : List ℕ) (c : Contents) (constraint : Constraint) : Type 0 where
+pub record IsFileAsked (told : Told) (name query : List ℕ) (bytes : List ℕ) (c : Contents) (constraint : Constraint) : Type 0 where
   pub files : Files
   pub may_have : MayHave told files
   pub there : files name ≡ Some bytes
@@ -123,7 +123,7 @@ join_marks cs name constraint = marks (joined_dataset cs name) constraint
 -- those of a file that was read whole
 abbrev pub IsFormCost : Option Form → Told → List ℕ → List ℕ → ℕ → Type 0
 IsFormCost (Some netcdf) told name query cost =
-    (bytes : List ℕ) × (c : Contents) × (constraint : Constraint) × IsAsked told name query bytes c constraint × (cost ≡ marks_cost c (marks_of c name constraint))
+    (bytes : List ℕ) × (c : Contents) × (constraint : Constraint) × IsFileAsked told name query bytes c constraint × (cost ≡ marks_cost c (marks_of c name constraint))
 IsFormCost (Some table) told name query cost = cost ≡ 0
 IsFormCost (Some saved) told name query cost = cost ≡ 0
 IsFormCost (Some joined) told name query cost =
@@ -143,7 +143,7 @@ join_head_len cs name constraint = length (dds (constrained (join_marks cs name 
 -- so many bytes may have been asked for the values where so many bytes of the body were put
 abbrev pub IsFormCostAt : Option Form → Told → List ℕ → List ℕ → ℕ → ℕ → Type 0
 IsFormCostAt (Some netcdf) told name query put cost =
-    (bytes : List ℕ) × (c : Contents) × (constraint : Constraint) × IsAsked told name query bytes c constraint
+    (bytes : List ℕ) × (c : Contents) × (constraint : Constraint) × IsFileAsked told name query bytes c constraint
     × MarksAsk c (marks_of c name constraint) bytes (head_len c name constraint) put cost
 IsFormCostAt (Some table) told name query put cost = cost ≡ 0
 IsFormCostAt (Some saved) told name query put cost = cost ≡ 0

@@ -39,7 +39,7 @@ use Rattle.join_source.specs.Begun.{HasBegun, HaveBegun, PieceHasBegun}
 use Rattle.join_source.specs.Cutting.{behind, front_of}
 use Rattle.join_source.specs.Members.{HaveHeaders, all_records, contents_of, joined_contents}
 use Rattle.join_source.specs.Pieces.{file_in, piece_xdr, pieces_xdr}
-use Rattle.join_source.specs.Wanted.{AreFirst, AreOf, AreOverRecords, AreRecords, IsAsked, IsFound, IsOwnPlan, first_header, whole_pieces}
+use Rattle.join_source.specs.Wanted.{AreFirst, AreOf, AreOverRecords, AreRecords, IsMarkedVariable, IsFound, IsOwnPlan, first_header, whole_pieces}
 use Rattle.join_source.specs.declared.piece.Piece.{Piece}
 use Rattle.join_source.specs.declared.piece.Piece.TheVariants.{Text, Elements}
 
@@ -146,7 +146,7 @@ before-text text pieces files at put asked begun =
     let all : apart.own ≡ asked = omega (arith, none, apart.back.3, apart.back.4, apart.sum) in
     subst (HaveBegun pieces files at put) all apart.front
 
-over-asks : (headers : List FileHeader) (n p : ℕ) (v : Variable) (slabs : List Slab) (own : List Piece) (files : List (List ℕ)) (at put asked : ℕ) → HaveHeaders (contents_of headers) files → IsAsked (contents_of headers) n v slabs
+over-asks : (headers : List FileHeader) (n p : ℕ) (v : Variable) (slabs : List Slab) (own : List Piece) (files : List (List ℕ)) (at put asked : ℕ) → HaveHeaders (contents_of headers) files → IsMarkedVariable (contents_of headers) n v slabs
     → leaf_in (leaves_from (joined_contents (contents_of headers)) 0 (joined_contents (contents_of headers)).variables) n ≡ Some p → AreOverRecords headers n (base_of v.external_type) slabs own → HaveBegun own files at put asked
     → VariablesAsk true (base_of v.external_type) p (contents_of headers) files slabs at put asked
 over-asks headers n p v slabs own files at put asked have is-asked place o begun =
@@ -216,7 +216,7 @@ whole-asks h leaf base (s ∷ slabs) plan file files at put asked have planned b
         let along : at + (length (counts_of (base_of v.external_type) (length values)) + length (forms_of (base_of v.external_type) (take first values))) ≤ put = omega (arith, here) in
         subst (λ x. at + begins_among x (base_of v.external_type) values first ≤ put) (sym not-scalar) along
 
-first-asks : (headers : List FileHeader) (n p : ℕ) (v : Variable) (slabs : List Slab) (own : List Piece) (files : List (List ℕ)) (h : FileHeader) (at put asked : ℕ) → HaveHeaders (contents_of headers) files → IsAsked (contents_of headers) n v slabs
+first-asks : (headers : List FileHeader) (n p : ℕ) (v : Variable) (slabs : List Slab) (own : List Piece) (files : List (List ℕ)) (h : FileHeader) (at put asked : ℕ) → HaveHeaders (contents_of headers) files → IsMarkedVariable (contents_of headers) n v slabs
     → leaf_in (leaves_from (joined_contents (contents_of headers)) 0 (joined_contents (contents_of headers)).variables) n ≡ Some p → first_header headers ≡ Some h → AreFirst h n (base_of v.external_type) slabs own → HaveBegun own files at put asked
     → FirstAsks p (contents_of headers) files slabs at put asked
 first-asks [] n p v slabs own files h at put asked have is-asked place first o begun = absurd cc

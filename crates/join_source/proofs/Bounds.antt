@@ -23,7 +23,7 @@ use Rattle.join_source.proofs.Twins.{same-size, twin}
 use Rattle.join_source.specs.Costs.{record_cost, slot_cost, variable_cost}
 use Rattle.join_source.specs.Members.{all_records, contents_of, joined_contents, lengths_of}
 use Rattle.join_source.specs.Pieces.{IsInside, piece_cost, pieces_cost}
-use Rattle.join_source.specs.Wanted.{AreOf, IsAsked, IsFound, IsOwnPlan, first_header, whole_pieces}
+use Rattle.join_source.specs.Wanted.{AreOf, IsMarkedVariable, IsFound, IsOwnPlan, first_header, whole_pieces}
 use Rattle.join_source.specs.declared.piece.Piece.{Piece}
 use Rattle.join_source.specs.declared.piece.Piece.TheVariants.{Text, Elements}
 
@@ -67,7 +67,7 @@ first-records x headers few =
     omega (arith, sum, few)
 
 -- the first file has a variable of that size
-first-size : (headers : List FileHeader) (n p : ℕ) (v w : Variable) (slabs : List Slab) (h : FileHeader) → IsAsked (contents_of headers) n v slabs
+first-size : (headers : List FileHeader) (n p : ℕ) (v w : Variable) (slabs : List Slab) (h : FileHeader) → IsMarkedVariable (contents_of headers) n v slabs
     → leaf_in (leaves_from (joined_contents (contents_of headers)) 0 (joined_contents (contents_of headers)).variables) n ≡ Some p → first_header headers ≡ Some h → leaf_variable h.contents n ≡ Some w
     → element_size h.contents w ≡ element_size (joined_contents (contents_of headers)) v
 first-size [] n p v w slabs h asked place first is = absurd cc

@@ -30,7 +30,7 @@ use Rattle.join_source.specs.Members.{HaveHeaders, all_records, contents_of, fir
 use Rattle.join_source.specs.Pieces.{pieces_xdr}
 use Rattle.join_source.specs.Sent.{place_sent, slot_sent, variable_sent}
 use Rattle.join_source.specs.Trees.{first_tree, is_over_records_at, joined_tree, tree_at, trees_at}
-use Rattle.join_source.specs.Wanted.{AreFirst, AreOf, AreOverRecords, IsAsked, IsFound, first_header}
+use Rattle.join_source.specs.Wanted.{AreFirst, AreOf, AreOverRecords, IsMarkedVariable, IsFound, first_header}
 use Rattle.join_source.specs.declared.piece.Piece.{Piece}
 
 -- the number of the variable of a member
@@ -83,7 +83,7 @@ slot-as : (c : Contents) (tree : ℕ → Tree) (marks : Marks) (n p : ℕ) (v : 
 slot-as c tree marks n p v place at =
     ap (λ o. option_map_or (place_sent c tree marks n) o []) place ∙ ap (λ o. option_map_or (variable_sent c marks (tree p) n) o []) at
 
-over-sent : (headers : List FileHeader) (n p : ℕ) (v : Variable) (slabs : List Slab) (own : List Piece) (files : List (List ℕ)) → HaveHeaders (contents_of headers) files → IsAsked (contents_of headers) n v slabs
+over-sent : (headers : List FileHeader) (n p : ℕ) (v : Variable) (slabs : List Slab) (own : List Piece) (files : List (List ℕ)) → HaveHeaders (contents_of headers) files → IsMarkedVariable (contents_of headers) n v slabs
     → leaf_in (leaves_from (joined_contents (contents_of headers)) 0 (joined_contents (contents_of headers)).variables) n ≡ Some p → slice_get (joined_contents (contents_of headers)).variables p ≡ Some v
     → is_over_records (joined_contents (contents_of headers)) v ≡ true → AreOverRecords headers n (base_of v.external_type) slabs own
     → pieces_xdr own files ≡ bytes_of (array_fields (base_of v.external_type) (values_in (cut slabs (joined_tree (contents_of headers) files p))))
@@ -107,7 +107,7 @@ over-sent headers n p v slabs own files have asked place at over o =
     all : RecordsSent o.inner files (each_value p o.first o.rest (contents_of headers) files) (base_of v.external_type) (o.first.count * count_of o.rest)
     all = records-sent (joined_contents (contents_of headers)) few n p v asked.is place over o.rest headers 0 o.first o.inner files files (joined-shape (contents_of headers) asked.can_join.same) asked.can_join.few within have refl o.each
 
-first-sent : (headers : List FileHeader) (n p : ℕ) (v : Variable) (slabs : List Slab) (own : List Piece) (files : List (List ℕ)) (h : FileHeader) → HaveHeaders (contents_of headers) files → IsAsked (contents_of headers) n v slabs
+first-sent : (headers : List FileHeader) (n p : ℕ) (v : Variable) (slabs : List Slab) (own : List Piece) (files : List (List ℕ)) (h : FileHeader) → HaveHeaders (contents_of headers) files → IsMarkedVariable (contents_of headers) n v slabs
     → leaf_in (leaves_from (joined_contents (contents_of headers)) 0 (joined_contents (contents_of headers)).variables) n ≡ Some p → slice_get (joined_contents (contents_of headers)).variables p ≡ Some v
     → is_over_records (joined_contents (contents_of headers)) v ≡ false → first_header headers ≡ Some h → AreFirst h n (base_of v.external_type) slabs own
     → pieces_xdr own files ≡ bytes_of (fields_of (is_empty (element_dimensions (joined_contents (contents_of headers)) v)) (base_of v.external_type) slabs (joined_tree (contents_of headers) files p))

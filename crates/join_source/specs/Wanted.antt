@@ -35,7 +35,7 @@ use Rattle.join_source.specs.declared.piece.Piece.TheVariants.{Text, Elements}
 
 -- the member with that number is this variable of the files together, marked with hyperslabs within it that pick few
 -- enough elements
-pub record IsAsked (cs : List Contents) (leaf : ℕ) (v : Variable) (slabs : List Slab) : Type 0 where
+pub record IsMarkedVariable (cs : List Contents) (leaf : ℕ) (v : Variable) (slabs : List Slab) : Type 0 where
   pub can_join : CanJoin cs
   pub is : leaf_variable (joined_contents cs) leaf ≡ Some v
   pub within : AreWithin slabs (element_sizes (joined_contents cs) v)
@@ -107,11 +107,11 @@ AreOf true headers leaf base slabs own = AreOverRecords headers leaf base slabs 
 AreOf false headers leaf base slabs own = (h : FileHeader) × (first_header headers ≡ Some h) × AreFirst h leaf base slabs own
 
 -- these are the pieces of member n, a marked leaf
-pub record IsMarkedLeaf (headers : List FileHeader) (marks : Marks) (n : ℕ) (own : List Piece) : Type 0 where
+pub record IsMarkedVariable (headers : List FileHeader) (marks : Marks) (n : ℕ) (own : List Piece) : Type 0 where
   pub variable : Variable
   pub marked_by : List Slab
   pub marked : marks n ≡ Some marked_by
-  pub asked : IsAsked (contents_of headers) n variable (own_slabs (joined_contents (contents_of headers)) variable marked_by)
+  pub asked : IsMarkedVariable (contents_of headers) n variable (own_slabs (joined_contents (contents_of headers)) variable marked_by)
   pub pieces : AreOf (is_over_records (joined_contents (contents_of headers)) variable) headers n (base_of variable.external_type) (own_slabs (joined_contents (contents_of headers)) variable marked_by) own
 
 -- member n is a marked leaf with too many elements
@@ -126,7 +126,7 @@ pub record IsLarge (cs : List Contents) (marks : Marks) (n : ℕ) : Type 0 where
 -- what is put of member n, if it is a marked leaf
 abbrev pub IsFound : List FileHeader → Marks → ℕ → Bool → List Piece → Type 0
 IsFound headers marks leaf false own = IsUnmarked (joined_contents (contents_of headers)) marks leaf × (own ≡ [])
-IsFound headers marks leaf true own = IsMarkedLeaf headers marks leaf own
+IsFound headers marks leaf true own = IsMarkedVariable headers marks leaf own
 
 -- the variables of all members, by number
 abbrev pub joined_slots : List Contents → List (Option ℕ)
