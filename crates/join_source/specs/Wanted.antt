@@ -107,7 +107,7 @@ AreOf true headers leaf base slabs own = AreOverRecords headers leaf base slabs 
 AreOf false headers leaf base slabs own = (h : FileHeader) × (first_header headers ≡ Some h) × AreFirst h leaf base slabs own
 
 -- these are the pieces of member n, a marked leaf
-pub record IsMarkedVariable (headers : List FileHeader) (marks : Marks) (n : ℕ) (own : List Piece) : Type 0 where
+pub record IsMarkedLeaf (headers : List FileHeader) (marks : Marks) (n : ℕ) (own : List Piece) : Type 0 where
   pub variable : Variable
   pub marked_by : List Slab
   pub marked : marks n ≡ Some marked_by
@@ -126,7 +126,7 @@ pub record IsLarge (cs : List Contents) (marks : Marks) (n : ℕ) : Type 0 where
 -- what is put of member n, if it is a marked leaf
 abbrev pub IsFound : List FileHeader → Marks → ℕ → Bool → List Piece → Type 0
 IsFound headers marks leaf false own = IsUnmarked (joined_contents (contents_of headers)) marks leaf × (own ≡ [])
-IsFound headers marks leaf true own = IsMarkedVariable headers marks leaf own
+IsFound headers marks leaf true own = IsMarkedLeaf headers marks leaf own
 
 -- the variables of all members, by number
 abbrev pub joined_slots : List Contents → List (Option ℕ)
