@@ -36,6 +36,16 @@ const fn c(records: u32) -> [u32; 24] {
     ]
 }
 
+/// Three record variables, whose parts of a record are padded to four bytes each: Byte `a[t][n = 3]`, Byte `b[t]`
+/// and Int16 `s[t]`.
+const fn o(records: u32) -> [u32; 42] {
+    [
+        0x43444601, records, 0x0a, 2, 1, 0x74000000, 0, 1, 0x6e000000, 3, 0, 0, 0x0b, 3, 1,
+        0x61000000, 2, 0, 1, 0, 0, 1, 4, 0xa8, 1, 0x62000000, 1, 0, 0, 0, 1, 4, 0xac, 1,
+        0x73000000, 1, 0, 0, 0, 3, 4, 0xb0,
+    ]
+}
+
 #[test]
 fn three_files_the_second_empty(rt: HostRuntime) -> Result<(), Fail> {
     let alloc = rt.alloc();
@@ -108,6 +118,46 @@ fn others_are_those_of_the_first(rt: HostRuntime) -> Result<(), Fail> {
         b"d[1:2],a[0:2:2][0:2:2]",
         some,
         &[4, 4, 0x04061416, 2, 2, 11, 0x1a],
+    )
+}
+
+/// The bytes that pad a part are those of the fill values 0x81 and 0x8001.
+#[test]
+fn record_variables_of_odd_size(rt: HostRuntime) -> Result<(), Fail> {
+    let alloc = rt.alloc();
+    let one = file_of(
+        alloc,
+        &o(2),
+        b"\x01\x02\x03\x81\x11\x81\x81\x81\x7f\xff\x80\x01\x04\x05\x06\x81\x12\x81\x81\x81\x80\x00\x80\x01",
+    )?;
+    let two = file_of(
+        alloc,
+        &o(1),
+        b"\x07\x08\x09\x81\x13\x81\x81\x81\x00\x0a\x80\x01",
+    )?;
+    let files = [one.as_slice(), two.as_slice()];
+    let all =
+        b"Dataset {\n    Byte a[t = 3][n = 3];\n    Byte b[t = 3];\n    Int16 s[t = 3];\n} j.join;\n";
+    expect_body(
+        &rt,
+        alloc,
+        &files,
+        b"",
+        all,
+        &[
+            9, 9, 0x01020304, 0x05060708, 0x09000000, 3, 3, 0x11121300, 3, 3, 0x7fff, 0xffff8000,
+            10,
+        ],
+    )?;
+    let some =
+        b"Dataset {\n    Byte a[t = 2][n = 2];\n    Byte b[t = 2];\n    Int16 s[t = 2];\n} j.join;\n";
+    expect_body(
+        &rt,
+        alloc,
+        &files,
+        b"s[0:2:2],b[0:2:2],a[1:2][0:2:2]",
+        some,
+        &[4, 4, 0x04060709, 2, 2, 0x11130000, 2, 2, 0x7fff, 10],
     )
 }
 

@@ -19,15 +19,18 @@ pub const VARIABLES: u32 = 18_000;
 /// The words before the attribute: a dimension `x` of two indexes.
 const FRONT: &[u32] = &[0x43444601, 0, 0x0a, 1, 1, 0x78000000, 2];
 
+/// The same of two records: the record dimension `x`.
+const RECORDS: &[u32] = &[0x43444601, 2, 0x0a, 1, 1, 0x78000000, 0];
+
 /// The type of an attribute of bytes, and of one of chars (netCDF classic format, `nc_type`).
 const BYTES: u32 = 1;
 
 const CHARS: u32 = 2;
 
-/// The front of a header up to its variables, 52 bytes and those of the attribute `a`, which has so many values
-/// of one byte, a multiple of four, each of them 7.
-fn append_front(bytes: &mut Vec<u8>, kind: u32, values: u32) -> Result<(), Memory> {
-    append_words(bytes, FRONT)?;
+/// The front of a header up to its variables, which begins with these words: 52 bytes and those of the attribute
+/// `a`, which has so many values of one byte, a multiple of four, each of them 7.
+fn append_front(bytes: &mut Vec<u8>, front: &[u32], kind: u32, values: u32) -> Result<(), Memory> {
+    append_words(bytes, front)?;
     append_words(bytes, &[0x0c, 1, 1, 0x61000000])?;
     append_words(bytes, &[kind, values])?;
     append_times(bytes, &[7], values as usize)
@@ -40,44 +43,64 @@ fn filler(variables: u32, length: u32) -> u32 {
         .saturating_sub(variables.saturating_mul(56))
 }
 
-/// What stands behind the name of a variable, up to where it begins: its dimension, its attribute, and
-/// its type.
-const DECLARED: &[u32] = &[1, 0, 0x0c, 1, 1, 0x75000000, 2, 1, 0x78000000, 4, 8];
+/// What stands behind the name of a variable, up to its size: its dimension, its attribute, and its type.
+const DECLARED: &[u32] = &[1, 0, 0x0c, 1, 1, 0x75000000, 2, 1, 0x78000000, 4];
 
-fn append_variable(bytes: &mut Vec<u8>, number: u32, begin: u32) -> Result<(), Memory> {
+fn append_variable(bytes: &mut Vec<u8>, number: u32, size: u32, begin: u32) -> Result<(), Memory> {
     append_words(bytes, &[4])?;
     bytes.extend_from_slice(&name_of(number))?;
     append_words(bytes, DECLARED)?;
-    append_words(bytes, &[begin])
+    append_words(bytes, &[size, begin])
 }
 
-/// Variables whose values stand one behind the other from this place on.
-fn append_variables(bytes: &mut Vec<u8>, variables: u32, from: u32) -> Result<(), Memory> {
+/// Variables whose values, of so many bytes each, stand one behind the other from this place on.
+fn append_variables(
+    bytes: &mut Vec<u8>,
+    variables: u32,
+    size: u32,
+    from: u32,
+) -> Result<(), Memory> {
     let mut begin = from;
     for number in 0..variables {
-        append_variable(bytes, number, begin)?;
-        begin = begin.wrapping_add(8);
+        append_variable(bytes, number, size, begin)?;
+        begin = begin.wrapping_add(size);
     }
     Ok(())
 }
 
-/// A header of that length: so many variables of two ints, each with an attribute `u`, the text `x`. The values
-/// of one stand behind those of the one before it.
-pub fn wide_header(alloc: Global, variables: u32, length: u32) -> Result<Vec<u8>, Memory> {
+/// A header of that length: so many variables over one dimension, each with an attribute `u`, the text `x`.
+fn header_over(
+    alloc: Global,
+    front: &[u32],
+    variables: u32,
+    size: u32,
+    length: u32,
+) -> Result<Vec<u8>, Memory> {
     let mut bytes = Vec::new(alloc);
-    append_front(&mut bytes, BYTES, filler(variables, length))?;
+    append_front(&mut bytes, front, BYTES, filler(variables, length))?;
     append_words(&mut bytes, &[0x0b, variables])?;
-    append_variables(&mut bytes, variables, length)?;
+    append_variables(&mut bytes, variables, size, length)?;
     Ok(bytes)
 }
 
-/// The bytes of the file of that header.
+/// A header of that length with so many variables of two ints. The values of one stand behind those of the one
+/// before it.
+pub fn wide_header(alloc: Global, variables: u32, length: u32) -> Result<Vec<u8>, Memory> {
+    header_over(alloc, FRONT, variables, 8, length)
+}
+
+/// A header of that length and of two records, each of which has an int of each of so many variables.
+pub fn record_header(alloc: Global, variables: u32, length: u32) -> Result<Vec<u8>, Memory> {
+    header_over(alloc, RECORDS, variables, 4, length)
+}
+
+/// The bytes of the file of either header.
 pub fn wide_len(variables: u32, length: u32) -> u64 {
     u64::from(length) + 8 * u64::from(variables)
 }
 
 /// The DAS of that file.
-fn wide_das(alloc: Global, variables: u32, length: u32) -> Result<Vec<u8>, Memory> {
+pub fn wide_das(alloc: Global, variables: u32, length: u32) -> Result<Vec<u8>, Memory> {
     let mut text = Vec::new(alloc);
     text.extend_from_slice(b"Attributes {\n")?;
     for number in 0..variables {
@@ -92,19 +115,29 @@ fn wide_das(alloc: Global, variables: u32, length: u32) -> Result<Vec<u8>, Memor
     Ok(text)
 }
 
-/// The DDS of that file under a name.
-pub fn wide_dds(alloc: Global, variables: u32, name: &[u8]) -> Result<Vec<u8>, Memory> {
+/// The DDS of so many variables over the dimension that stands behind each, under a name.
+pub fn dds_over(
+    alloc: Global,
+    variables: u32,
+    dimension: &[u8],
+    name: &[u8],
+) -> Result<Vec<u8>, Memory> {
     let mut text = Vec::new(alloc);
     text.extend_from_slice(b"Dataset {\n")?;
     for number in 0..variables {
         text.extend_from_slice(b"    Int32 ")?;
         text.extend_from_slice(&name_of(number))?;
-        text.extend_from_slice(b"[x = 2];\n")?;
+        text.extend_from_slice(dimension)?;
     }
     text.extend_from_slice(b"} ")?;
     text.extend_from_slice(name)?;
     text.extend_from_slice(b";\n")?;
     Ok(text)
+}
+
+/// The DDS of that file under a name.
+pub fn wide_dds(alloc: Global, variables: u32, name: &[u8]) -> Result<Vec<u8>, Memory> {
+    dds_over(alloc, variables, b"[x = 2];\n", name)
 }
 
 /// The header that stands in the front of a file of that length.
@@ -215,7 +248,7 @@ fn first_seen(containers: &[Entry]) -> (u32, u64) {
 /// A header of that length that is one attribute of that type.
 fn one_attribute(alloc: Global, length: u32, kind: u32) -> Result<Vec<u8>, Memory> {
     let mut bytes = Vec::new(alloc);
-    append_front(&mut bytes, kind, filler(0, length))?;
+    append_front(&mut bytes, FRONT, kind, filler(0, length))?;
     append_words(&mut bytes, &[0, 0])?;
     Ok(bytes)
 }

@@ -21,6 +21,8 @@ mod head_limits;
 #[cfg(test)]
 mod header_limits;
 #[cfg(test)]
+mod join_limits;
+#[cfg(test)]
 mod sending;
 #[cfg(test)]
 mod table_limits;
