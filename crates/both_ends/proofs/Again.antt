@@ -26,14 +26,14 @@ use Rattle.both_ends.proofs.WholeMarks.{marks_whole}
 use Rattle.both_ends.specs.Again.{AsksWhole, SavedIsServed, WrittenIsServedAgain}
 
 -- the constraint that is no text
-abbrev no_constraint : Constraint
+abbrev pub no_constraint : Constraint
 no_constraint = record { items = []; clauses = [] }
 
-is_spelled : Spells [] no_constraint
+pub is_spelled : Spells [] no_constraint
 is_spelled = (record { items = no_items; clauses = [] }, refl, refl)
 
 -- what it leaves
-dataset_left : (d : Dataset) → IsWellFormed d → all_leaves_everywhere d.members ≡ true → constrained (marks d no_constraint) d ≡ d
+pub dataset_left : (d : Dataset) → IsWellFormed d → all_leaves_everywhere d.members ≡ true → constrained (marks d no_constraint) d ≡ d
 dataset_left d well leaves = ap (λ ms. record d { members = ms }) (filtered_all_whole (marks d no_constraint) d.members 1 1 [] well.mapped leaves (marks_whole d))
 
 pub saved_is_served : SavedIsServed

@@ -1,5 +1,6 @@
 -- The dataset and the values of joined files can be sent.
-use Rattle.std.proofs.Common.{◌≡◌, ◌≢◌, ℕ, ◌+◌, ◌<◌, List, [], ◌∷◌, All, length, take, Some, None, Result, Ok, Err, refl, sym, ap, subst, inl, inr, arith, length-take}
+use Rattle.std.proofs.Common.{◌≢◌, ℕ, ◌+◌, ◌<◌, List, [], ◌∷◌, All, length, take, Some, None, Ok, Err, refl, sym, ap, subst, inl, inr, arith, length-take}
+use Rattle.dap_server.proofs.OpeningLists.{ok-of, ok-same}
 use Rattle.dap_types.specs.WellFormed.{IsWellFormed}
 use Rattle.dap_model.specs.Fits.{FitsAll}
 use Rattle.dap_model.specs.Grammar.{HasWords}
@@ -10,16 +11,9 @@ use Rattle.join_source.specs.Members.{CanJoin, HaveHeaders, all_records, joined_
 use Rattle.join_source.specs.Trees.{joined_trees}
 use Rattle.netcdf_source.proofs.Joined.{dataset_is_well_formed}
 use Rattle.netcdf_source.specs.declared.header.Contents.{Contents}
-use Rattle.dap_errors.specs.declared.cause.Cause.{Cause}
 use Rattle.dap_server.specs.Files.{Files}
 use Rattle.dap_server.specs.Joins.{Member, Members, bytes_in, contents_in}
 use Rattle.both_ends.specs.Ends.{HoldBytes}
-
-abbrev ok-of : List Member → Result (List Member) Cause
-ok-of ms = Ok ms
-
-ok-same : (a b : List Member) → ok-of a ≡ ok-of b → a ≡ b
-ok-same a b is = cc is
 
 -- each member begins with its header, and is of bytes
 pub members-headed : (files : Files) (line : ℕ) (names : List (List ℕ)) (ms : List Member) → HoldBytes files → Members (Some files) line names (Ok ms) → HaveHeaders (contents_in ms) (bytes_in ms)

@@ -1,10 +1,11 @@
 -- In what marks leave of a dataset each Structure and each Sequence has a variable, and it keeps them under the
 -- names of a saved response.
-use Rattle.std.proofs.Common.{◌≡◌, ℕ, ◌+◌, Bool, true, false, ◌&&◌, ◌||◌, List, [], ◌∷◌, length, map, Option, Some, None, is_some, refl, sym, ap, ◌∙◌, arith, subst, if◌then◌else◌}
+use Rattle.std.proofs.Common.{◌≡◌, ℕ, ◌+◌, Bool, true, false, ◌||◌, List, [], ◌∷◌, length, map, Option, Some, None, is_some, refl, sym, ap, ◌∙◌, arith, subst, if◌then◌else◌}
 use Rattle.std.specs.Prelude.{nat_lt}
 use Rattle.std.specs.Option.{option_map_or}
 use Rattle.std.proofs.lemmas.Bool.Decides.{nat_tests}
 use Rattle.std.proofs.lemmas.List.{length-map}
+use Rattle.std.proofs.lemmas.Bool.{and_from}
 use Rattle.dap_types.specs.Model.{Member, scalar, array, structure, grid, sequence, Members, no_members, member, members_of, count}
 use Rattle.dap_types.specs.declared.declarations.ArrayDecl.{ArrayDecl}
 use Rattle.dap_types.specs.declared.slabs.Slab.{Slab}
@@ -35,9 +36,6 @@ arrays_everywhere : (parts : List ArrayDecl) → all_leaves_everywhere (members_
 arrays_everywhere [] = refl
 arrays_everywhere (a ∷ parts) = arrays_everywhere parts
 
-both : (a b : Bool) → a ≡ true → b ≡ true → (a && b) ≡ true
-both a b one two = rw (one, two) refl
-
 grid_leaf : (name : List ℕ) (parts : List ArrayDecl) (stays : Bool) → nat_lt 0 (length parts) ≡ true → has_leaf (if stays then as_grid name parts else structure name (members_of (map array parts))) ≡ true
 grid_leaf name [] stays is = cc is
 grid_leaf name (a ∷ parts) true is = refl
@@ -57,7 +55,7 @@ any_or own rest true more one others is = rw (one refl) refl
 any_or own rest false more one others is = others is
 
 all_or : (own : Member) (rest : Members) (has : Bool) → (has ≡ true → leaves_everywhere own ≡ true) → all_leaves_everywhere rest ≡ true → all_leaves_everywhere (if has then member own rest else rest) ≡ true
-all_or own rest true one others = both (leaves_everywhere own) (all_leaves_everywhere rest) (one refl) others
+all_or own rest true one others = and_from (leaves_everywhere own) (all_leaves_everywhere rest) (one refl) others
 all_or own rest false one others = others
 
 mutual
@@ -78,7 +76,7 @@ mutual
   everywhere_left marks (scalar column) n is = refl
   everywhere_left marks (array a) n is = refl
   everywhere_left marks (structure name parts) n is =
-      both (any_has_leaf (filtered_all marks (n + 1) parts)) (all_leaves_everywhere (filtered_all marks (n + 1) parts)) (any_left marks parts (n + 1) is) (all_left marks parts (n + 1))
+      and_from (any_has_leaf (filtered_all marks (n + 1) parts)) (all_leaves_everywhere (filtered_all marks (n + 1) parts)) (any_left marks parts (n + 1) is) (all_left marks parts (n + 1))
   everywhere_left marks (grid name a maps) n is = grid_everywhere name (marked counted marks (n + 1) (a ∷ maps)) (stays_grid marks n) (grid_marked marks (n + 1) a maps is)
   everywhere_left marks (sequence name columns) n is = some_marked unchanged marks (n + 1) columns is
 

@@ -1,5 +1,7 @@
 -- Where the replies of a connection stand in what it put.
-use Rattle.std.proofs.Common.{◌≡◌, ℕ, zero, suc, ◌+◌, ◌<◌, ◌≤◌, ◌^◌, inl, inr, Bool, true, false, ◌||◌, List, [], ◌∷◌, ◌++◌, length, map, codes, Some, MatchBool, Result, Ok, Err, refl, sym, ap, ◌∙◌, subst, arith, append_assoc, append-nil}
+use Rattle.std.proofs.Common.{◌≡◌, ℕ, zero, suc, ◌+◌, ◌<◌, ◌≤◌, ◌^◌, inl, inr, Bool, true, false, List, [], ◌∷◌, ◌++◌, length, map, codes, Some, MatchBool, Result, Ok, Err, refl, sym, ap, ◌∙◌, subst, arith, append_assoc, append-nil}
+use Rattle.std.proofs.lemmas.Bool.{or_left}
+use Rattle.plain_lemmas.proofs.Truths.{match_true}
 use Rattle.httparse.specs.Grammar.{RequestHead}
 use Rattle.dap_errors.specs.declared.cause.Cause.{Cause}
 use Rattle.dap_errors.specs.declared.cause.Cause.TheVariants.{BadMethod}
@@ -16,7 +18,7 @@ use Rattle.dap_server.specs.declared.served.Ending.TheVariants.{Closed, Gone, Re
 use Rattle.both_ends.proofs.Replying.{reply_delivers}
 use Rattle.both_ends.proofs.Resulting.{result_is_good}
 use Rattle.both_ends.specs.Ends.{AllAreGood, HoldBytes, ServedIsGood, StandsGood, reply_behind}
-use Rattle.dap_server.proofs.WholeConnections.{heads, of-true}
+use Rattle.dap_server.proofs.WholeConnections.{heads}
 
 -- ---- one reply among others
 
@@ -75,10 +77,6 @@ stands-good files put before after t tail text hold laid results p get is short 
     }
 
 -- ---- a head of HTTP/1.0 ends its connection
-
-or-true : (a b : Bool) → a ≡ true → (a || b) ≡ true
-or-true true b e = refl
-or-true false b e = cc e
 
 old-ends : (k : ℕ) (h : RequestHead) → h.minor ≡ 0 → ends_connection k h ≡ true
 unfolding ends_itself
@@ -149,7 +147,7 @@ pub served_is_good : ServedIsGood
 served_is_good files taken ended c served hold s before after t text parts get is short =
     let j : ℕ = length before + 1 in
     let r = reached (Some files) 1 j taken c.left before after t (omega arith) (subst (λ (l : List Turn). AreTurns (Some files) 1 taken l c.left) parts s.turns) in
-    let alone = λ (old : t.head.minor ≡ 0). r.ends (or-true (ends_connection j t.head) (wants t.answer) (old-ends j t.head old)) in
+    let alone = λ (old : t.head.minor ≡ 0). r.ends (or_left (ends_connection j t.head) (wants t.answer) (old-ends j t.head old)) in
     stands-good files (put_from 1 c) before after t (behind_text c.behind) text hold (ap (λ (l : List Turn). replies 1 l ++ behind_text c.behind) parts)
     (may-result files (request j t.head) t.answer (result_text Dods text) get is r.may)
     (record {
@@ -157,9 +155,9 @@ served_is_good files taken ended c served hold s before after t text parts get i
       last = λ old. (
         alone old,
         closed-nothing served.ending c.behind
-            (of-true (ends_after false 1 c.turns) _ _
+            (match_true (ends_after false 1 c.turns) _ _
             (ap (λ (l : List Turn). ends_after false 1 l) (parts ∙ ap (λ (l : List Turn). before ++ t ∷ l) (alone old)) ∙ ends-last false 1 j before t (omega arith)
-            ∙ or-true (ends_connection j t.head) (wants t.answer) (old-ends j t.head old))
+            ∙ or_left (ends_connection j t.head) (wants t.answer) (old-ends j t.head old))
             s.ends),
       );
     }) get is short
@@ -213,9 +211,9 @@ all_are_good input files gained served hold all before after t text parts get is
       minor = minor-of r.bytes r.rest t.head r.first;
       last = λ old. (
         alone old,
-        (of-true (ends_after false 1 turns) _ _
+        (match_true (ends_after false 1 turns) _ _
             (ap (λ (l : List Turn). ends_after false 1 l) (parts ∙ ap (λ (l : List Turn). before ++ t ∷ l) (alone old)) ∙ ends-last false 1 j before t (omega arith)
-            ∙ or-true (ends_connection j t.head) (wants t.answer) (old-ends j t.head old))
+            ∙ or_left (ends_connection j t.head) (wants t.answer) (old-ends j t.head old))
             all.ends).0,
       );
     }) get is short

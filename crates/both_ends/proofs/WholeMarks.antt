@@ -4,12 +4,13 @@ use Rattle.std.specs.Bool.{⊤}
 use Rattle.std.specs.Option.{option_and_then}
 use Rattle.std.proofs.lemmas.Bool.Decides.{nat_tests}
 use Rattle.std.proofs.lemmas.Option.{slice_get-map, slice_get_within}
+use Rattle.plain_lemmas.proofs.Lists.{front_get}
 use Rattle.dap_types.specs.Model.{Member, scalar, array, structure, grid, sequence, Members, no_members, member, Dataset, count}
 use Rattle.dap_types.specs.Preorder.{preorder, preorder_all}
 use Rattle.dap_types.specs.declared.declarations.ArrayDecl.{ArrayDecl}
 use Rattle.dap_types.specs.declared.declarations.Column.{Column}
 use Rattle.dap_types.proofs.Preorder.{length-preorder}
-use Rattle.dap_types.proofs.PreorderPlaces.{front_get, back_get}
+use Rattle.dap_types.proofs.PreorderPlaces.{back_get}
 use Rattle.dap_model.specs.Filter.{Marks, MarksAllWhole, MarksWhole, ScalarsMarked, WholeEach}
 use Rattle.grid_projection.specs.Marks.{marks_of_items, placed, whole}
 

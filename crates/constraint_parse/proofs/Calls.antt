@@ -1,14 +1,14 @@
 -- Calls: a name and an argument in parentheses.
-use Rattle.std.proofs.Common.{◌≡◌, List, [], ◌∷◌, ◌++◌, ℕ, ◌+◌, ◌<◌, length, drop, get_or, refl, sym, ap, subst, ◌∙◌, append_assoc, Some, Bool, true, IsTrue, arith, inl, inr, drop-cons, add-one, length-append}
+use Rattle.std.proofs.Common.{◌≡◌, List, [], ◌∷◌, ◌++◌, ℕ, ◌+◌, ◌<◌, length, drop, get_or, refl, sym, ap, subst, ◌∙◌, append_assoc, Some, true, IsTrue, arith, inl, inr, drop-cons, add-one, length-append}
 use Rattle.std.specs.List.{list_all}
 use Rattle.std.proofs.lemmas.Bool.{cases_lt}
 use Rattle.std.proofs.lemmas.List.{drop_all}
+use Rattle.plain_lemmas.proofs.Lists.{has_item}
 use Rattle.viable.proofs.Standing.{faults_inside}
 use Rattle.constraint_parse.specs.Language.{is_argument_byte, equal, not_equal, less, less_equal, greater, greater_equal, matches, Token, argument, operator, token_bytes, is_token, ConstraintTree, call_clause}
 use Rattle.constraint_parse.specs.inner.Machine.{State, Stepped, Called, ClauseNamed, Clausal, step, with_last}
 use Rattle.constraint_parse.specs.inner.Standing.{Rest, StandsAt, IsFaultAt, Lacks, ReadsCall}
 use Rattle.viable.specs.Runs.{ends_with, IsRunTo}
-use Rattle.viable.proofs.Tests.{and_parts}
 use Rattle.constraint_parse.proofs.Bytes.{Opens, opened}
 use Rattle.constraint_parse.proofs.Places.{steps_of, token_passes, next_byte, rest_back, live}
 use Rattle.viable.proofs.Runs.{run_unique}
@@ -33,10 +33,6 @@ argument_first s bs tree r =
     let e : 40 ∷ bs ≡ (40 ∷ a ++ 41 ∷ []) ++ f.rest = f.bytes_are ∙ ap (λ (t : Token). token_bytes t ++ f.rest) is in
     let e' : bs ≡ (a ++ 41 ∷ []) ++ f.rest = cc in
     (a, f.rest, ok, e' ∙ append_assoc a (41 ∷ []) f.rest)
-
-has_byte : (p : ℕ → Bool) (a : List ℕ) (c : ℕ) (b : List ℕ) → IsTrue (list_all p (a ++ c ∷ b)) → IsTrue (p c)
-has_byte p [] c b h = (and_parts _ _ h).0
-has_byte p (x ∷ a) c b h = has_byte p a c b (and_parts _ _ h).1
 
 -- the byte that comes next, read from the text
 pub byte_is : (text : List ℕ) (at c : ℕ) (cs : List ℕ) → drop at text ≡ c ∷ cs → (at < length text) × (get_or text at 0 ≡ c)
@@ -74,7 +70,7 @@ argument_faults {text} {at} {s} st end run h b r lacks next e =
     (41 ∷ l.0, l.1, l.2, subst (λ (x : List ℕ). Rest s x l.2) (append_assoc (40 ∷ run) (41 ∷ []) l.0) (rest_back s next (argument run) l.0 l.2 e r.is_run_of.of_class l.3))
     (λ nil v q.
     let (a, rest, ok, is) = argument_first s run v q in
-    let y : is_argument_byte 41 ≡ true = has_byte is_argument_byte a 41 rest (subst (λ (x : List ℕ). IsTrue (list_all is_argument_byte x)) is r.is_run_of.of_class) in cc)
+    let y : is_argument_byte 41 ≡ true = has_item is_argument_byte a 41 rest (subst (λ (x : List ℕ). IsTrue (list_all is_argument_byte x)) is r.is_run_of.of_class) in cc)
     (λ c cs is more v q.
     let (a, rest, ok, e1) = argument_first s (run ++ c ∷ more) v q in
     let n : IsTrue (ends_with is_argument_byte (c ∷ cs)) = subst (λ (x : List ℕ). IsTrue (ends_with is_argument_byte x)) is r.longest in

@@ -1,8 +1,9 @@
 -- A text spells a constraint or has a fault: the grammar's machine goes over it from its front, and
 -- what comes next in each state is a token that leads on, or what the text goes wrong with.
-use Rattle.std.proofs.Common.{◌≡◌, List, [], ◌∷◌, ◌++◌, ℕ, zero, suc, ◌+◌, ◌<◌, ◌≤◌, length, drop, get_or, refl, subst, Option, Some, None, Bool, true, false, ◌==◌, arith, ◌⊎◌, inl, inr}
+use Rattle.std.proofs.Common.{◌≡◌, List, [], ◌∷◌, ◌++◌, ℕ, zero, suc, ◌+◌, ◌<◌, ◌≤◌, length, drop, get_or, refl, subst, Option, Some, None, Bool, ◌==◌, arith, ◌⊎◌, inl, inr}
 use Rattle.std.proofs.lemmas.Bool.{cases_lt, eqb-true, eqb-false}
 use Rattle.std.proofs.lemmas.List.{drop_all}
+use Rattle.plain_lemmas.proofs.Truths.{true_or_false}
 use Rattle.viable.specs.Quoted.{Piece, ArePieces, IsOpen}
 use Rattle.viable.specs.Runs.{IsRunOf, IsRunTo}
 use Rattle.viable.proofs.Pieces.{no_pieces, one_plain, one_pair, lone_backslash}
@@ -28,15 +29,11 @@ Judged text = ((tree : ConstraintTree) × IsTextOf text tree) ⊎ ((place : ℕ)
 abbrev Goes : List ℕ → ℕ → Type 0
 Goes text n = (at : ℕ) (s : State) → StandsAt text at s → length text ≤ at + n → Judged text
 
-decided : (b : Bool) → (b ≡ true) ⊎ (b ≡ false)
-decided true = inl refl
-decided false = inr refl
-
 -- the byte stands at the place, or it does not
 byte_or : (text : List ℕ) (at c : ℕ) → ((at < length text) × (get_or text at 0 ≡ c)) ⊎ Lacks text at c
 byte_or text at c = elim (cases_lt at (length text)) [
   | inr ge ↦ inr (λ h is. omega (arith, ge, h))
-  | inl lt ↦ elim (decided (get_or text at 0 == c)) [
+  | inl lt ↦ elim (true_or_false (get_or text at 0 == c)) [
     | inl e ↦ inl (lt, eqb-true _ c e)
     | inr e ↦ inr (λ h is. eqb-false _ c e is)
   ]
@@ -51,7 +48,7 @@ run_on : (n : ℕ) (test : ℕ → Bool) (text : List ℕ) (from to : ℕ) (run 
 run_on zero test text from to run r h = record { to = to; run = run; is = run_ends test text from to run r (omega (arith, h)) }
 run_on (suc n) test text from to run r h = elim (cases_lt to (length text)) [
   | inr ge ↦ record { to = to; run = run; is = run_ends test text from to run r ge }
-  | inl lt ↦ elim (decided (test (get_or text to 0))) [
+  | inl lt ↦ elim (true_or_false (test (get_or text to 0))) [
     | inl e ↦ run_on n test text from (to + 1) (run ++ get_or text to 0 ∷ []) (run_more test text from to run r lt e) (omega (arith, h))
     | inr e ↦ record { to = to; run = run; is = run_stops test text from to run r lt e }
   ]
@@ -298,7 +295,7 @@ goes : (text : List ℕ) (n : ℕ) → Goes text n
 goes text zero at s st h = ends s st (omega (arith, h))
 goes text (suc n) at s st h = elim (cases_lt at (length text)) [
   | inr ge ↦ ends s st ge
-  | inl lt ↦ elim (decided (is_blank (get_or text at 0))) [
+  | inl lt ↦ elim (true_or_false (is_blank (get_or text at 0))) [
     | inl blank ↦ goes text n (at + 1) s (blank_passes st lt blank) (omega (arith, h))
     | inr unblank ↦ goes_on s n (goes text n) st (record { within = omega (arith, lt); unblank = λ k. rw unblank refl }) h lt
   ]

@@ -2,6 +2,7 @@
 use Rattle.viable.proofs.Runs.{run_valid}
 use Rattle.std.proofs.Common.{◌≡◌, List, [], ◌∷◌, ℕ, ◌+◌, ◌<◌, length, drop, get_or, refl, sym, ap, subst, ◌∙◌, Some, None, Bool, true, false, not, ◌==◌, IsTrue, inl, inr, drop-cons, add-one}
 use Rattle.std.proofs.lemmas.Bool.{cases_lt, not-true, eqb-true}
+use Rattle.plain_lemmas.proofs.Options.{same_value}
 use Rattle.constraint_parse.specs.Language.{is_digit, is_name_byte, Operator, equal, not_equal, less, less_equal, greater, greater_equal, matches, Token, name, number, argument, operator, comma, ampersand, dot, colon, open_bracket, close_bracket, open_brace, close_brace, ItemTree, path, call, StepTree, SlabTree, index, range, strided, ItemsTree, ClauseTree, ValueTree, among}
 use Rattle.viable.specs.Runs.{ends_with, IsRunTo}
 use Rattle.constraint_parse.specs.inner.Machine.{State, Naming, Stepped, Opened, SecondOpened, ThirdOpened, Numbered, SecondNumbered, ThirdNumbered, Called, ClauseNaming, ClauseNamed, Compared, Bracing, Braced, Clausal, step, finish, step_of, with_last}
@@ -63,23 +64,20 @@ numbered3_shuts : (items : List ItemTree) (steps : List StepTree) (n : List ℕ)
 numbered3_shuts items steps n slabs a a' a'' close_bracket o b e h y = shut_by is_digit 93 b refl h y
 numbered3_shuts items steps n slabs a a' a'' _ o b e h y = cc
 
-pub is_some : {A : Type 0} (x y : A) → Some x ≡ Some y → x ≡ y
-is_some x y e = cc
-
 -- a name leads on to a state in which no byte of a name may follow
 pub name_only : (s : State) → ReadsName s → (m : Token) (o : State) → step s m ≡ Some o → (x : List ℕ) × (m ≡ name x) × Shuts o is_name_byte
-name_only (Naming items steps) k (name x) o e = (x, refl, subst (λ (z : State). Shuts z is_name_byte) (is_some _ o e) (stepped_shuts items steps x []))
+name_only (Naming items steps) k (name x) o e = (x, refl, subst (λ (z : State). Shuts z is_name_byte) (same_value _ o e) (stepped_shuts items steps x []))
 name_only (Naming items steps) k _ o e = cc
-name_only (ClauseNaming items clauses labels) k (name x) o e = (x, refl, subst (λ (z : State). Shuts z is_name_byte) (is_some _ o e) (clause_named_shuts items clauses labels x))
+name_only (ClauseNaming items clauses labels) k (name x) o e = (x, refl, subst (λ (z : State). Shuts z is_name_byte) (same_value _ o e) (clause_named_shuts items clauses labels x))
 name_only (ClauseNaming items clauses labels) k _ o e = cc
 name_only _ k m o e = absurd k
 
 pub number_only : (s : State) → ReadsNumber s → (m : Token) (o : State) → step s m ≡ Some o → (x : List ℕ) × (m ≡ number x) × Shuts o is_digit
-number_only (Opened items steps n slabs) k (number x) o e = (x, refl, subst (λ (z : State). Shuts z is_digit) (is_some _ o e) (numbered_shuts items steps n slabs x))
+number_only (Opened items steps n slabs) k (number x) o e = (x, refl, subst (λ (z : State). Shuts z is_digit) (same_value _ o e) (numbered_shuts items steps n slabs x))
 number_only (Opened items steps n slabs) k _ o e = cc
-number_only (SecondOpened items steps n slabs a) k (number x) o e = (x, refl, subst (λ (z : State). Shuts z is_digit) (is_some _ o e) (numbered2_shuts items steps n slabs a x))
+number_only (SecondOpened items steps n slabs a) k (number x) o e = (x, refl, subst (λ (z : State). Shuts z is_digit) (same_value _ o e) (numbered2_shuts items steps n slabs a x))
 number_only (SecondOpened items steps n slabs a) k _ o e = cc
-number_only (ThirdOpened items steps n slabs a b) k (number x) o e = (x, refl, subst (λ (z : State). Shuts z is_digit) (is_some _ o e) (numbered3_shuts items steps n slabs a b x))
+number_only (ThirdOpened items steps n slabs a b) k (number x) o e = (x, refl, subst (λ (z : State). Shuts z is_digit) (same_value _ o e) (numbered3_shuts items steps n slabs a b x))
 number_only (ThirdOpened items steps n slabs a b) k _ o e = cc
 number_only _ k m o e = absurd k
 

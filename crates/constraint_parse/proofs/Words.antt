@@ -1,6 +1,7 @@
 -- Words as values, and what a clause does with its values.
 use Rattle.std.proofs.Common.{◌≡◌, List, ◌∷◌, ℕ, ◌+◌, ◌<◌, length, map, drop, get_or, refl, sym, ap, subst, ◌∙◌, Some, None, true, not, IsTrue, ◌⊎◌, inl, inr, drop-cons, add-one}
 use Rattle.std.proofs.lemmas.Bool.{eqb-true}
+use Rattle.plain_lemmas.proofs.Options.{same_value}
 use Rattle.constraint_parse.specs.Language.{is_word_byte, Operator, Token, word, quoted, comma, ampersand, open_brace, close_brace, ItemsTree, ClauseTree, ValueTree, text, bare, compare, value_token, equal, not_equal, less, less_equal, greater, greater_equal, matches}
 use Rattle.viable.specs.Runs.{IsRunTo}
 use Rattle.dap_types.specs.Names.{constraint_id}
@@ -10,7 +11,7 @@ use Rattle.constraint_parse.specs.inner.Machine.{State, Compared, Bracing, Brace
 use Rattle.constraint_parse.specs.inner.Standing.{StandsAt, IsFaultAt, IsPlace, Lacks, StandsBehind, ReadsValue, ReadsValueOnly}
 use Rattle.constraint_parse.proofs.Bytes.{word_not_blank, Opens}
 use Rattle.constraint_parse.proofs.Places.{run_passes, Shuts}
-use Rattle.constraint_parse.proofs.Moves.{shut_by, is_some, state_faults}
+use Rattle.constraint_parse.proofs.Moves.{shut_by, state_faults}
 use Rattle.viable.proofs.Runs.{run_valid}
 
 clausal_shuts : (items : ItemsTree) (clauses : List ClauseTree) → Shuts (Clausal items clauses) is_word_byte
@@ -23,11 +24,11 @@ braced_shuts items clauses labels n o values value close_brace next b e h y = sh
 braced_shuts items clauses labels n o values value _ next b e h y = cc
 
 pub word_only : (s : State) → ReadsValue s → (m : Token) (next : State) (b : ℕ) → step s m ≡ Some next → Opens m b → IsTrue (is_word_byte b) → (x : List ℕ) × (m ≡ word x) × Shuts next is_word_byte
-word_only (Compared items clauses labels n o) k (word x) next b e h y = (x, refl, subst (λ (z : State). Shuts z is_word_byte) (is_some _ next e) (clausal_shuts items _))
+word_only (Compared items clauses labels n o) k (word x) next b e h y = (x, refl, subst (λ (z : State). Shuts z is_word_byte) (same_value _ next e) (clausal_shuts items _))
 word_only (Compared items clauses labels n o) k (quoted p) next b e h y = absurd (shut_by is_word_byte 34 b refl h y)
 word_only (Compared items clauses labels n o) k open_brace next b e h y = absurd (shut_by is_word_byte 123 b refl h y)
 word_only (Compared items clauses labels n o) k _ next b e h y = cc
-word_only (Bracing items clauses labels n o values) k (word x) next b e h y = (x, refl, subst (λ (z : State). Shuts z is_word_byte) (is_some _ next e) (braced_shuts items clauses labels n o values (bare x)))
+word_only (Bracing items clauses labels n o values) k (word x) next b e h y = (x, refl, subst (λ (z : State). Shuts z is_word_byte) (same_value _ next e) (braced_shuts items clauses labels n o values (bare x)))
 word_only (Bracing items clauses labels n o values) k (quoted p) next b e h y = absurd (shut_by is_word_byte 34 b refl h y)
 word_only (Bracing items clauses labels n o values) k _ next b e h y = cc
 word_only _ k m next b e h y = absurd k

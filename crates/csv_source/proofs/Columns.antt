@@ -13,7 +13,7 @@ use Rattle.std.proofs.lemmas.Map.Text.{btree_map_updates_str}
 use Rattle.std.proofs.lemmas.Cmp.{nat_list_eq_equiv}
 use Rattle.std.proofs.lemmas.List.{drop_all, map-append, take_more}
 use Rattle.std.proofs.lemmas.List.Folds.{list_any-append}
-use Rattle.dap_types.proofs.Views.{drop-here}
+use Rattle.plain_lemmas.proofs.Lists.{drop_here}
 use Rattle.dap_types.specs.declared.declarations.BaseType.{BaseType}
 use Rattle.dap_types.specs.declared.declarations.BaseType.TheVariants.{Text}
 use Rattle.dap_types.specs.declared.declarations.Column.{Column}
@@ -57,7 +57,7 @@ columns-length number (field ∷ fields) = ap suc (columns-length (number + 1) f
 repeated-step : (columns : List Column) (i number : ℕ) (c : Column) (earlier : List (List ℕ)) → i < length columns → c ≡ get_or columns i c
     → repeated_from number earlier (drop i columns) ≡ (if list_any (bytes_eq c.name) earlier then Some number else repeated_from (number + 1) (earlier ++ c.name ∷ []) (drop (i + 1) columns))
 unfolding repeated_from
-repeated-step columns i number c earlier lt is = rw (drop-here columns i c lt is) refl
+repeated-step columns i number c earlier lt is = rw (drop_here columns i c lt is) refl
 
 pub repeated-hit : (columns : List Column) (i number : ℕ) (c : Column) (earlier : List (List ℕ)) → i < length columns → c ≡ get_or columns i c
     → list_any (bytes_eq c.name) earlier ≡ true → repeated_from number earlier (drop i columns) ≡ Some number

@@ -1,6 +1,6 @@
 -- The numbers that digits write.
-use Rattle.std.proofs.Common.{◌≡◌, ◌≤◌, ◌<◌, ◌^◌, ◌+◌, ◌*◌, ℕ, zero, suc, Bool, true, false, List, [], ◌∷◌, ◌++◌, length, take, refl, arith, add-one}
-use Rattle.std.specs.Prelude.{◌==◌, ◌&&◌}
+use Rattle.std.proofs.Common.{◌≡◌, ◌≤◌, ◌<◌, ◌^◌, ◌+◌, ◌*◌, ℕ, zero, suc, true, false, List, [], ◌∷◌, ◌++◌, length, take, refl, arith, add-one}
+use Rattle.std.specs.Prelude.{◌==◌}
 use Rattle.std.specs.Char.{is_ascii_digit, digit_value}
 use Rattle.std.specs.Int.{IsInRange}
 use Rattle.std.specs.List.{list_all}
@@ -8,6 +8,8 @@ use Rattle.std.proofs.lemmas.Str.{digit_value_digit}
 use Rattle.std.specs.Str.Parse.{digits_value, digits_value_after}
 use Rattle.std.proofs.Math.Nat.{pow-suc}
 use Rattle.std.proofs.lemmas.Bool.Decides.{nat_tests}
+use Rattle.plain_lemmas.proofs.Lists.{last_length}
+use Rattle.plain_lemmas.proofs.Truths.{and_false}
 use Rattle.csv_source.specs.Cells.{are_digits, without_end_spaces, without_front_spaces}
 
 -- more digits write no smaller number
@@ -57,18 +59,10 @@ unfolding without_end_spaces
 end-space [] = refl
 end-space (b ∷ text) = rw (end-space text) refl
 
-both-false : (b : Bool) → (b && false) ≡ false
-both-false true = refl
-both-false false = refl
-
-more-than-none : (text : List ℕ) (b : ℕ) → (length (text ++ b ∷ []) == 0) ≡ false
-more-than-none [] b = refl
-more-than-none (c ∷ text) b = grind (arith, nat_tests)
-
 pub end-other : (text : List ℕ) (b : ℕ) → (b == 32) ≡ false → without_end_spaces (text ++ b ∷ []) ≡ text ++ b ∷ []
 unfolding without_end_spaces
 end-other [] b other = rw other refl
-end-other (c ∷ text) b other = rw (end-other text b other, more-than-none text b, both-false (c == 32)) refl
+end-other (c ∷ text) b other = rw (end-other text b other, last_length text b, and_false (c == 32)) refl
 
 pub end-none : without_end_spaces [] ≡ []
 unfolding without_end_spaces

@@ -3,6 +3,7 @@ use Rattle.std.proofs.Common.{◌≡◌, ◌<◌, ◌^◌, ℕ, true, List, [], 
 use Rattle.std.specs.Prelude.{All, Ok}
 use Rattle.std.specs.List.{AllZip, list_all}
 use Rattle.std.proofs.lemmas.List.Elements.{All-cons, All-nil}
+use Rattle.plain_lemmas.proofs.Truths.{both_true}
 use Rattle.dap_types.proofs.Views.{items-trees_of}
 use Rattle.dap_types.specs.Model.{one}
 use Rattle.dap_types.specs.declared.declarations.Column.{Column}
@@ -13,7 +14,6 @@ use Rattle.csv_source.specs.Causes.{is_row, row_values, table_of}
 use Rattle.csv_source.specs.Cells.{is_cell}
 use Rattle.csv_source.specs.Header.{columns_of}
 use Rattle.csv_source.specs.Table.{CsvTable, table}
-use Rattle.dap_model.proofs.Tests.{both_true}
 use Rattle.csv_source.proofs.CellFacts.{cell-fits}
 use Rattle.csv_source.proofs.Sizes.{is_within}
 use Rattle.csv_source.proofs.Tabled.{of-file}

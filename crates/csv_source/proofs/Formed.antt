@@ -1,12 +1,13 @@
 -- The dataset of a table is well formed.
 use Rattle.std.proofs.Common.{◌≡◌, ◌≤◌, ◌+◌, ℕ, suc, Bool, true, false, List, [], ◌∷◌, ◌++◌, Some, None, length, map, refl, ap, arith}
-use Rattle.std.specs.Prelude.{◌||◌, nat_lt, if◌then◌else◌, Ok}
+use Rattle.std.specs.Prelude.{nat_lt, if◌then◌else◌, Ok}
 use Rattle.std.specs.List.{list_any}
 use Rattle.std.specs.Str.{bytes_eq}
 use Rattle.std.proofs.Math.Bool.{or-false}
 use Rattle.std.proofs.lemmas.Bool.Decides.{nat_tests}
 use Rattle.std.proofs.lemmas.List.{append-nil}
 use Rattle.std.proofs.lemmas.List.Folds.{list_any-append}
+use Rattle.plain_lemmas.proofs.Truths.{or_comm}
 use Rattle.dap_types.specs.Model.{scalar, sequence, members_of}
 use Rattle.dap_types.specs.WellFormed.{IsWellFormed, fault, first_fault, leaf_places}
 use Rattle.dap_types.specs.declared.declarations.Column.{Column}
@@ -20,12 +21,6 @@ use Rattle.csv_source.specs.Table.{CsvTable}
 use Rattle.csv_source.proofs.Columns.{columns-length}
 use Rattle.csv_source.proofs.Tabled.{of-file}
 
-turned : (a b : Bool) → (a || b) ≡ (b || a)
-turned true true = refl
-turned true false = refl
-turned false true = refl
-turned false false = refl
-
 -- the names before a column are the same, from the last to the first
 leaves-good : (n number : ℕ) (back earlier : List (List ℕ)) (columns : List Column) → ((q : List ℕ) → list_any (bytes_eq q) back ≡ list_any (bytes_eq q) earlier)
     → repeated_from number earlier columns ≡ None → first_fault n (leaf_places 2 back (map scalar columns)) ≡ None
@@ -34,7 +29,7 @@ leaves-good n number back earlier [] same none = refl
 leaves-good n number back earlier (c ∷ columns) same none =
     by_test (list_any (bytes_eq c.name) earlier) refl none
     (leaves-good (n + 1) (number + 1) (c.name ∷ back) (earlier ++ c.name ∷ []) columns
-    (λ q. rw (list_any-append (bytes_eq q) earlier (c.name ∷ []), or-false (bytes_eq q c.name), same q) (turned (bytes_eq q c.name) (list_any (bytes_eq q) earlier))))
+    (λ q. rw (list_any-append (bytes_eq q) earlier (c.name ∷ []), or-false (bytes_eq q c.name), same q) (or_comm (bytes_eq q c.name) (list_any (bytes_eq q) earlier))))
   where
     by_test : (b : Bool) → list_any (bytes_eq c.name) earlier ≡ b → (if b then Some number else repeated_from (number + 1) (earlier ++ c.name ∷ []) columns) ≡ None
         → (repeated_from (number + 1) (earlier ++ c.name ∷ []) columns ≡ None → first_fault (n + 1) (leaf_places 2 (c.name ∷ back) (map scalar columns)) ≡ None)

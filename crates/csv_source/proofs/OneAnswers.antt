@@ -1,12 +1,13 @@
 -- A table, and a first cause, in the words of a reader are the answer of `table_of`.
-use Rattle.std.proofs.Common.{◌≡◌, ◌+◌, ℕ, suc, zero, Bool, true, false, List, [], ◌∷◌, ◌++◌, Some, None, length, take, refl, sym, ap, arith, ◌∙◌, append_assoc}
-use Rattle.std.specs.Prelude.{◌==◌, ◌||◌, slice_get, Ok, Err}
+use Rattle.std.proofs.Common.{◌≡◌, ◌+◌, ℕ, suc, zero, true, false, List, [], ◌∷◌, ◌++◌, Some, None, length, take, refl, sym, ap, arith, ◌∙◌, append_assoc}
+use Rattle.std.specs.Prelude.{◌==◌, slice_get, Ok, Err}
 use Rattle.std.specs.List.{AllByRecursion, IsDistinct, list_any}
 use Rattle.std.specs.Str.{bytes_eq}
 use Rattle.std.proofs.lemmas.Bool.Decides.{nat_tests}
 use Rattle.std.proofs.lemmas.Cmp.{nat_list_eq_equiv}
 use Rattle.std.proofs.lemmas.List.{append-nil}
-use Rattle.dap_model.proofs.Tests.{both_true}
+use Rattle.std.proofs.lemmas.Bool.{or_from}
+use Rattle.plain_lemmas.proofs.Truths.{both_true}
 use Rattle.dap_types.specs.declared.declarations.Column.{Column}
 use Rattle.csv_source.specs.Causes.{bad_column, is_row, row_cause, rows_cause, table_of}
 use Rattle.csv_source.specs.Cells.{is_cell}
@@ -26,15 +27,12 @@ all-middle : (P : List ℕ → Type 0) (xs : List (List ℕ)) (y : List ℕ) (mo
 all-middle P [] y more all = all.0
 all-middle P (x ∷ xs) y more all = all-middle P xs y more all.1
 
-neither : (a b : Bool) → a ≡ false → b ≡ false → (a || b) ≡ false
-neither a b p q = rw (p, q) refl
-
 apart-front : (earlier : List (List ℕ)) (y : List ℕ) (more : List (List ℕ)) → IsDistinct bytes_eq (earlier ++ y ∷ more) → list_any (bytes_eq y) earlier ≡ false
 unfolding IsDistinct
 apart-front [] y more differ = refl
 apart-front (x ∷ xs) y more differ =
     let apart : bytes_eq x y ≡ false = all-middle (λ z. bytes_eq x z ≡ false) xs y more differ.0 in
-    neither (bytes_eq y x) (list_any (bytes_eq y) xs) (nat_list_eq_equiv.symm y x ∙ apart) (apart-front xs y more differ.1)
+    or_from (bytes_eq y x) (list_any (bytes_eq y) xs) (nat_list_eq_equiv.symm y x ∙ apart) (apart-front xs y more differ.1)
 
 distinct-none : (number : ℕ) (earlier : List (List ℕ)) (columns : List Column) → IsDistinct bytes_eq (earlier ++ names columns) → repeated_from number earlier columns ≡ None
 unfolding repeated_from

@@ -5,8 +5,8 @@ use Rattle.std.specs.List.{list_all}
 use Rattle.std.specs.Option.{option_or}
 use Rattle.std.proofs.lemmas.Bool.Decides.{nat_tests}
 use Rattle.std.proofs.lemmas.List.{drop_all}
-use Rattle.dap_model.proofs.Tests.{both_true}
-use Rattle.dap_types.proofs.Views.{drop-here}
+use Rattle.plain_lemmas.proofs.Lists.{drop_here}
+use Rattle.plain_lemmas.proofs.Truths.{both_true}
 use Rattle.dap_types.specs.declared.declarations.Column.{Column}
 use Rattle.csv_source.specs.Causes.{bad_column, is_row, row_cause, rows_cause}
 use Rattle.csv_source.specs.Cells.{is_cell}
@@ -19,7 +19,7 @@ pub row-step : (columns : List Column) (fields : List (List ℕ)) (i : ℕ) (c :
     → i < length columns → c ≡ get_or columns i c → i < length fields → get_or fields i [] ≡ field
     → is_row (drop i columns) (drop i fields) ≡ (is_cell c.base field && is_row (drop (i + 1) columns) (drop (i + 1) fields))
 unfolding is_row
-row-step columns fields i c field lt is there at = rw (drop-here columns i c lt is, fields-here fields i field there at) refl
+row-step columns fields i c field lt is there at = rw (drop_here columns i c lt is, fields-here fields i field there at) refl
 
 pub row-end : (columns : List Column) (fields : List (List ℕ)) (i : ℕ) → length columns ≤ i → length fields ≤ i → is_row (drop i columns) (drop i fields) ≡ true
 unfolding is_row
@@ -30,7 +30,7 @@ pub bad-step : (columns : List Column) (fields : List (List ℕ)) (i number : �
     → i < length columns → c ≡ get_or columns i c → i < length fields → get_or fields i [] ≡ field
     → bad_column number (drop i columns) (drop i fields) ≡ (if is_cell c.base field then bad_column (number + 1) (drop (i + 1) columns) (drop (i + 1) fields) else Some number)
 unfolding bad_column
-bad-step columns fields i number c field lt is there at = rw (drop-here columns i c lt is, fields-here fields i field there at) refl
+bad-step columns fields i number c field lt is there at = rw (drop_here columns i c lt is, fields-here fields i field there at) refl
 
 -- what is wrong with a row
 pub row-ragged : (columns : List Column) (row : ℕ) (fields : List (List ℕ)) → (length fields == length columns) ≡ false → row_cause columns row fields ≡ Some (Ragged row)

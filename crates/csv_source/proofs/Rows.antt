@@ -1,14 +1,15 @@
 -- Rows of one width, their fields one after the other.
 use Rattle.std.proofs.Common.{◌≡◌, ◌≤◌, ◌<◌, ◌+◌, ◌*◌, ℕ, zero, suc, Bool, true, List, [], ◌∷◌, ◌++◌, Some, length, take, drop, get_or, map, refl, sym, ap, arith, ◌∙◌, drop-cons, add-one}
-use Rattle.std.specs.Prelude.{All, slice_get, option_map, option_and_then}
+use Rattle.std.specs.Prelude.{All, slice_get, option_and_then}
 use Rattle.std.specs.List.{list_all}
 use Rattle.std.proofs.lemmas.List.{drop-append-le, drop-drop, length-drop, length-map, take-append-le, take_all}
 use Rattle.std.proofs.lemmas.List.Elements.{All-cons}
+use Rattle.plain_lemmas.proofs.Lists.{slice_get-mapped}
+use Rattle.plain_lemmas.proofs.Truths.{both_true}
 use Rattle.dap_types.specs.declared.declarations.Column.{Column}
 use Rattle.csv_source.specs.Causes.{is_row, row_values}
 use Rattle.csv_source.specs.Cells.{is_cell, cell_value}
 use Rattle.csv_source.specs.inner.Held.{held_rows, rows_of}
-use Rattle.dap_model.proofs.Tests.{both_true}
 
 -- a row more
 pub rows_of-push : (width n : ℕ) (fields row : List (List ℕ)) → length fields ≡ n * width → length row ≡ width
@@ -81,11 +82,6 @@ take-drop-get (y ∷ ys) (suc width) zero (suc i) x is =
     let e : 0 + suc i ≡ suc (0 + i) = omega arith in
     rw e (take-drop-get ys width zero i x is)
 take-drop-get (y ∷ ys) width (suc start) i x is = let e : suc start + i ≡ suc (start + i) = omega arith in rw e (take-drop-get ys width start i x is)
-
-slice_get-mapped : {X Y : Type 0} (f : X → Y) (xs : List X) (i : ℕ) (x : X) → slice_get xs i ≡ Some x → slice_get (map f xs) i ≡ Some (f x)
-slice_get-mapped f [] i x is = cc is
-slice_get-mapped f (y ∷ ys) zero x is = ap (option_map f) is
-slice_get-mapped f (y ∷ ys) (suc i) x is = slice_get-mapped f ys i x is
 
 -- the cell of a table at a row and a column
 pub held-cell : (columns : List Column) (rows : ℕ) (fields : List (List ℕ)) (row column : ℕ) (c : Column)

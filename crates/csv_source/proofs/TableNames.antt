@@ -8,6 +8,7 @@ use Rattle.std.proofs.lemmas.Bool.Decides.{nat_tests}
 use Rattle.std.proofs.lemmas.Fmt.{IsAscii-decimal}
 use Rattle.std.proofs.lemmas.List.{get_or_default}
 use Rattle.std.proofs.lemmas.List.Elements.{All-nil, All-cons, All-head, All-tail, All-append, All-take, All-drop, All-from_recursion}
+use Rattle.plain_lemmas.proofs.Lists.{some_length}
 use Rattle.dap_types.specs.Model.{scalar, sequence}
 use Rattle.dap_types.specs.WellFormed.{Place, place, leaf_places}
 use Rattle.dap_types.specs.declared.declarations.BaseType.{BaseType}
@@ -77,10 +78,6 @@ without-bytes suffix name bytes = by_test (has_suffix suffix name)
     by_test true = All-take IsByte (length name - length suffix) name bytes
     by_test false = bytes
 
-some-length : (xs : List ℕ) → xs ≢ [] → 0 < length xs
-some-length [] some = absurd (some refl)
-some-length (x ∷ xs) some = omega arith
-
 -- where something stands before `.csv`, there is a name
 some-name : (name : List ℕ) → without_suffix (codes ".csv") name ≢ [] → 0 < length name
 some-name [] some = absurd (some refl)
@@ -96,7 +93,7 @@ table-has-words file_name bytes t name_bytes file_bytes some is =
     let of_last : AreBytes last = segment-bytes file_name name_bytes in
     let places = leaf_places 2 [] (map scalar (columns_of of.header)) in
     let columns : All OfWords places = columns-words 1 [] of.header (omega (arith, of.few)) header in
-    let own_name : IsTrue (is_word (sequence_name file_name)) = file_word front (some-length front some, without-bytes (codes ".csv") last of_last) in
+    let own_name : IsTrue (is_word (sequence_name file_name)) = file_word front (some_length front some, without-bytes (codes ".csv") last of_last) in
     rw of.is_table (record {
       own = word_name dataset_name_byte last dataset_spelled (some-name last some, of_last);
       inside = All-cons OfWords (place 1 [] (sequence (sequence_name file_name) (columns_of of.header))) (places ++ []) own_name

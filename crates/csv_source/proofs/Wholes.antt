@@ -8,7 +8,8 @@ use Rattle.std.proofs.lemmas.Bool.Decides.{nat_tests}
 use Rattle.std.proofs.lemmas.Int.Digits.{digits_value-lt}
 use Rattle.std.specs.Str.Parse.{AllDigits, digits_value, signed_digits_value, starts_with_minus, without_leading_sign}
 use Rattle.std.proofs.lemmas.Int.{ints}
-use Rattle.dap_model.proofs.Tests.{both_true}
+use Rattle.std.proofs.lemmas.Bool.{and_right}
+use Rattle.plain_lemmas.proofs.Truths.{both_true}
 use Rattle.dap_types.specs.declared.declarations.BaseType.{BaseType}
 use Rattle.dap_types.specs.declared.declarations.BaseType.TheVariants.{Byte, Int16, UInt16, Int32, UInt32, Float32, Float64, Text, Url}
 use Rattle.csv_source.specs.Cells.{are_digits, bits_of, is_bits, is_in, is_whole, least, limit, trimmed, whole_of}
@@ -45,15 +46,11 @@ too-large base text large = by_test (is_in base (signed_digits_value 10 text)) r
         absurd (by_sign (starts_with_minus text) (digits_value 10 (without_leading_sign text)) large (signed_digits_value 10 text) refl (omega (arith, ints, low, below)) (omega (arith, ints, high, above)))
     by_test false is = refl
 
-pub neither : (a b : Bool) → b ≡ false → (a && b) ≡ false
-neither true b is = is
-neither false b is = refl
-
 pub whole-none : (base : BaseType) (cell text : List ℕ) → text ≡ trimmed cell
     → (are_digits (without_leading_sign text) ≡ false) ⊎ (4294967295 < digits_value 10 (without_leading_sign text)) → is_whole base cell ≡ false
 unfolding is_whole whole_of
 whole-none base cell text same (inl bad) = rw (← same, bad) refl
-whole-none base cell text same (inr large) = rw (← same) (neither (are_digits (without_leading_sign text)) (is_in base (signed_digits_value 10 text)) (too-large base text large))
+whole-none base cell text same (inr large) = rw (← same) (and_right (are_digits (without_leading_sign text)) (is_in base (signed_digits_value 10 text)) (too-large base text large))
 
 pub whole-some : (base : BaseType) (cell text : List ℕ) (z : ℤ) (fits : Bool) → text ≡ trimmed cell → are_digits (without_leading_sign text) ≡ true
     → z ≡ signed_digits_value 10 text → is_in base z ≡ fits → (is_whole base cell ≡ fits) × (z ≡ whole_of cell)

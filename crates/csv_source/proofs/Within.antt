@@ -2,13 +2,13 @@
 use Rattle.std.proofs.Common.{◌≡◌, ◌≤◌, ◌+◌, ℕ, zero, suc, Bool, true, List, [], ◌∷◌, Some, None, length, refl, arith}
 use Rattle.std.specs.Prelude.{Option}
 use Rattle.std.specs.List.{list_all}
+use Rattle.plain_lemmas.proofs.Truths.{both_true}
 use Rattle.csv.specs.Machine.{Read, next_record}
 use Rattle.csv.specs.Reading.{Reached, default_config, records_from, records_next, strip_bom}
 use Rattle.csv.specs.declared.parser.Config.{Config}
 use Rattle.csv.specs.declared.parser.State.{State}
 use Rattle.csv.specs.declared.parser.State.TheVariants as st
 use Rattle.csv_source.specs.Csv.{csv_records}
-use Rattle.dap_model.proofs.Tests.{both_true}
 use Rattle.csv_source.proofs.Recorded.{next-shrinks}
 use Rattle.csv_source.proofs.Sizes.{is_within, reached-within, strip_bom-shorter}
 

@@ -5,10 +5,10 @@ use Rattle.std.proofs.Math.Seq.{take-append-add}
 use Rattle.std.proofs.lemmas.Bool.{cases_lt, eqb-true, false≢true}
 use Rattle.std.proofs.lemmas.List.{take-append-le}
 use Rattle.std.proofs.lemmas.List.Elements.{All-head, All-tail}
-use Rattle.std.proofs.lemmas.List.Folds.{list_all-append}
 use Rattle.std.specs.Char.{to_ascii_lowercase}
 use Rattle.std.specs.List.{AllPass, list_all}
 use Rattle.std.specs.Str.{str_to_ascii_lowercase}
+use Rattle.plain_lemmas.proofs.Lists.{all_of_take}
 use Rattle.viable.proofs.Tests.{and_parts}
 use Rattle.dap_types.specs.Model.{Dataset}
 use Rattle.dap_model.specs.Grammar.{DdsOf, semicolon}
@@ -88,10 +88,6 @@ letters_plain (b ∷ w) all =
     let (first, rest) = and_parts (is_lower (to_ascii_lowercase b)) (list_all is_lower (str_to_ascii_lowercase w)) all in
     rw (letter_plain b first, letters_plain w rest) refl
 
-front_passes : (test : ℕ → Bool) (n : ℕ) (xs : List ℕ) → list_all test xs ≡ true → list_all test (take n xs) ≡ true
-front_passes test n xs all =
-    (and_parts (list_all test (take n xs)) (list_all test (drop n xs)) (sym (list_all-append test (take n xs) (drop n xs)) ∙ ap (list_all test) (take-append-drop n xs) ∙ all)).0
-
 pub whites : (ws : List ℕ) → AllPass dds.is_white ws → list_all is_white ws ≡ true
 whites [] all = refl
 whites (w ∷ ws) all =
@@ -106,7 +102,7 @@ blank white letters n all plain = ⊎_elim in_white behind_white (cases_lt n (le
     in_white lt = record {
       white = take n white;
       left = [];
-      all_white = front_passes is_white n white all;
+      all_white = all_of_take is_white n white all;
       bytes_are = take-append-le n white letters (omega (arith, lt)) ∙ sym (append-nil (take n white));
       part = inl refl;
     }
@@ -117,12 +113,12 @@ blank white letters n all plain = ⊎_elim in_white behind_white (cases_lt n (le
       left = take (n - length white) letters;
       all_white = all;
       bytes_are = (let whole : n ≡ length white + (n - length white) = omega (arith, le) in ap (λ k. take k (white ++ letters)) whole ∙ take-append-add white letters (n - length white));
-      part = inl (front_passes (is_word_byte signs) (n - length white) letters plain);
+      part = inl (all_of_take (is_word_byte signs) (n - length white) letters plain);
     }
 
 blank_unended : (bytes : List ℕ) (n : ℕ) → HasLetters n bytes → IsUnended bytes
 blank_unended bytes n o =
-    let lower : list_all is_lower (str_to_ascii_lowercase (left bytes)) ≡ true = ap (list_all is_lower) o.is_front ∙ front_passes is_lower n (codes "error") refl in
+    let lower : list_all is_lower (str_to_ascii_lowercase (left bytes)) ≡ true = ap (list_all is_lower) o.is_front ∙ all_of_take is_lower n (codes "error") refl in
     let none : NoToken signs (take limit bytes) = subst (λ l. NoToken signs (take limit l)) (sym o.parts) (blank o.white (left bytes) limit (whites o.white o.is_white) (letters_plain (left bytes) lower)) in
     breaks_of signs IsObject step Start Ended IsOpenState machine (take limit bytes) (0, Start, starts signs step Start (take limit bytes), tt, none)
 

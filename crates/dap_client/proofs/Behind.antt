@@ -1,11 +1,11 @@
 -- What comes of a body with the bytes behind its head.
-use Rattle.std.proofs.Common.{◌≡◌, ℕ, zero, suc, ◌+◌, ◌-◌, ◌<◌, ◌≤◌, ◌⊎◌, inl, inr, Bool, List, [], ◌++◌, length, refl, ap, ◌∙◌, sym, subst, arith, append_assoc, append-nil}
+use Rattle.std.proofs.Common.{◌≡◌, ℕ, ◌+◌, ◌-◌, ◌<◌, ◌≤◌, ◌⊎◌, inl, inr, Bool, List, [], ◌++◌, length, refl, ap, ◌∙◌, sym, subst, arith, append_assoc, append-nil}
 use Rattle.std.proofs.lemmas.List.Edits.{length-between}
 use Rattle.xdr_decode.specs.Verdict.{budget}
 use Rattle.reply_faults.specs.declared.bad.BadField.{BadField}
 use Rattle.dap_http.proofs.Framings.{no-end-fault}
 use Rattle.dap_http.proofs.Parts.{Opened}
-use Rattle.dap_http.proofs.Whole.{fails-known, goes-known, known-goes}
+use Rattle.dap_http.proofs.Whole.{fails-known, goes-known}
 use Rattle.dap_http.specs.Codings.{Ends, Fails, Goes}
 use Rattle.dap_http.specs.Delivered.{HasCome, IsBrokenBody, IsWholeBody}
 use Rattle.dap_http.specs.Following.{body_coding, part_of, waiting}
@@ -54,12 +54,6 @@ brought-broken c front w body other wrong ended h (inr (goes, framed, end, cut))
     further-come c front w body other h (record { front = front ++ w; rest = []; parts = sym (append-nil (front ++ w)); comes = inl (goes, refl) })
 
 -- ---- before any byte of the body was read
-
-pub begins : (c : Coding) → Goes c [] [] ⊎ Ends c [] []
-begins Chunked = inl (known-goes [] refl)
-begins (Length zero) = inr (refl, refl)
-begins (Length (suc n)) = inl (refl, omega arith)
-begins ToEnd = inl refl
 
 -- ---- the reader of the parts
 

@@ -1,37 +1,17 @@
 -- From a front of the body of a DAS to one with another piece.
-use Rattle.std.proofs.Common.{◌≡◌, ℕ, ◌+◌, ◌-◌, ◌<◌, ◌≤◌, false, not, ◌&&◌, List, [], ◌∷◌, ◌++◌, length, take, drop, get_or, sym, ap, subst, ◌∙◌, append_assoc, length-append, length-drop, length-take-le, IsTrue, inl, inr, arith}
+use Rattle.std.proofs.Common.{◌≡◌, ℕ, ◌+◌, ◌-◌, ◌<◌, ◌≤◌, false, not, ◌&&◌, List, ◌∷◌, ◌++◌, length, take, drop, get_or, sym, ap, subst, ◌∙◌, append_assoc, length-append, length-drop, length-take-le, IsTrue, inl, inr, arith}
 use Rattle.std.proofs.lemmas.Grind.{common_steps}
-use Rattle.std.proofs.lemmas.List.{take-append-le}
 use Rattle.std.proofs.lemmas.List.Folds.{list_all-append}
 use Rattle.std.specs.List.{AllPass, list_all}
-use Rattle.dap_client.proofs.Objects.{behind_more}
+use Rattle.dap_client.proofs.Objects.{behind_more, front_more, reads_within}
 use Rattle.dap_model.specs.Tokens as dds
 use Rattle.text_tokens.specs.Languages.{BadToken, Breaks, SpellsTo}
-use Rattle.text_tokens.specs.Tokens.{Placed, Reads, Token, TokenAt, is_token, is_white, quoted, sign, token_bytes, word}
+use Rattle.text_tokens.specs.Tokens.{is_white}
 use Rattle.das_text.specs.Grammar.{IsDas, signs}
 use Rattle.das_text.specs.Model.{Attributes}
 use Rattle.das_text.specs.Reading.{DasOf, DasEndsAt, IsBad, IsTrailing, front, limit}
 use Rattle.dap_client.proofs.Begun.{whites}
 use Rattle.das_text.proofs.SameTokens.{white_same}
-
-front_more : (bytes more : List ℕ) → limit ≤ length bytes → front (bytes ++ more) ≡ front bytes
-front_more bytes more long = take-append-le limit bytes more long
-
-token_some : (signs : List ℕ) (t : Token) → IsTrue (is_token signs t) → 0 < length (token_bytes t)
-token_some signs (sign b) is = omega arith
-token_some signs (quoted pieces) is = omega arith
-token_some signs (word []) is = cc
-token_some signs (word (b ∷ bytes)) is = omega arith
-
-token_within : (signs text : List ℕ) (place behind : ℕ) (t : Token) → TokenAt signs text place behind t → behind ≤ length text
-token_within signs text place behind t is =
-    let some = token_some signs t is.is_one in
-    let lengths : length (drop place text) ≡ length (token_bytes t) + length (drop behind text) = ap length is.bytes_are ∙ length-append (token_bytes t) (drop behind text) in
-    omega (arith, some, lengths, is.behind_is, length-drop place text, length-drop behind text)
-
-reads_within : (marks text : List ℕ) (at : ℕ) (ts : List Placed) (to : ℕ) → Reads marks text at ts to → at ≤ length text → to ≤ length text
-reads_within marks text at [] to is le = subst (λ n. n ≤ length text) (sym is) le
-reads_within marks text at (t ∷ ts) to (behind, next, rest) le = reads_within marks text behind ts to rest (token_within marks text t.place behind t.token next.token_at)
 
 ends_within : (bytes : List ℕ) (at : ℕ) (a : Attributes) → limit ≤ length bytes → DasEndsAt bytes at a → at ≤ length bytes
 ends_within bytes at a long is =

@@ -1,13 +1,14 @@
 -- From a front of the line `Data:` to one with another byte.
 use Rattle.std.proofs.Common.{◌≡◌, ℕ, zero, suc, ◌+◌, ◌<◌, ◌≤◌, true, false, List, [], ◌∷◌, ◌++◌, length, take, drop, codes, get_or, refl, sym, ap, subst, ◌∙◌, append_assoc, append-nil, length-append, length-take-le, inl, inr, ◌⊎◌, arith}
 use Rattle.std.proofs.lemmas.Bool.{false≢true}
-use Rattle.std.proofs.lemmas.Grind.{common_steps}
 use Rattle.std.proofs.lemmas.List.Elements.{All-cons, All-nil, All-append, All-head, All-tail}
 use Rattle.std.specs.List.{AllPass}
+use Rattle.dds_text.proofs.Stops.{text_more, text_whole}
+use Rattle.plain_lemmas.proofs.Lists.{cons_first, cons_rest}
 use Rattle.dap_model.specs.Tokens.{is_white}
 use Rattle.xdr_decode.specs.Verdict.{EndsInDataLine, IsBadDataLine, IsDataLine}
 use Rattle.dap_client.specs.inner.DataLines.{HasCome}
-use Rattle.dap_model.proofs.OneBody.{cons_head, cons_tail, white_d}
+use Rattle.dap_model.proofs.OneBody.{white_d}
 
 pub more_blank : (bytes : List ℕ) (n b : ℕ) → HasCome n bytes → n ≡ 0 → is_white b ≡ true → HasCome n (bytes ++ b ∷ [])
 more_blank bytes n b o none w = record {
@@ -67,9 +68,9 @@ line_ends bytes n b o long is = by n refl
 -- behind white space stands the same
 pub same_behind : (ws vs : List ℕ) (x : ℕ) (rs ss : List ℕ) → AllPass is_white ws → AllPass is_white vs → is_white x ≡ false → ws ++ x ∷ rs ≡ vs ++ 68 ∷ ss → x ∷ rs ≡ 68 ∷ ss
 same_behind [] [] x rs ss a b other e = e
-same_behind [] (v ∷ vs) x rs ss a b other e = absurd (false≢true (sym other ∙ subst (λ y. is_white y ≡ true) (sym (cons_head x v rs (vs ++ 68 ∷ ss) e)) (All-head (λ y. is_white y ≡ true) v vs b)))
-same_behind (w ∷ ws) [] x rs ss a b other e = absurd (white_d (subst (λ y. is_white y ≡ true) (cons_head w 68 (ws ++ x ∷ rs) ss e) (All-head (λ y. is_white y ≡ true) w ws a)))
-same_behind (w ∷ ws) (v ∷ vs) x rs ss a b other e = same_behind ws vs x rs ss (All-tail (λ y. is_white y ≡ true) w ws a) (All-tail (λ y. is_white y ≡ true) v vs b) other (cons_tail w v (ws ++ x ∷ rs) (vs ++ 68 ∷ ss) e)
+same_behind [] (v ∷ vs) x rs ss a b other e = absurd (false≢true (sym other ∙ subst (λ y. is_white y ≡ true) (sym (cons_first x v rs (vs ++ 68 ∷ ss) e)) (All-head (λ y. is_white y ≡ true) v vs b)))
+same_behind (w ∷ ws) [] x rs ss a b other e = absurd (white_d (subst (λ y. is_white y ≡ true) (cons_first w 68 (ws ++ x ∷ rs) ss e) (All-head (λ y. is_white y ≡ true) w ws a)))
+same_behind (w ∷ ws) (v ∷ vs) x rs ss a b other e = same_behind ws vs x rs ss (All-tail (λ y. is_white y ≡ true) w ws a) (All-tail (λ y. is_white y ≡ true) v vs b) other (cons_rest w v (ws ++ x ∷ rs) (vs ++ 68 ∷ ss) e)
 
 pub differs : (bytes : List ℕ) (n b : ℕ) → HasCome n bytes → (n ≡ 0 → is_white b ≡ false) → (5 ≤ n → b ≡ 10 → ⊥) → (n < 6 → b ≡ get_or (codes "Data:\r") n 0 → ⊥)
     → (more : List ℕ) → IsDataLine (bytes ++ b ∷ more) → ⊥
@@ -81,31 +82,31 @@ differs bytes n b o first end next more l = by n refl
         ∙ ap (λ z. z ++ b ∷ more) (sym o.parts) ∙ l.parts
 
     begun : (k : ℕ) (rs : List ℕ) → k ≡ n → take k (codes "Data:\r") ++ b ∷ more ≡ 68 ∷ rs → rs ≡ codes "ata:" ++ l.end
-    begun k rs e is = cons_tail 68 68 rs (codes "ata:" ++ l.end) (same_behind o.white l.white 68 rs (codes "ata:" ++ l.end) o.is_white l.is_white refl (ap (λ z. o.white ++ z) (sym is) ∙ laid k e))
+    begun k rs e is = cons_rest 68 68 rs (codes "ata:" ++ l.end) (same_behind o.white l.white 68 rs (codes "ata:" ++ l.end) o.is_white l.is_white refl (ap (λ z. o.white ++ z) (sym is) ∙ laid k e))
 
     at_end : (end : List ℕ) → (end ≡ codes "\n") ⊎ (end ≡ codes "\r\n") → b ∷ more ≡ end → (b ≡ 10) ⊎ (b ≡ 13)
-    at_end end (inl f) e = inl (cons_head b 10 more [] (e ∙ f))
-    at_end end (inr f) e = inr (cons_head b 13 more (codes "\n") (e ∙ f))
+    at_end end (inl f) e = inl (cons_first b 10 more [] (e ∙ f))
+    at_end end (inr f) e = inr (cons_first b 13 more (codes "\n") (e ∙ f))
 
     at_feed : (end : List ℕ) → (end ≡ codes "\n") ⊎ (end ≡ codes "\r\n") → 13 ∷ b ∷ more ≡ end → b ≡ 10
-    at_feed end (inl f) e = absurd (apart (cons_head 13 10 (b ∷ more) [] (e ∙ f)))
+    at_feed end (inl f) e = absurd (apart (cons_first 13 10 (b ∷ more) [] (e ∙ f)))
       where
         apart : Path ℕ 13 10 → ⊥
         apart p = cc
-    at_feed end (inr f) e = cons_head b 10 more [] (cons_tail 13 13 (b ∷ more) (codes "\n") (e ∙ f))
+    at_feed end (inr f) e = cons_first b 10 more [] (cons_rest 13 13 (b ∷ more) (codes "\n") (e ∙ f))
 
     by : (k : ℕ) → k ≡ n → ⊥
-    by zero e = next (omega (arith, e)) (cons_head b 68 more (codes "ata:" ++ l.end) (same_behind o.white l.white b more (codes "ata:" ++ l.end) o.is_white l.is_white (first (sym e)) (laid zero e)) ∙ ap (λ j. get_or (codes "Data:\r") j 0) e)
-    by (suc zero) e = next (omega (arith, e)) (cons_head b 97 more (codes "ta:" ++ l.end) (begun 1 (b ∷ more) e refl) ∙ ap (λ j. get_or (codes "Data:\r") j 0) e)
-    by (suc (suc zero)) e = next (omega (arith, e)) (cons_head b 116 more (codes "a:" ++ l.end) (cons_tail 97 97 _ _ (begun 2 (97 ∷ b ∷ more) e refl)) ∙ ap (λ j. get_or (codes "Data:\r") j 0) e)
-    by (suc (suc (suc zero))) e = next (omega (arith, e)) (cons_head b 97 more (codes ":" ++ l.end) (cons_tail 116 116 _ _ (cons_tail 97 97 _ _ (begun 3 (97 ∷ 116 ∷ b ∷ more) e refl))) ∙ ap (λ j. get_or (codes "Data:\r") j 0) e)
-    by (suc (suc (suc (suc zero)))) e = next (omega (arith, e)) (cons_head b 58 more l.end (cons_tail 97 97 _ _ (cons_tail 116 116 _ _ (cons_tail 97 97 _ _ (begun 4 (97 ∷ 116 ∷ 97 ∷ b ∷ more) e refl)))) ∙ ap (λ j. get_or (codes "Data:\r") j 0) e)
-    by (suc (suc (suc (suc (suc zero))))) e = on (at_end l.end l.is_end (cons_tail 58 58 _ _ (cons_tail 97 97 _ _ (cons_tail 116 116 _ _ (cons_tail 97 97 _ _ (begun 5 (97 ∷ 116 ∷ 97 ∷ 58 ∷ b ∷ more) e refl))))))
+    by zero e = next (omega (arith, e)) (cons_first b 68 more (codes "ata:" ++ l.end) (same_behind o.white l.white b more (codes "ata:" ++ l.end) o.is_white l.is_white (first (sym e)) (laid zero e)) ∙ ap (λ j. get_or (codes "Data:\r") j 0) e)
+    by (suc zero) e = next (omega (arith, e)) (cons_first b 97 more (codes "ta:" ++ l.end) (begun 1 (b ∷ more) e refl) ∙ ap (λ j. get_or (codes "Data:\r") j 0) e)
+    by (suc (suc zero)) e = next (omega (arith, e)) (cons_first b 116 more (codes "a:" ++ l.end) (cons_rest 97 97 _ _ (begun 2 (97 ∷ b ∷ more) e refl)) ∙ ap (λ j. get_or (codes "Data:\r") j 0) e)
+    by (suc (suc (suc zero))) e = next (omega (arith, e)) (cons_first b 97 more (codes ":" ++ l.end) (cons_rest 116 116 _ _ (cons_rest 97 97 _ _ (begun 3 (97 ∷ 116 ∷ b ∷ more) e refl))) ∙ ap (λ j. get_or (codes "Data:\r") j 0) e)
+    by (suc (suc (suc (suc zero)))) e = next (omega (arith, e)) (cons_first b 58 more l.end (cons_rest 97 97 _ _ (cons_rest 116 116 _ _ (cons_rest 97 97 _ _ (begun 4 (97 ∷ 116 ∷ 97 ∷ b ∷ more) e refl)))) ∙ ap (λ j. get_or (codes "Data:\r") j 0) e)
+    by (suc (suc (suc (suc (suc zero))))) e = on (at_end l.end l.is_end (cons_rest 58 58 _ _ (cons_rest 97 97 _ _ (cons_rest 116 116 _ _ (cons_rest 97 97 _ _ (begun 5 (97 ∷ 116 ∷ 97 ∷ 58 ∷ b ∷ more) e refl))))))
       where
         on : (b ≡ 10) ⊎ (b ≡ 13) → ⊥
         on (inl f) = end (omega (arith, e)) f
         on (inr f) = next (omega (arith, e)) (f ∙ ap (λ j. get_or (codes "Data:\r") j 0) e)
-    by (suc (suc (suc (suc (suc (suc zero)))))) e = end (omega (arith, e)) (at_feed l.end l.is_end (cons_tail 58 58 _ _ (cons_tail 97 97 _ _ (cons_tail 116 116 _ _ (cons_tail 97 97 _ _ (begun 6 (97 ∷ 116 ∷ 97 ∷ 58 ∷ 13 ∷ b ∷ more) e refl))))))
+    by (suc (suc (suc (suc (suc (suc zero)))))) e = end (omega (arith, e)) (at_feed l.end l.is_end (cons_rest 58 58 _ _ (cons_rest 97 97 _ _ (cons_rest 116 116 _ _ (cons_rest 97 97 _ _ (begun 6 (97 ∷ 116 ∷ 97 ∷ 58 ∷ 13 ∷ b ∷ more) e refl))))))
     by (suc (suc (suc (suc (suc (suc (suc k))))))) e = absurd (omega (arith, o.most, e))
 
 line_rest : (n : ℕ) → n ≤ 6 → (next : ℕ) × (more end : List ℕ) × ((end ≡ codes "\n") ⊎ (end ≡ codes "\r\n")) × (take n (codes "Data:\r") ++ next ∷ more ≡ codes "Data:" ++ end)
@@ -133,14 +134,8 @@ unended n bytes o =
       },
     )
 
-seam : (bytes piece : List ℕ) (i : ℕ) → i < length piece → (bytes ++ take i piece) ++ get_or piece i 0 ∷ drop (i + 1) piece ≡ bytes ++ piece
-seam bytes piece i lt = grind (arith, common_steps)
-
-take_more : (bytes piece : List ℕ) (i : ℕ) → i < length piece → (bytes ++ take i piece) ++ get_or piece i 0 ∷ [] ≡ bytes ++ take (i + 1) piece
-take_more bytes piece i lt = grind (arith, common_steps)
-
 pub ended_in : (bytes piece : List ℕ) (i : ℕ) → i < length piece → IsDataLine ((bytes ++ take i piece) ++ get_or piece i 0 ∷ []) → (i + 1 ≤ length piece) × IsDataLine (bytes ++ take (i + 1) piece)
-ended_in bytes piece i lt is = (omega (arith, lt), subst IsDataLine (take_more bytes piece i lt) is)
+ended_in bytes piece i lt is = (omega (arith, lt), subst IsDataLine (text_more bytes piece i lt) is)
 
 pub bad_in : (n : ℕ) (bytes piece : List ℕ) (i : ℕ) → i < length piece → HasCome n (bytes ++ take i piece) → ((more : List ℕ) → IsDataLine ((bytes ++ take i piece) ++ get_or piece i 0 ∷ more) → ⊥)
     → IsBadDataLine (bytes ++ piece) (length bytes + i)
@@ -148,7 +143,7 @@ bad_in n bytes piece i lt front bad = record {
   front = bytes ++ take i piece;
   next = get_or piece i 0;
   rest = drop (i + 1) piece;
-  parts = sym (seam bytes piece i lt);
+  parts = sym (text_whole bytes piece i lt);
   begun = unended n (bytes ++ take i piece) front;
   bad = bad;
   is_place = sym (length-append bytes (take i piece) ∙ ap (λ k. length bytes + k) (length-take-le i piece (omega (arith, lt))));

@@ -4,7 +4,7 @@ use Rattle.std.proofs.Math.Seq.{take-append-add, take-length}
 use Rattle.std.specs.Io.KnownBytes.{Appends}
 use Rattle.dap_outside.specs.Streams.{AppendsFront}
 use Rattle.std.proofs.lemmas.Bool.{cases_lt, false≢true}
-use Rattle.std.proofs.lemmas.List.{take-append-drop, take-append-le, take_all}
+use Rattle.std.proofs.lemmas.List.{take-append-drop, take-append-le, take_all, nil_from_length}
 use Rattle.std.proofs.lemmas.List.Sums.{sum_by-cons}
 use Rattle.std.specs.Fmt.{decimal}
 use Rattle.std.specs.List.{count_by, flat_map}
@@ -79,16 +79,12 @@ record IsAll (d : Dataset) (ts : List Tree) (whole more : List ℕ) : Type 0 whe
   lines_are : whole ≡ flat_map element_line (elements_all [] d.members ts)
   none : more ≡ []
 
-none_of : (l : List ℕ) → length l ≡ 0 → l ≡ []
-none_of [] is = refl
-none_of (b ∷ l) is = absurd (omega (arith, is))
-
 front_all : (d : Dataset) (ts : List Tree) (bs whole more : List ℕ) → Spells d ts bs → IsFront d bs whole more → IsAll d ts whole more
 front_all d ts bs whole more s f = by f.rest f.in_order f.cut f.is_begun
   where
     by : (rest : List Field) → fields_all d.members f.trees ≡ f.fields ++ rest → IsCut rest (length f.own) → more ≡ open_line d f.trees f.fields rest (length f.own) → IsAll d ts whole more
     by [] order cut begun =
-        let all : bs ≡ f.front = f.parts ∙ ap (λ l. f.front ++ l) (none_of f.own cut) ∙ append-nil f.front in
+        let all : bs ≡ f.front = f.parts ∙ ap (λ l. f.front ++ l) (nil_from_length f.own cut) ∙ append-nil f.front in
         let fields : f.fields ≡ fields_all d.members f.trees = sym (order ∙ append-nil f.fields) in
         let own : Spells d f.trees bs = record { fit = f.fit; spelled = subst (λ l. SpellsFields (fields_all d.members f.trees) l) (sym all) (subst (λ fs. SpellsFields fs f.front) fields f.good) } in
         let same : f.trees ≡ ts = (one_spelling d f.trees ts bs [] own (subst (Spells d ts) (sym (append-nil bs)) s)).0 in
@@ -108,7 +104,7 @@ lines_whole d ts values lines' at shows =
     let a = front_all d ts shows.good shows.whole shows.more (subst (Spells d ts) good s) shows.is_front in
     let (x, begins) = shows.begins in
     let (y, within) = shows.within in
-    let empty : x ≡ [] = none_of x (omega (arith, ap length begins, ap length within, ap length a.none, length-append shows.whole shows.more, length-append lines' y, length-append shows.whole x)) in
+    let empty : x ≡ [] = nil_from_length x (omega (arith, ap length begins, ap length within, ap length a.none, length-append shows.whole shows.more, length-append lines' y, length-append shows.whole x)) in
     begins ∙ ap (λ l. shows.whole ++ l) empty ∙ append-nil shows.whole ∙ a.lines_are
 
 pub shown_whole : (d : Dataset) (ts : List Tree) (n : ℕ) (lines' put : List ℕ) → put ≡ dds d ++ lines' → lines' ≡ flat_map element_line (elements_all [] d.members ts) → shown d ts n ≡ put ++ completed n

@@ -71,7 +71,7 @@ values_verdict decoder bytes put none o =
     o.good
 
 -- ---- where the budget is reached
-full_front : (bytes more : List ℕ) → length bytes ≡ budget → take budget (bytes ++ more) ≡ bytes
+pub full_front : (bytes more : List ℕ) → length bytes ≡ budget → take budget (bytes ++ more) ≡ bytes
 full_front bytes more full = ap (λ n. take n (bytes ++ more)) (sym full) ∙ take-append_seam bytes more
 
 full_long : (bytes more : List ℕ) → length bytes ≡ budget → budget ≤ length (bytes ++ more)

@@ -2,7 +2,7 @@
 use Rattle.std.proofs.Common.{◌≡◌, ◌<◌, ◌≤◌, ℕ, ◌⊎◌, inl, inr, Bool, true, List, [], ◌++◌, length, Err, IsTrue, refl, ap, ◌∙◌, sym, subst, arith, append_assoc, length-append}
 use Rattle.std.proofs.lemmas.Bool.{cases_lt}
 use Rattle.std.proofs.lemmas.List.{take-append-le}
-use Rattle.dap_http.proofs.Deliveries.{break-more, delivery-more, no-delivery-broken, one-break, one-delivery}
+use Rattle.dap_http.proofs.Deliveries.{break-more, delivery-more, no-delivery-broken, one-break, one-delivery, good-head}
 use Rattle.dap_http.proofs.Finals.{gives-more, one-gives}
 use Rattle.dap_http.proofs.Parts.{opened}
 use Rattle.dap_http.proofs.Seams.{split}
@@ -13,7 +13,6 @@ use Rattle.dap_http.specs.declared.coding.Coding.{Coding}
 use Rattle.reply_faults.specs.declared.bad.BadField.{BadField}
 use Rattle.dap_client.proofs.Behind.{brought-broken, brought-whole, come-now, further-come}
 use Rattle.dap_client.proofs.HeldBodies.{not-now, said-taken, says-so}
-use Rattle.dap_client.proofs.Lifted.{good-head}
 use Rattle.dap_client.proofs.OneVerdict.{one_verdict}
 use Rattle.dap_client.proofs.Only.{lasting_end}
 use Rattle.dap_client.proofs.TextBodies.{goes_first}

@@ -1,6 +1,7 @@
 -- How much is taken of a reply, and how much of it behind what settles the reply or behind a `Data:` line.
 use Rattle.std.proofs.Common.{◌≡◌, ℕ, ◌+◌, ◌<◌, ◌≤◌, ◌⊎◌, inl, inr, false, List, [], ◌++◌, length, refl, ap, ◌∙◌, sym, subst, arith, append_assoc, append-nil, length-append}
 use Rattle.std.proofs.lemmas.Bool.{cases_lt}
+use Rattle.dap_http.proofs.Parts.{start-goes}
 use Rattle.httparse.specs.Grammar.{ResponseHead}
 use Rattle.dap_http.proofs.Finals.{gives-more, one-gives}
 use Rattle.dap_http.proofs.Framings.{fault-more, no-end-cut, no-fault-cut}
@@ -18,7 +19,7 @@ use Rattle.dap_client.specs.Answered.{TakesFewValues}
 use Rattle.dap_client.specs.Replies.{Brings, Settles, Spoils, StopsInTime}
 use Rattle.dap_client.specs.Verdict.{Form, JudgesDods, bad, das_form, dds_form, dods_form}
 use Rattle.dap_client.specs.inner.Behind.{StopsBehind, TakesFewValuesBehind}
-use Rattle.dap_client.proofs.Behind.{begins, further-come}
+use Rattle.dap_client.proofs.Behind.{further-come}
 use Rattle.dap_client.proofs.GoodParts.{head_more}
 use Rattle.dap_http.proofs.Further.{come-further}
 
@@ -108,7 +109,7 @@ stops-as form other c d bytes all forms codings same stops =
 
 -- with the bytes that were taken with the heads
 few-come : (c : Coding) (first body : List ℕ) → HasCome c first body → length body ≤ length first
-few-come c first body come = let (y, e, few) = come-further c [] first [] body (begins c) come in omega (arith, few, ap length e)
+few-come c first body come = let (y, e, few) = come-further c [] first [] body (start-goes c) come in omega (arith, few, ap length e)
 
 pub stops-begun : (form : Form) (c : Coding) (bytes : List ℕ) → length bytes ≤ 65536 → StopsBehind form c bytes
 stops-begun form c bytes room = record {

@@ -1,9 +1,10 @@
 -- The replies that were read so far, one more, and the last.
-use Rattle.std.proofs.Common.{◌≡◌, ℕ, suc, ◌+◌, ◌-◌, ◌≤◌, Bool, true, false, IsTrue, if◌then◌else◌, List, [], ◌∷◌, ◌++◌, length, Option, Some, None, refl, ap, ◌∙◌, sym, subst, arith, append_assoc, length-append}
+use Rattle.std.proofs.Common.{◌≡◌, ℕ, suc, ◌+◌, ◌-◌, ◌≤◌, Bool, true, false, IsTrue, if◌then◌else◌, List, [], ◌∷◌, ◌++◌, length, Option, Some, None, refl, ap, ◌∙◌, sym, subst, arith, length-append}
 use Rattle.std.proofs.lemmas.Bool.{true≢false}
 use Rattle.std.proofs.lemmas.List.Elements.{All-append, All-cons, All-nil}
 use Rattle.std.proofs.KnownBytes.{Appends-trans, Consumes-trans}
 use Rattle.std.specs.Io.KnownBytes.{Appends, Consumes, IsAtEnd}
+use Rattle.plain_lemmas.proofs.Lists.{seam}
 use Rattle.dap_client.proofs.Saying.{says, stands}
 use Rattle.dap_client.proofs.Sequels.{Leads, NextTold, SoFar, good-behind, good-of, leads-more, put-more, read-more, says-good, taken-more, time-more, verdicts-of, waits-more}
 use Rattle.dap_client.specs.Answered.{Tells}
@@ -23,7 +24,7 @@ tells-on None b bytes input moved is = cc is
 tells-on (Some xs) None bytes input moved is = absurd moved
 tells-on (Some xs) (Some ys) bytes input moved is = let same : xs ≡ input = cc in (ys, refl, sym same ∙ moved)
 
-at-end : (b : Option (List ℕ)) (left : List ℕ) → b ≡ Some left → IsAtEnd b → left ≡ []
+pub at-end : (b : Option (List ℕ)) (left : List ℕ) → b ≡ Some left → IsAtEnd b → left ≡ []
 at-end None left is end = cc is
 at-end (Some ys) left is end = let same : ys ≡ left = cc in sym same ∙ end
 
@@ -63,9 +64,6 @@ between came back next before taken input ended first then_taken end is =
     let (left, back_is, parts) = tells-on came back before input first is in
     let (after, next_is, split) = tells-on back next taken left then_taken back_is in
     record { left = left; after = after; back_is = back_is; next_is = next_is; left_is = split; none = λ e. at-end next after next_is (end e) }
-
-seam : (waiting left taken after : List ℕ) → left ≡ taken ++ after → waiting ++ left ≡ (waiting ++ taken) ++ after
-seam waiting left taken after is = ap (λ l. waiting ++ l) is ∙ sym (append_assoc waiting taken after)
 
 pub one-more : (form : Form) (n : ℕ) (came back next before now later : Option (List ℕ)) (waiting rest : List ℕ) (ended : Bool) (outcome : Outcome)
     → SoFar form n came back before now waiting → NextTold form back next now later waiting rest ended outcome → is_complete outcome ≡ true

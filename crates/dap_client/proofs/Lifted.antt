@@ -1,7 +1,6 @@
 -- From the bytes behind the heads of a reply to the reply.
-use Rattle.std.proofs.Common.{◌≡◌, ℕ, ◌≤◌, inl, inr, Bool, List, [], length, refl, sym, subst, arith}
+use Rattle.std.proofs.Common.{◌≡◌, ℕ, ◌≤◌, inl, inr, Bool, List, [], length, refl, sym, subst}
 use Rattle.reply_faults.specs.declared.bad.BadField.{BadField}
-use Rattle.dap_http.proofs.Finals.{no-reply-final, one-gives}
 use Rattle.dap_http.specs.Reading.{Answers}
 use Rattle.dap_http.specs.declared.reply_reader.ReplyRead.TheVariants as read
 use Rattle.dap_http.specs.Delivered.{HasBadHead, HasCoding}
@@ -51,13 +50,6 @@ told-as form other c d bytes all rest left text ended outcome forms codings same
     (subst (λ (r : List ℕ). IsToldBehind form c bytes ended r text outcome) rests told)))
 
 -- ---- where no head gives a coding
-
-pub good-head : (reply behind : List ℕ) (ended : Bool) (wrong : BadField) (c : Coding) → HasCoding reply c behind → HasBadHead reply ended wrong → ⊥
-good-head reply behind ended wrong c (head, final, within, is) (place, inl (kind, none)) = no-reply-final reply behind head none final
-good-head reply behind ended wrong c (head, final, within, is) (place, inr (inl (kind, long))) = omega (arith, within, long.none head behind final)
-good-head reply behind ended wrong c (head, final, within, is) (place, inr (inr (inl (kind, end, cut)))) = cut.none head behind final
-good-head reply behind ended wrong c good (place, inr (inr (inr (rest, gives)))) =
-    let (rests, codings) = one-gives reply behind rest (inr c) (inl wrong.kind) good gives in cc
 
 pub bad-head : (reply kept : List ℕ) (ended : Bool) (wrong : BadField) → Answers reply kept ended (read.Refused wrong) → HasBadHead reply ended wrong
 bad-head reply kept ended wrong (place, inl (kind, none, same)) = (place, inl (kind, none))

@@ -1,13 +1,14 @@
 -- What follows an Error object, byte by byte.
 use Rattle.std.proofs.Common.{◌≡◌, ℕ, ◌+◌, ◌<◌, ◌≤◌, Bool, true, false, not, ◌&&◌, List, [], ◌∷◌, ◌++◌, length, take, drop, get_or, refl, sym, ap, subst, ◌∙◌, append_assoc, length-append, length-drop, length-take-le, take_all, IsTrue, inl, inr, ◌⊎◌, arith}
 use Rattle.std.proofs.lemmas.Bool.{false≢true}
-use Rattle.std.proofs.lemmas.Grind.{common_steps}
 use Rattle.std.proofs.lemmas.List.{drop-append-le, take-append-le}
 use Rattle.std.proofs.lemmas.List.Folds.{list_all-append}
 use Rattle.std.specs.List.{list_all}
+use Rattle.dds_text.proofs.Stops.{text_more, text_whole}
+use Rattle.text_tokens.proofs.Every.{some_bytes}
 use Rattle.dap_model.specs.Tokens as dds
 use Rattle.text_tokens.specs.Languages.{BadToken, Breaks}
-use Rattle.text_tokens.specs.Tokens.{Placed, Reads, Token, TokenAt, is_token, is_white, quoted, sign, token_bytes, word}
+use Rattle.text_tokens.specs.Tokens.{Placed, Reads, Token, TokenAt, is_white, token_bytes}
 use Rattle.dap_errors.proofs.Reading.{front_within}
 use Rattle.dap_errors.proofs.Single.{object_no_bad}
 use Rattle.dap_errors.specs.Object.{IsObject, signs}
@@ -26,26 +27,20 @@ white_more xs ys a b = list_all-append is_white xs ys ∙ ap (λ c. c && list_al
 pub behind_more : (bytes : List ℕ) (at : ℕ) (more : List ℕ) → at ≤ length bytes → drop at (bytes ++ more) ≡ drop at bytes ++ more
 behind_more bytes at more le = drop-append-le at bytes more le
 
-front_more : (bytes more : List ℕ) → limit ≤ length bytes → front (bytes ++ more) ≡ front bytes
+pub front_more : (bytes more : List ℕ) → limit ≤ length bytes → front (bytes ++ more) ≡ front bytes
 front_more bytes more long = take-append-le limit bytes more long
 
 ends_more : (bytes more : List ℕ) (at : ℕ) (e : ErrorObject) → limit ≤ length bytes → ObjectEndsAt bytes at e → ObjectEndsAt (bytes ++ more) at e
 ends_more bytes more at e long is = subst (λ z. Rattle.text_tokens.specs.Languages.SpellsTo Rattle.dap_errors.specs.Object.signs Rattle.dap_errors.specs.Object.IsObject z at e) (sym (front_more bytes more long)) is
 
-token_some : (signs : List ℕ) (t : Token) → IsTrue (is_token signs t) → 0 < length (token_bytes t)
-token_some signs (sign b) is = omega arith
-token_some signs (quoted pieces) is = omega arith
-token_some signs (word []) is = cc
-token_some signs (word (b ∷ bytes)) is = omega arith
-
 -- a whole token ends within the text
-token_within : (signs text : List ℕ) (place behind : ℕ) (t : Token) → TokenAt signs text place behind t → behind ≤ length text
+pub token_within : (signs text : List ℕ) (place behind : ℕ) (t : Token) → TokenAt signs text place behind t → behind ≤ length text
 token_within signs text place behind t is =
-    let some = token_some signs t is.is_one in
+    let some = some_bytes signs t is.is_one in
     let lengths : length (drop place text) ≡ length (token_bytes t) + length (drop behind text) = ap length is.bytes_are ∙ length-append (token_bytes t) (drop behind text) in
     omega (arith, some, lengths, is.behind_is, length-drop place text, length-drop behind text)
 
-reads_within : (marks text : List ℕ) (at : ℕ) (ts : List Placed) (to : ℕ) → Reads marks text at ts to → at ≤ length text → to ≤ length text
+pub reads_within : (marks text : List ℕ) (at : ℕ) (ts : List Placed) (to : ℕ) → Reads marks text at ts to → at ≤ length text → to ≤ length text
 reads_within marks text at [] to is le = subst (λ n. n ≤ length text) (sym is) le
 reads_within marks text at (t ∷ ts) to (behind, next, rest) le = reads_within marks text behind ts to rest (token_within marks text t.place behind t.token next.token_at)
 
@@ -128,12 +123,6 @@ bad_stays bytes place long (inr (inl b)) more = inr (inl (record {
 }))
 bad_stays bytes place long (inr (inr (b, at, is))) more = inr (inr (subst (λ z. Breaks signs IsObject z) (sym (front_more bytes more long)) b, omega (arith, at, length-append bytes more), is))
 
-piece_whole : (bytes piece : List ℕ) (i : ℕ) → i < length piece → (bytes ++ take i piece) ++ get_or piece i 0 ∷ drop (i + 1) piece ≡ bytes ++ piece
-piece_whole bytes piece i lt = grind (arith, common_steps)
-
-piece_more : (bytes piece : List ℕ) (i : ℕ) → i < length piece → (bytes ++ take i piece) ++ get_or piece i 0 ∷ [] ≡ bytes ++ take (i + 1) piece
-piece_more bytes piece i lt = grind (arith, common_steps)
-
 piece_place : (bytes piece : List ℕ) (i : ℕ) → i < length piece → length (bytes ++ take i piece) ≡ length bytes + i
 piece_place bytes piece i lt = length-append bytes (take i piece) ∙ ap (λ k. length bytes + k) (length-take-le i piece (omega (arith, lt)))
 
@@ -141,11 +130,11 @@ piece_place bytes piece i lt = length-append bytes (take i piece) ∙ ap (λ k. 
 pub stray_in : (bytes piece : List ℕ) (i : ℕ) → i < length piece → ((more : List ℕ) → IsBad ((bytes ++ take i piece) ++ get_or piece i 0 ∷ more) (length (bytes ++ take i piece))) → (more : List ℕ) → IsBad ((bytes ++ piece) ++ more) (length bytes + i)
 stray_in bytes piece i lt is more =
     let whole : (bytes ++ take i piece) ++ get_or piece i 0 ∷ (drop (i + 1) piece ++ more) ≡ (bytes ++ piece) ++ more =
-    sym (append_assoc (bytes ++ take i piece) (get_or piece i 0 ∷ drop (i + 1) piece) more) ∙ ap (λ l. l ++ more) (piece_whole bytes piece i lt) in
+    sym (append_assoc (bytes ++ take i piece) (get_or piece i 0 ∷ drop (i + 1) piece) more) ∙ ap (λ l. l ++ more) (text_whole bytes piece i lt) in
     subst (λ n. IsBad ((bytes ++ piece) ++ more) n) (piece_place bytes piece i lt) (subst (λ l. IsBad l (length (bytes ++ take i piece))) whole (is (drop (i + 1) piece ++ more)))
 
 pub piece_step : (bytes piece : List ℕ) (i : ℕ) (e : ErrorObject) (s : Bool) → i < length piece → IsBehind ((bytes ++ take i piece) ++ get_or piece i 0 ∷ []) e s → IsBehind (bytes ++ take (i + 1) piece) e s
-piece_step bytes piece i e s lt is = subst (λ l. IsBehind l e s) (piece_more bytes piece i lt) is
+piece_step bytes piece i e s lt is = subst (λ l. IsBehind l e s) (text_more bytes piece i lt) is
 
 pub piece_end : (bytes piece : List ℕ) (i : ℕ) (e : ErrorObject) (s : Bool) → length piece ≤ i → IsBehind (bytes ++ take i piece) e s → IsBehind (bytes ++ piece) e s
 piece_end bytes piece i e s le is = subst (λ l. IsBehind (bytes ++ l) e s) (take_all i piece le) is

@@ -5,6 +5,8 @@ use Rattle.std.proofs.lemmas.List.{drop_at}
 use Rattle.std.proofs.lemmas.List.Elements.{All-head, All-tail}
 use Rattle.std.specs.Bool.{⊤}
 use Rattle.std.specs.List.{AllPass}
+use Rattle.dap_client.proofs.Ending.{faulty_other}
+use Rattle.plain_lemmas.proofs.Lists.{cons_first, cons_rest}
 use Rattle.dap_types.specs.Model.{Dataset}
 use Rattle.dap_model.specs.Tokens.{Token, is_white, tokens_of}
 use Rattle.dap_errors.proofs.Single.{bad_no_cut, object_no_bad, object_no_cut, one_object, one_place as one_error_place}
@@ -20,7 +22,6 @@ use Rattle.reply_faults.specs.declared.bad.Bad.{Bad}
 use Rattle.reply_faults.specs.declared.bad.Bad.TheVariants.{BadHead, HeadTooLong, Coded, BadChunk, BadDds, BadDataLine, BadDas, BadError, BadCount, BadWord, BadPadding, WrongMark, Cut, Trailing, TooLong}
 use Rattle.error_word.specs.Saying.{says_error}
 use Rattle.dap_client.specs.Verdict.{Form, HasStray, IsVerdict, Judges, JudgesDas, JudgesDasText, JudgesDds, JudgesDods, JudgesError, JudgesForm, Verdict, bad, das_form, dds_form, dods_form, good, good_das, good_dds, is_fault, is_final, server_error}
-use Rattle.dap_model.proofs.OneBody.{cons_head, cons_tail}
 
 same_bad : (k l : Bad) (p q : ℕ) → k ≡ l → p ≡ q → bad k p ≡ bad l q
 same_bad k l p q kinds places = ap (λ x. bad x p) kinds ∙ ap (bad l) places
@@ -55,20 +56,20 @@ not_white : (x : ℕ) → IsTrue (not (is_white x)) → is_white x ≡ true → 
 not_white x other white = false≢true (ap not (sym white) ∙ other)
 
 white_before : (w x : ℕ) (ws xs : List ℕ) → AllPass is_white (w ∷ ws) → w ∷ ws ≡ x ∷ xs → is_white x ≡ true
-white_before w x ws xs all e = subst (λ y. is_white y ≡ true) (cons_head w x ws xs e) (All-head (λ y. is_white y ≡ true) w ws all)
+white_before w x ws xs all e = subst (λ y. is_white y ≡ true) (cons_first w x ws xs e) (All-head (λ y. is_white y ≡ true) w ws all)
 
 none_among : (ws vs rs : List ℕ) (x : ℕ) → AllPass is_white vs → IsTrue (not (is_white x)) → vs ≡ ws ++ x ∷ rs → ⊥
 none_among [] [] rs x all other e = cc
 none_among [] (v ∷ vs) rs x all other e = not_white x other (white_before v x vs rs all e)
 none_among (w ∷ ws) [] rs x all other e = cc
-none_among (w ∷ ws) (v ∷ vs) rs x all other e = none_among ws vs rs x (All-tail (λ y. is_white y ≡ true) v vs all) other (cons_tail v w vs (ws ++ x ∷ rs) e)
+none_among (w ∷ ws) (v ∷ vs) rs x all other e = none_among ws vs rs x (All-tail (λ y. is_white y ≡ true) v vs all) other (cons_rest v w vs (ws ++ x ∷ rs) e)
 
 first_other : (ws vs rs ss : List ℕ) (x y : ℕ) → AllPass is_white ws → AllPass is_white vs → IsTrue (not (is_white x)) → IsTrue (not (is_white y)) → ws ++ x ∷ rs ≡ vs ++ y ∷ ss → length ws ≡ length vs
 first_other [] [] rs ss x y a b other also e = refl
-first_other [] (v ∷ vs) rs ss x y a b other also e = absurd (not_white x other (subst (λ z. is_white z ≡ true) (sym (cons_head x v rs (vs ++ y ∷ ss) e)) (All-head (λ z. is_white z ≡ true) v vs b)))
-first_other (w ∷ ws) [] rs ss x y a b other also e = absurd (not_white y also (subst (λ z. is_white z ≡ true) (cons_head w y (ws ++ x ∷ rs) ss e) (All-head (λ z. is_white z ≡ true) w ws a)))
+first_other [] (v ∷ vs) rs ss x y a b other also e = absurd (not_white x other (subst (λ z. is_white z ≡ true) (sym (cons_first x v rs (vs ++ y ∷ ss) e)) (All-head (λ z. is_white z ≡ true) v vs b)))
+first_other (w ∷ ws) [] rs ss x y a b other also e = absurd (not_white y also (subst (λ z. is_white z ≡ true) (cons_first w y (ws ++ x ∷ rs) ss e) (All-head (λ z. is_white z ≡ true) w ws a)))
 first_other (w ∷ ws) (v ∷ vs) rs ss x y a b other also e =
-    let rest = first_other ws vs rs ss x y (All-tail (λ z. is_white z ≡ true) w ws a) (All-tail (λ z. is_white z ≡ true) v vs b) other also (cons_tail w v (ws ++ x ∷ rs) (vs ++ y ∷ ss) e) in
+    let rest = first_other ws vs rs ss x y (All-tail (λ z. is_white z ≡ true) w ws a) (All-tail (λ z. is_white z ≡ true) v vs b) other also (cons_rest w v (ws ++ x ∷ rs) (vs ++ y ∷ ss) e) in
     omega (arith, rest)
 
 -- two texts that bytes begin with are one
@@ -207,9 +208,6 @@ short_body bytes (good_dds d) small a = absurd a
 short_body bytes (good_das d) small a = absurd a
 short_body bytes (server_error e) small a = absurd a
 
-fault_not_cut : (k : Bad) → is_fault k ≡ true → k ≡ Cut → ⊥
-fault_not_cut k fault is = false≢true (sym (ap is_fault is) ∙ fault)
-
 no_fault : (k : Bad) → is_fault k ≡ false → k ≡ Cut
 no_fault BadHead e = cc
 no_fault HeadTooLong e = cc
@@ -234,7 +232,7 @@ Long front v = ((is_final front ≡ true) × (v ≡ front)) ⊎ ((is_final front
 long_body : (bytes : List ℕ) (front v : Verdict) → budget ≤ length bytes → JudgesDods (take budget bytes) front → Long front v → body.IsVerdict bytes (as_body v) × IsOne v
 long_body bytes (good d ts) v long a (inl (final, is)) = absurd (false≢true final)
 long_body bytes (good d ts) v long a (inr (final, is)) = subst (λ x. body.IsVerdict bytes (as_body x) × IsOne x) (sym is) (inr ((long, inl (d, ts, a)), refl, refl), tt)
-long_body bytes (bad k p) v long a (inl (final, is)) = subst (λ x. body.IsVerdict bytes (as_body x) × IsOne x) (sym is) (inl (a, inr (fault_not_cut k final)), tt)
+long_body bytes (bad k p) v long a (inl (final, is)) = subst (λ x. body.IsVerdict bytes (as_body x) × IsOne x) (sym is) (inl (a, inr (faulty_other k final)), tt)
 long_body bytes (bad k p) v long a (inr (final, is)) =
     subst (λ x. body.IsVerdict bytes (as_body x) × IsOne x) (sym is) (inr ((long, inr (p, subst (λ x. IsWrongIn (take budget bytes) x p) (no_fault k final) a)), refl, refl), tt)
 long_body bytes (good_dds d) v long a l = absurd a

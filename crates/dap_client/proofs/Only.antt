@@ -1,8 +1,7 @@
 -- The verdict on a reply is what the outcome says, but for a fault or want of memory.
-use Rattle.std.proofs.Common.{◌≡◌, ℕ, ◌+◌, inl, inr, Bool, true, List, [], ◌∷◌, ◌++◌, length, Option, Some, None, IsTrue, refl, ap, ◌∙◌, sym, subst, arith, append_assoc, length-append}
+use Rattle.std.proofs.Common.{◌≡◌, ℕ, ◌+◌, inl, inr, Bool, true, List, [], ◌∷◌, ◌++◌, length, IsTrue, refl, ap, ◌∙◌, sym, subst, arith, append_assoc, length-append}
 use Rattle.std.proofs.lemmas.Bool.{false≢true}
-use Rattle.std.specs.Io.KnownBytes.{Consumes, IsAtEnd}
-use Rattle.dap_http.proofs.Deliveries.{break-more, delivery-more}
+use Rattle.dap_http.proofs.Deliveries.{break-more, delivery-more, good-head}
 use Rattle.dap_http.proofs.Finals.{gives-more, one-gives}
 use Rattle.dap_http.specs.Delivered.{BreaksOff, HasCoding, HasCome, IsBrokenBody, IsWholeBody}
 use Rattle.dap_http.specs.declared.coding.Coding.{Coding}
@@ -12,7 +11,6 @@ use Rattle.xdr_decode.specs.Verdict.{HasWrongValues, budget, kind_of}
 use Rattle.reply_faults.specs.declared.bad.Bad.TheVariants.{Cut, TooLong}
 use Rattle.reply_faults.specs.declared.bad.BadField.{BadField}
 use Rattle.dap_client.proofs.Behind.{brought-broken, brought-whole}
-use Rattle.dap_client.proofs.Lifted.{good-head}
 use Rattle.dap_client.proofs.OneReply.{one_reply}
 use Rattle.dap_client.proofs.OneVerdict.{one_verdict}
 use Rattle.dap_client.proofs.TextBodies.{goes_first}
@@ -25,11 +23,11 @@ use Rattle.dap_client.specs.declared.outcome.Outcome.TheVariants.{Complete, Serv
 
 -- ---- bytes that end are judged at their end
 
-error_end : (bytes : List ℕ) (place : ℕ) → JudgesError bytes (bad Cut place) → place ≡ length bytes
+pub error_end : (bytes : List ℕ) (place : ℕ) → JudgesError bytes (bad Cut place) → place ≡ length bytes
 error_end bytes place (inl (b, is)) = cc
 error_end bytes place (inr (cut, end, is)) = end
 
-no_cut : (fault : Fault) → Cut ≡ kind_of fault → ⊥
+pub no_cut : (fault : Fault) → Cut ≡ kind_of fault → ⊥
 no_cut bad_count is = cc
 no_cut bad_word is = cc
 no_cut bad_padding is = cc
@@ -46,17 +44,17 @@ dods_end bytes place (inr (inl (b, is))) = cc
 dods_end bytes place (inr (inr (inl (cut, end, is)))) = end
 dods_end bytes place (inr (inr (inr b))) = values_end bytes place b
 
-dds_end : (bytes : List ℕ) (place : ℕ) → JudgesDds bytes (bad Cut place) → place ≡ length bytes
+pub dds_end : (bytes : List ℕ) (place : ℕ) → JudgesDds bytes (bad Cut place) → place ≡ length bytes
 dds_end bytes place (inl (b, is)) = cc
 dds_end bytes place (inr (inl (s, is))) = cc
 dds_end bytes place (inr (inr (cut, end, is))) = end
 
-das_text_end : (bytes : List ℕ) (place : ℕ) → JudgesDasText bytes (bad Cut place) → place ≡ length bytes
+pub das_text_end : (bytes : List ℕ) (place : ℕ) → JudgesDasText bytes (bad Cut place) → place ≡ length bytes
 das_text_end bytes place (inl (b, is)) = cc
 das_text_end bytes place (inr (inl (s, is))) = cc
 das_text_end bytes place (inr (inr (cut, end, is))) = end
 
-das_end : (ts : List Token) (bytes : List ℕ) (place : ℕ) → JudgesDas ts bytes (bad Cut place) → place ≡ length bytes
+pub das_end : (ts : List Token) (bytes : List ℕ) (place : ℕ) → JudgesDas ts bytes (bad Cut place) → place ≡ length bytes
 das_end [] bytes place (inl (short, is)) = same_end place (length bytes) is
   where
     same_end : (p q : ℕ) → bad Cut p ≡ bad Cut q → p ≡ q
@@ -64,13 +62,13 @@ das_end [] bytes place (inl (short, is)) = same_end place (length bytes) is
 das_end [] bytes place (inr (long, is)) = das_text_end bytes place is
 das_end (t ∷ ts) bytes place is = das_text_end bytes place is
 
-judged_end : (form : Form) (bytes : List ℕ) (place : ℕ) → Judges form bytes (bad Cut place) → place ≡ length bytes
+pub judged_end : (form : Form) (bytes : List ℕ) (place : ℕ) → Judges form bytes (bad Cut place) → place ≡ length bytes
 judged_end form bytes place (inl (says, error)) = error_end bytes place error
 judged_end dods_form bytes place (inr (says, judged)) = dods_end bytes place judged
 judged_end dds_form bytes place (inr (says, judged)) = dds_end bytes place judged
 judged_end das_form bytes place (inr (says, judged)) = das_end (tokens_of bytes) bytes place judged
 
-verdict_end : (form : Form) (bytes : List ℕ) (place : ℕ) → IsVerdict form bytes (bad Cut place) → place ≡ length bytes
+pub verdict_end : (form : Form) (bytes : List ℕ) (place : ℕ) → IsVerdict form bytes (bad Cut place) → place ≡ length bytes
 verdict_end form bytes place (inl (small, judged)) = judged_end form bytes place judged
 verdict_end form bytes place (inr (long, front, judged, inl (final, same))) = absurd (false≢true (ap is_final same ∙ final))
 verdict_end form bytes place (inr (long, front, judged, inr (other, same))) = absurd (other_kind place budget same)
@@ -152,12 +150,3 @@ only_told form taken more coding behind rest text ended n v LinkFault stop has g
 only_told form taken more coding behind rest text ended n v Memory stop has given told = tt
 
 -- ---- what a source had left
-
-pub left_over : (old new : Option (List ℕ)) (all t : List ℕ) → old ≡ Some all → Consumes old new t → (more : List ℕ) × (new ≡ Some more) × (all ≡ t ++ more)
-left_over None new all t is used = cc
-left_over (Some xs) None all t is used = absurd used
-left_over (Some xs) (Some ys) all t is used = let same : xs ≡ all = cc in (ys, refl, sym same ∙ used)
-
-pub nothing_over : (new : Option (List ℕ)) (more : List ℕ) → new ≡ Some more → IsAtEnd new → more ≡ []
-nothing_over None more is end = cc
-nothing_over (Some ys) more is end = let same : ys ≡ more = cc in sym same ∙ end

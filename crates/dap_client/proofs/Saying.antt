@@ -1,6 +1,7 @@
 -- What is told of the bytes that were taken is the verdict on all that stand there.
 use Rattle.std.proofs.Common.{◌≡◌, ℕ, ◌-◌, ◌<◌, ◌≤◌, ◌⊎◌, inl, inr, Bool, true, IsTrue, if◌then◌else◌, List, [], ◌∷◌, ◌++◌, length, take, drop, refl, ap, ◌∙◌, sym, subst, arith, append_assoc, append-nil, length-append, length-take-le, take-append-drop}
-use Rattle.std.proofs.lemmas.Bool.{cases_lt, true≢false}
+use Rattle.std.proofs.lemmas.Bool.{cases_lt}
+use Rattle.dap_client.proofs.Only.{verdict_end}
 use Rattle.dap_http.proofs.Deliveries.{break-more, delivery-more}
 use Rattle.dap_http.proofs.Finals.{gives-more}
 use Rattle.dap_http.proofs.Inside.{open-is}
@@ -13,18 +14,14 @@ use Rattle.dap_http.specs.Delivered.{HasCoding, HasCome, IsBrokenBody, IsWholeBo
 use Rattle.dap_http.specs.inner.Steps.{Known, is_open, run, start}
 use Rattle.dap_http.specs.declared.coding.Coding.{Coding}
 use Rattle.dap_http.specs.declared.coding.Coding.TheVariants.{Chunked, Length, ToEnd}
-use Rattle.dap_model.specs.Received.{Fault, bad_count, bad_word, bad_padding, wrong_mark}
-use Rattle.dap_types.specs.Model.{Dataset}
-use Rattle.xdr_decode.specs.Verdict.{IsWrong, IsWrongIn, kind_of}
 use Rattle.reply_faults.specs.declared.bad.Bad.{Bad}
 use Rattle.reply_faults.specs.declared.bad.Bad.TheVariants.{BadChunk, Cut}
 use Rattle.reply_faults.specs.declared.bad.BadField.{BadField}
-use Rattle.dap_model.specs.Tokens.{Token, tokens_of}
 use Rattle.dap_client.specs.Answered.{BringsBad, Tells}
 use Rattle.dap_client.specs.Fetched.{IsFirst, SaysVerdict}
 use Rattle.dap_client.specs.Outcomes.{outcome_of}
 use Rattle.dap_client.specs.Replies.{BringsFirst, IsReplyVerdict, first_of}
-use Rattle.dap_client.specs.Verdict.{Form, Judges, JudgesDas, JudgesDasText, JudgesDds, JudgesError, Verdict, IsVerdict, bad, das_form, dds_form, dods_form, is_fault, is_final, server_error}
+use Rattle.dap_client.specs.Verdict.{Form, Verdict, IsVerdict, bad, is_fault, server_error}
 use Rattle.dap_client.specs.declared.outcome.Outcome.{Outcome}
 use Rattle.dap_client.specs.declared.outcome.Outcome.TheVariants.{Complete, ServerError, BadReply, ReadFault, WriteFault, LinkFault, Memory}
 
@@ -91,57 +88,10 @@ comes c front w body come = subst (λ (t : List ℕ). Comes c (t ++ w) body) (sy
 
 -- ---- only at the end of the bytes a body is cut
 
-no-fault : (fault : Fault) → Cut ≡ kind_of fault → ⊥
-no-fault bad_count e = cc e
-no-fault bad_word e = cc e
-no-fault bad_padding e = cc e
-no-fault wrong_mark e = cc e
-
-cut-values : (d : Dataset) (values : List ℕ) (at : ℕ) → IsWrong d values Cut at → at ≡ length values
-cut-values d values at (inl (fault, is, kind)) = absurd (no-fault fault kind)
-cut-values d values at (inr (inl (more, kind))) = cc kind
-cut-values d values at (inr (inr (open_values, place, kind))) = place
-
-cut-dods : (bytes : List ℕ) (p : ℕ) → IsWrongIn bytes Cut p → p ≡ length bytes
-cut-dods bytes p (inl (is, kind)) = cc kind
-cut-dods bytes p (inr (inl (is, kind))) = cc kind
-cut-dods bytes p (inr (inr (inl (ends, place, kind)))) = place
-cut-dods bytes p (inr (inr (inr (d, head, values, at, (is, parts), wrong, place)))) = omega (arith, place, cut-values d values at wrong, ap length parts, length-append head values)
-
-cut-error : (bytes : List ℕ) (p : ℕ) → JudgesError bytes (bad Cut p) → p ≡ length bytes
-cut-error bytes p (inl (is, kind)) = cc kind
-cut-error bytes p (inr (is, place, kind)) = place
-
-cut-dds : (bytes : List ℕ) (p : ℕ) → JudgesDds bytes (bad Cut p) → p ≡ length bytes
-cut-dds bytes p (inl (is, kind)) = cc kind
-cut-dds bytes p (inr (inl (is, kind))) = cc kind
-cut-dds bytes p (inr (inr (is, place, kind))) = place
-
-cut-das-text : (bytes : List ℕ) (p : ℕ) → JudgesDasText bytes (bad Cut p) → p ≡ length bytes
-cut-das-text bytes p (inl (is, kind)) = cc kind
-cut-das-text bytes p (inr (inl (is, kind))) = cc kind
-cut-das-text bytes p (inr (inr (is, place, kind))) = place
-
-cut-das : (ts : List Token) (bytes : List ℕ) (p : ℕ) → JudgesDas ts bytes (bad Cut p) → p ≡ length bytes
-cut-das [] bytes p (inl (short, is)) = cc is
-cut-das [] bytes p (inr (long, is)) = cut-das-text bytes p is
-cut-das (t ∷ ts) bytes p is = cut-das-text bytes p is
-
-cut-judged : (form : Form) (bytes : List ℕ) (p : ℕ) → Judges form bytes (bad Cut p) → p ≡ length bytes
-cut-judged form bytes p (inl (says, is)) = cut-error bytes p is
-cut-judged dods_form bytes p (inr (other, is)) = cut-dods bytes p is
-cut-judged dds_form bytes p (inr (other, is)) = cut-dds bytes p is
-cut-judged das_form bytes p (inr (other, is)) = cut-das (tokens_of bytes) bytes p is
-
-cut-end : (form : Form) (bytes : List ℕ) (p : ℕ) → IsVerdict form bytes (bad Cut p) → p ≡ length bytes
-cut-end form bytes p (inl (small, is)) = cut-judged form bytes p is
-cut-end form bytes p (inr (long, front, is, inl (final, same))) = absurd (true≢false (sym final ∙ ap is_final (sym same)))
-cut-end form bytes p (inr (long, front, is, inr (final, same))) = cc same
-
 -- what is wrong whatever follows is more than that the bytes end
 lasts : (form : Form) (body : List ℕ) (kind : Bad) (place : ℕ) → ((more : List ℕ) → IsVerdict form (body ++ more) (bad kind place)) → is_fault kind ≡ true
 lasts form body Cut place lasting =
-    absurd (omega (arith, cut-end form (body ++ []) place (lasting []), cut-end form (body ++ 0 ∷ []) place (lasting (0 ∷ [])), length-append body [], length-append body (0 ∷ [])))
+    absurd (omega (arith, verdict_end form (body ++ []) place (lasting []), verdict_end form (body ++ 0 ∷ []) place (lasting (0 ∷ [])), length-append body [], length-append body (0 ∷ [])))
 lasts form body kind place lasting = refl
 
 first-is : (kind : Bad) (place : ℕ) (wrong : BadField) → is_fault kind ≡ true → bad kind place ≡ first_of (bad kind place) wrong

@@ -18,7 +18,7 @@ use Rattle.xdr_decode.specs.Verdict.{budget}
 use Rattle.reply_faults.specs.declared.bad.Bad.{Bad}
 use Rattle.reply_faults.specs.declared.bad.Bad.TheVariants.{BadHead, HeadTooLong, Coded, BadChunk, BadDds, BadDataLine, BadDas, BadError, BadCount, BadWord, BadPadding, WrongMark, Cut, Trailing, TooLong}
 use Rattle.reply_faults.specs.declared.bad.BadField.{BadField}
-use Rattle.dap_client.proofs.Filling.{budget_is}
+use Rattle.dap_client.proofs.Filling.{budget_is, full_front}
 use Rattle.dap_client.proofs.Within.{judged_within, verdict_within}
 use Rattle.dap_client.specs.After.{HasNoLine, IsBrokenOff, IsFinished, IsStopped}
 use Rattle.dap_client.specs.Answered.{IsLasting, ShowsBroken, ShowsRefused, good_part, text_shown}
@@ -141,9 +141,6 @@ wrong_stopped form field before bytes most text w = (
 -- as many bytes came as are looked at
 abbrev pub too_long : BadField
 too_long = record { kind = TooLong; place = 1099511627776 }
-
-full_front : (bytes more : List ℕ) → length bytes ≡ budget → take budget (bytes ++ more) ≡ bytes
-full_front bytes more full = ap (λ n. take n (bytes ++ more)) (sym full) ∙ Rattle.std.proofs.Math.Seq.take-append_seam bytes more
 
 first_by : (form : Form) (bytes : List ℕ) (front : Verdict) (kind : Bad) (place : ℕ) → budget ≤ length bytes → Judges form (take budget bytes) front → bad kind place ≡ first_of front too_long → IsVerdict form bytes (bad kind place)
 first_by form bytes front kind place long judged is = on (is_final front) refl

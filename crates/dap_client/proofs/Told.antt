@@ -67,9 +67,6 @@ pub none_read : (left now written : Option (List ℕ)) (reader : BodyReader) (by
 none_read left now written reader bytes put took s =
     ([], [], took, Appends-nil written, subst (λ l. ReaderStandsAfter reader (bytes ++ []) l) (sym (append-nil put)) (subst (λ l. ReaderStandsAfter reader l put) (sym (append-nil bytes)) s))
 
-pub same_left : (left now : Option (List ℕ)) → now ≡ left → Consumes left now []
-same_left left now is = subst (λ w. Consumes left w []) (sym is) (Consumes-nil left)
-
 -- a piece, and what was read before it
 pub reads_on : (left mid now written between text : Option (List ℕ)) (before reader : BodyReader) → Reads left mid written between before
     → ((bytes put : List ℕ) → ReaderStandsAfter before bytes put → ReadsOn mid now between text reader bytes put) → Reads left now written text reader
@@ -185,7 +182,7 @@ all_taken : (now : Option (List ℕ)) (body bytes : List ℕ) → Consumes (Some
 all_taken None body bytes took at = absurd took
 all_taken (Some rest) body bytes took at = took ∙ ap (λ l. bytes ++ l) at ∙ append-nil bytes
 
-some_left : (now : Option (List ℕ)) (body bytes : List ℕ) → Consumes (Some body) now bytes → (rest : List ℕ) × (body ≡ bytes ++ rest)
+pub some_left : (now : Option (List ℕ)) (body bytes : List ℕ) → Consumes (Some body) now bytes → (rest : List ℕ) × (body ≡ bytes ++ rest)
 some_left None body bytes took = absurd took
 some_left (Some rest) body bytes took = (rest, took)
 

@@ -4,6 +4,7 @@ use Rattle.std.proofs.KnownBytes.{Appends-nil, Appends-trans}
 use Rattle.std.proofs.Math.Seq.{take-append-add, take-append_seam}
 use Rattle.std.proofs.lemmas.List.{length-take-le, take-append-drop, take_all}
 use Rattle.std.specs.Io.KnownBytes.{Appends}
+use Rattle.xdr_fields.proofs.Growing.{prefix_behind}
 use Rattle.dap_types.specs.Model.{Dataset, Tree}
 use Rattle.dap_model.proofs.OneVerdict.{bad_not_open, ended_not_bad, one_bad}
 use Rattle.dap_model.specs.Body.{IsHead}
@@ -106,10 +107,6 @@ good_before d bs good whole more fault place has front bad = ⊎_elim
     sym (take-append_seam good has.rest) ∙ ap (take (length good)) (sym has.parts) ∙ ap (λ n. take n bs) places)
     has.whole
 
--- ---- what may be shown
-lines_front : (text whole lines : List ℕ) → IsPrefix whole lines → IsPrefix (text ++ whole) (text ++ lines)
-lines_front text whole lines (rest, is) = (rest, ap (λ l. text ++ l) is ∙ sym (append_assoc text whole rest))
-
 lines_within : (text whole more lines : List ℕ) → IsPrefix lines (whole ++ more) → IsPrefix (text ++ lines) (text ++ whole ++ more)
 lines_within text whole more lines (rest, is) = (rest, append_assoc text whole more ∙ ap (λ l. text ++ l) is ∙ sym (append_assoc text lines rest))
 
@@ -123,7 +120,7 @@ may_show d bytes head good whole more lines put parts is_head front begins withi
   parts = parts;
   is_head = is_head;
   is_front = front;
-  begins = subst (IsPrefix (dds d ++ whole)) (sym is_put) (lines_front (dds d) whole lines begins);
+  begins = subst (IsPrefix (dds d ++ whole)) (sym is_put) (prefix_behind (dds d) whole lines begins);
   within = subst (λ l. IsPrefix l (dds d ++ whole ++ more)) (sym is_put) (lines_within (dds d) whole more lines within);
 }
 
@@ -298,9 +295,6 @@ taken_front bytes piece place used long le = omega (arith, long, length-append b
 -- the second part of a piece, as a slice of it is written
 pub slice_rest : (piece : List ℕ) (used : ℕ) → used ≤ length piece → take (length piece - used) (drop used piece) ≡ drop used piece
 slice_rest piece used le = take_all (length piece - used) (drop used piece) (omega (arith, le, length-drop used piece))
-
-pub slice_seam : (bytes piece : List ℕ) (used : ℕ) → used ≤ length piece → (bytes ++ take used piece) ++ take (length piece - used) (drop used piece) ≡ bytes ++ piece
-slice_seam bytes piece used le = ap (λ l. (bytes ++ take used piece) ++ l) (slice_rest piece used le) ∙ seam bytes piece used
 
 pub slice_small : (piece : List ℕ) (place used most : ℕ) → used ≤ length piece → place + length piece < most → place + used + length (take (length piece - used) (drop used piece)) < most
 slice_small piece place used most le small = omega (arith, le, small, ap length (slice_rest piece used le), length-drop used piece)

@@ -1,6 +1,7 @@
 -- What the reader of a data response says of a body of that kind.
-use Rattle.std.proofs.Common.{◌≡◌, ℕ, ◌+◌, ◌≤◌, true, List, [], ◌∷◌, ◌++◌, length, take, refl, sym, ap, subst, ◌∙◌, append-nil, inl, inr, ◌⊎◌, Result, Err, Some}
+use Rattle.std.proofs.Common.{◌≡◌, ℕ, ◌+◌, ◌≤◌, true, List, [], ◌++◌, length, take, refl, sym, ap, subst, ◌∙◌, append-nil, inl, inr, ◌⊎◌, Result, Err, Some}
 use Rattle.std.proofs.lemmas.Bool.{false≢true}
+use Rattle.plain_lemmas.proofs.Lists.{none_in_front}
 use Rattle.dap_types.specs.Model.{Dataset}
 use Rattle.dap_types.specs.View.{dataset_view}
 use Rattle.dap_model.proofs.Partly.{part_is_of_lines}
@@ -83,13 +84,9 @@ pub full_data : (field : BadField) (before bytes put : List ℕ) → IsFull fiel
 full_data field before bytes put f =
     (verdict_within dods_form bytes field.kind field.place (subst (λ l. IsVerdict dods_form l (bad field.kind field.place)) (append-nil bytes) (f.stays [])), f.stays, f.shows)
 
-none_before : (put text : List ℕ) → put ++ text ≡ [] → put ≡ []
-none_before [] text is = refl
-none_before (b ∷ put) text is = cc
-
 -- where nothing was put, no `Data:` line had come before
 pub no_head_before : (r : BodyReader) (bytes put text : List ℕ) → readers.is_open r ≡ true → readers.ReaderStandsAfter r bytes put → put ++ text ≡ [] → ¬ (HasHead bytes)
-no_head_before r bytes put text on s none = no_head r.stage bytes on (subst (IsStage r.stage bytes) (none_before put text none) s.is_stage)
+no_head_before r bytes put text on s none = no_head r.stage bytes on (subst (IsStage r.stage bytes) (none_in_front put text none) s.is_stage)
 
 -- ---- the body ends
 

@@ -1,5 +1,6 @@
 -- What one end writes is good for the other, over the bytes that were written.
 use Rattle.std.proofs.Common.{◌≡◌, ℕ, List, inl, inr, Option, Some, None, Ok, ap, subst, option_map}
+use Rattle.soak.proofs.Answering.{answers}
 use Rattle.dap_model.specs.Body.{body, too_large}
 use Rattle.dap_errors.specs.declared.cause.Cause.TheVariants.{TooLarge}
 use Rattle.dap_http.specs.declared.kind.Kind.{Kind}
@@ -8,7 +9,7 @@ use Rattle.dap_server.specs.Files.{Files, Stored}
 use Rattle.dap_server.specs.Results.{AnswersAsked, DodsAnswers, Left, Results, Text, result_text}
 use Rattle.dap_server.specs.Steps.{unless}
 use Rattle.both_ends.proofs.Resulting.{result_is_good}
-use Rattle.dap_commands.proofs.Headlines.{answers, told}
+use Rattle.dap_commands.proofs.Headlines.{told}
 use Rattle.dap_commands.specs.Laws.{AnsweredIsGood}
 
 -- a text for data is a data response

@@ -1,9 +1,11 @@
 -- A run of `fetch` shows the data responses in the replies of its link, and nothing else is complete.
 use Rattle.std.proofs.Common.{◌≡◌, ◌≢◌, ℕ, zero, suc, ◌+◌, ◌≤◌, inl, inr, Bool, true, false, if◌then◌else◌, List, [], ◌∷◌, ◌++◌, All, length, map, Option, Some, None, option_map, refl, sym, ap, ◌∙◌, subst, arith, append_assoc, append-nil, length-append}
 use Rattle.std.proofs.lemmas.Bool.{false≢true, true≢false}
-use Rattle.std.proofs.lemmas.List.{append_cancel_left}
+use Rattle.std.proofs.lemmas.List.{append_cancel_left, nil_from_length}
 use Rattle.std.proofs.lemmas.List.Elements.{All-append, All-cons, All-head, All-nil, All-tail}
 use Rattle.std.specs.Io.KnownBytes.{Appends, Consumes}
+use Rattle.plain_lemmas.proofs.Lists.{seam}
+use Rattle.plain_lemmas.proofs.Options.{same_value}
 use Rattle.dap_types.specs.Model.{Dataset, Tree}
 use Rattle.dap_model.specs.Shown.{shown}
 use Rattle.dap_outside.specs.Causes.{Rose}
@@ -92,10 +94,6 @@ stands-first bytes o is says = go (says (sound o is)) where
 
 -- ---- a reply that was read, and the same reply in all bytes
 
-none-left : (l : List ℕ) → length l ≡ 0 → l ≡ []
-none-left [] e = refl
-none-left (x ∷ xs) e = cc e
-
 -- with more bytes behind it, it has the same body where it has as long a one
 further : (reply more body other rest behind : List ℕ) (ended : Bool) → Delivers reply ended body rest → Delivers (reply ++ more) true other behind → length body ≡ length other
     → (body ≡ other) × (behind ≡ rest ++ more)
@@ -111,7 +109,7 @@ further reply more body other rest behind ended d whole long = go d.is_whole whe
   go (inr (is, end, all, none)) =
       let same = one-delivery (reply ++ more) true (body ++ more) other [] behind
       (record { coding = d.coding; behind = d.behind ++ more; has_coding = has; is_whole = inr (is, refl, ap (λ (l : List ℕ). l ++ more) all, refl) }) whole in
-      let nothing : more ≡ [] = none-left more (omega (arith, long, ap length same.0, length-append body more)) in
+      let nothing : more ≡ [] = nil_from_length more (omega (arith, long, ap length same.0, length-append body more)) in
       (sym (append-nil body) ∙ ap (λ (l : List ℕ). body ++ l) (sym nothing) ∙ same.0, sym same.1 ∙ sym (ap (λ (l : List ℕ). l ++ more) none ∙ nothing))
 
 -- what is told of it, where it is complete
@@ -154,9 +152,6 @@ record Verdicts (bytes : List ℕ) (r : Reply) (replies : List Reply) : Type 0 w
 verdicts-of : (bytes : List ℕ) (r : Reply) (replies : List Reply) → IsWhole r → AreVerdicts dods_form bytes (map (λ (q : Reply). q.outcome) (r ∷ replies)) → Verdicts bytes r replies
 verdicts-of bytes r [] is says = record { first = stands-first bytes r.outcome is says; others = tt }
 verdicts-of bytes r (q ∷ replies) is (n, v, rest, first, told, others) = record { first = record { n = n; v = v; rest = rest; first = first; told = told }; others = others }
-
-seam : (waiting left taken after : List ℕ) → left ≡ taken ++ after → waiting ++ left ≡ (waiting ++ taken) ++ after
-seam waiting left taken after is = ap (λ (l : List ℕ). waiting ++ l) is ∙ sym (append_assoc waiting taken after)
 
 one-more : (bytes : List ℕ) (r : Reply) (replies : List Reply) (behind : List ℕ) (response : Response) → Delivers bytes true response.bytes behind → IsResponse response → r.text ≡ text_of response
     → AreShown behind replies → AreShown bytes (r ∷ replies)
@@ -223,9 +218,6 @@ not-longer xs x e = omega (arith, ap length e, length-append xs (x ∷ []))
 abbrev entry : {W : Type 0} → Fetching W → W → List ((List ℕ × ℕ) × W)
 entry f l = ((f.url.host, f.url.port), l) ∷ []
 
-some-is : {A : Type 0} (x y : A) → Some x ≡ Some y → x ≡ y
-some-is x y e = cc e
-
 last-of : {W : Type 0} → W → List ((List ℕ × ℕ) × W) → W
 last-of other [] = other
 last-of other (x ∷ xs) = x.1
@@ -241,7 +233,7 @@ over-link {W} f link input status (fetched, inl (same, none, whole, why), is, li
 over-link {W} f link input status (fetched, inr c, is, line) h =
     let links : option_map (λ (l : List ((List ℕ × ℕ) × W)). l ++ entry f c.link) (Some h.others) ≡ Some (h.others ++ entry f link) =
     ap (λ (o : Option (List ((List ℕ × ℕ) × W))). option_map (λ (l : List ((List ℕ × ℕ) × W)). l ++ entry f c.link) o) (sym h.back) ∙ sym c.back ∙ h.back_then in
-    let same : c.link ≡ link = link-is f c.link link (append_cancel_left h.others (entry f c.link) (entry f link) (some-is (h.others ++ entry f c.link) (h.others ++ entry f link) links)) in
+    let same : c.link ≡ link = link-is f c.link link (append_cancel_left h.others (entry f c.link) (entry f link) (same_value (h.others ++ entry f c.link) (h.others ++ entry f link) links)) in
     record {
       fetched = fetched;
       came = f.state c.came;

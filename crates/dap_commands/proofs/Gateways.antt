@@ -1,14 +1,16 @@
 -- Links that are relayed one after the other.
-use Rattle.std.proofs.Common.{◌≡◌, ◌≢◌, ℕ, suc, ◌+◌, ◌-◌, ◌^◌, ◌<◌, ◌≤◌, ◌⊎◌, inl, inr, Bool, true, false, List, [], ◌∷◌, ◌++◌, length, map, All, IfSome, Option, Some, None, option_map, refl, sym, ap, ◌∙◌, subst, arith, append_assoc, append-nil, codes}
+use Rattle.std.proofs.Common.{◌≡◌, ◌≢◌, ℕ, suc, ◌+◌, ◌-◌, ◌^◌, ◌<◌, ◌≤◌, ◌⊎◌, inl, inr, true, List, [], ◌∷◌, ◌++◌, length, map, All, IfSome, Option, Some, None, option_map, refl, sym, ap, ◌∙◌, subst, arith, codes}
 use Rattle.std.specs.Prelude.{nat_lt, ◌||◌, if◌then◌else◌}
 use Rattle.std.specs.List.{Contains}
 use Rattle.std.specs.Option.{option_and_then}
-use Rattle.std.proofs.KnownBytes.{Appends-trans}
+use Rattle.std.proofs.KnownBytes.{Appends-trans, Appends-nil}
 use Rattle.std.proofs.lemmas.Bool.Decides.{nat_tests}
 use Rattle.std.proofs.lemmas.List.Elements.{All-cons, All-head, All-nil, All-tail, Contains-append_left}
 use Rattle.std.proofs.lemmas.List.Sums.{sum_by-cons}
 use Rattle.std.specs.Fmt.{decimal}
 use Rattle.std.specs.Io.KnownBytes.{Appends, Consumes}
+use Rattle.dap_commands.proofs.Visiting.{back-none, back-more}
+use Rattle.plain_lemmas.proofs.Truths.{or_true}
 use Rattle.dap_types.specs.Limits.{most_body}
 use Rattle.dap_outside.proofs.Fronts.{front_more, front_of}
 use Rattle.dap_outside.specs.Causes.{Rose}
@@ -34,18 +36,6 @@ use Rattle.dap_commands.specs.Relay.{AreCounted, CameTo, Follow, Gateway, IsAnsw
 use Rattle.dap_commands.specs.declared.status.Status.{Status}
 use Rattle.dap_commands.specs.declared.status.Status.TheVariants.{Complete, Words, Unsaved, Refused, Damaged, BadReply, ReadFault, WriteFault, LinkFault, Memory, ServerError}
 use Rattle.dap_gateway.proofs.Coming.{Pairs}
-
-appends-none : (o : Option (List ℕ)) → Appends o o []
-appends-none None = tt
-appends-none (Some xs) = sym (append-nil xs)
-
-back-none : {W : Type 0} (o : Option (List W)) → o ≡ option_map (λ links. links ++ []) o
-back-none None = refl
-back-none (Some links) = ap (λ l. Some l) (sym (append-nil links))
-
-back-more : {W : Type 0} (o : Option (List W)) (v : W) (vs : List W) → option_map (λ links. links ++ vs) (option_map (λ links. links ++ v ∷ []) o) ≡ option_map (λ links. links ++ v ∷ vs) o
-back-more None v vs = refl
-back-more (Some links) v vs = ap (λ l. Some l) (append_assoc links (v ∷ []) vs)
 
 -- ---- Sums.
 
@@ -114,10 +104,6 @@ says-more requests came line lines a m b ServerError had puts says = absurd says
 some-first : (n : ℕ) → 0 < n → nat_lt 0 n ≡ true
 some-first n some = grind (arith, nat_tests)
 
-or-second : (t : Bool) → (t || true) ≡ true
-or-second true = refl
-or-second false = refl
-
 -- of equal dials the links that came back are the same
 same-back : {W C : Type 0} (dial : C → DialState W) (d e : C) → e ≡ d → (dial e).back ≡ option_map (λ links. links ++ []) (dial d).back
 same-back dial d e same = ap (λ x. (dial x).back) same ∙ back-none (dial d).back
@@ -146,7 +132,7 @@ module _ {V W C : Type 0} (g : Gateway V W C) where
   take-failed link some = fails link (ap (λ t. t || nat_lt 0 (g.dial_link link).put_faults) (some-first (g.dial_link link).take_faults some))
 
   put-failed : (link : W) → 0 < (g.dial_link link).put_faults → failed_in g (Some link) ≡ 1
-  put-failed link some = fails link (ap (λ t. nat_lt 0 (g.dial_link link).take_faults || t) (some-first (g.dial_link link).put_faults some) ∙ or-second (nat_lt 0 (g.dial_link link).take_faults))
+  put-failed link some = fails link (ap (λ t. nat_lt 0 (g.dial_link link).take_faults || t) (some-first (g.dial_link link).put_faults some) ∙ or_true (nat_lt 0 (g.dial_link link).take_faults))
 
   fault-failed : (form : Form) (key : List ℕ) (came link : W) (outcome : BodyOutcome) → IsAskedOver form key (g.dial_link came) (g.dial_link link) outcome → fault_of outcome ≤ failed_in g (Some link)
   fault-failed form key came link outcome over = go over.asked where
@@ -331,7 +317,7 @@ module _ {V W C : Type 0} (g : Gateway V W C) where
         later = same-le (g.dial a.dial).faults;
         counted = none-counted (g.dial a.dial).faults;
         backed = λ tells worth. All-nil (IsBacked g);
-        says = (some, appends-none a.written);
+        says = (some, Appends-nil a.written);
       }
 
   -- none is asked for
@@ -344,7 +330,7 @@ module _ {V W C : Type 0} (g : Gateway V W C) where
         later = same-le (g.dial a.dial).faults;
         counted = none-counted (g.dial a.dial).faults;
         backed = λ tells worth. All-nil (IsBacked g);
-        says = (sym none, appends-none a.written);
+        says = (sym none, Appends-nil a.written);
       }
 
   -- what comes of the links from here on is what comes of all
@@ -494,7 +480,7 @@ module _ {V W C : Type 0} (g : Gateway V W C) where
         later = same-le (g.dial a.dial).faults;
         counted = none-counted (g.dial a.dial).faults;
         backed = λ tells worth. All-nil (IsBacked g);
-        says = (refl, appends-none a.written);
+        says = (refl, Appends-nil a.written);
       })
 
 -- of caches with equal room

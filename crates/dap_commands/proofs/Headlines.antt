@@ -5,6 +5,7 @@ use Rattle.std.specs.Io.KnownBytes.{Appends}
 use Rattle.std.specs.List.{list_all}
 use Rattle.dap_outside.specs.Streams.{AppendsFront}
 use Rattle.std.proofs.lemmas.List.Sums.{AllPass-from_list_all}
+use Rattle.soak.proofs.Answering.{answers}
 use Rattle.viable.specs.Prefix.{is_byte}
 use Rattle.httparse.specs.Grammar.{RequestHead, is_value_byte}
 use Rattle.dap_errors.specs.declared.cause.Cause.{Cause}
@@ -18,7 +19,7 @@ use Rattle.dap_http.specs.declared.kind.Kind.TheVariants.{Dods}
 use Rattle.dap_http.proofs.Carrying.{carries-data, carries-text}
 use Rattle.dap_server.specs.Files.{Files, Stored}
 use Rattle.dap_server.specs.Replies.{IsRequestAnswered, Request, error_head, is_last, reply_of, request}
-use Rattle.dap_server.specs.Results.{AnswersAsked, DodsAnswers, Left, Results, ResultsAmong, Text, error_object, left_of, result_text}
+use Rattle.dap_server.specs.Results.{DodsAnswers, Left, Results, ResultsAmong, Text, error_object, left_of, result_text}
 use Rattle.dap_server.specs.Steps.{found_or, unless}
 use Rattle.dap_server.proofs.Accepted.{accepted_is_served}
 use Rattle.dap_server.proofs.OneAnswer.{one_result}
@@ -43,15 +44,6 @@ use Rattle.dap_commands.specs.declared.status.Status.TheVariants as status
 use Rattle.both_ends.proofs.Standing.{is-get, no-head}
 
 -- ---- one result of a target
-
-pub answers : (files : Files) (text : List ℕ) (a : Asked) (r : Result Text Cause) → target_of text ≡ Some a → Results text files r → AnswersAsked files a r
-answers files text a r e (inl (b, is_b, given)) =
-    let same : b ≡ a = same_value b a (Ok b) refl (is_b ∙ ap (λ o. found_or o causes.BadTarget) e) in
-    subst (λ (x : Asked). AnswersAsked files x r) same given
-  where
-    same_value : (v w : Asked) (x : Result Asked Cause) → x ≡ Ok v → x ≡ Ok w → v ≡ w
-    same_value v w x is_v is_w = cc (is_v, is_w)
-answers files text a r e (inr (why, is_why, given)) = absurd (cc (is_why, e))
 
 one : (files : Files) (target name query : List ℕ) (r other : Result Text Cause) → target_of target ≡ Some (record { name = name; kind = Dods; query = query }) → IsTrue (list_all is_byte query)
     → Results target files r → Results target files other → other ≡ r

@@ -2,18 +2,18 @@
 use Rattle.std.proofs.Common.{◌≡◌, ℕ, ◌<◌, ◌≤◌, Bool, true, false, ◌&&◌, List, [], ◌∷◌, length, map, filter, take, inl, inr, Option, Some, option_map, Result, Ok, refl, ap, sym, subst, ◌∙◌, arith, length-take, if◌then◌else◌}
 use Rattle.std.specs.Io.KnownBytes.{Appends}
 use Rattle.std.specs.Option.{option_and_then}
+use Rattle.both_ends.proofs.Again.{no_constraint, is_spelled, dataset_left}
 use Rattle.dap_types.specs.Limits.{body_limit}
 use Rattle.dap_types.specs.Model.{scalar, array, grid, Dataset, Tree, members_of}
 use Rattle.dap_types.specs.Names.{file_id}
 use Rattle.dap_types.specs.WellFormed.{IsWellFormed}
-use Rattle.dap_model.proofs.Whole.{all_trees_whole, filtered_all_whole}
-use Rattle.dap_model.specs.Filter.{all_leaves_everywhere, constrained, leaves_everywhere}
+use Rattle.dap_model.proofs.Whole.{all_trees_whole}
+use Rattle.dap_model.specs.Filter.{all_leaves_everywhere, leaves_everywhere}
 use Rattle.dap_outside.specs.Files.{IsBytes}
 use Rattle.dap_errors.specs.declared.cause.Cause.{Cause}
 use Rattle.dap_errors.specs.declared.cause.Cause.TheVariants.{NoFile}
 use Rattle.file_names.specs.Names.{dataset_name}
 use Rattle.constraint_parse.proofs.Answer.{one_constraint}
-use Rattle.constraint_parse.specs.Language.{no_items}
 use Rattle.constraint_parse.specs.Values.{Spells}
 use Rattle.constraint_parse.specs.declared.constraint.Constraint.{Constraint}
 use Rattle.grid_projection.specs.Marks.{marks}
@@ -56,15 +56,6 @@ member_leaf c v = leaf_by c v (is_empty (element_dimensions c v)) (is_grid c v)
 members_leaves : (c : Contents) (vs : List source.Variable) → all_leaves_everywhere (members_of (map (member_of c) vs)) ≡ true
 members_leaves c [] = refl
 members_leaves c (v ∷ vs) = ap (λ b. b && all_leaves_everywhere (members_of (map (member_of c) vs))) (member_leaf c v) ∙ members_leaves c vs
-
-abbrev no_constraint : Constraint
-no_constraint = record { items = []; clauses = [] }
-
-is_spelled : Spells [] no_constraint
-is_spelled = (record { items = no_items; clauses = [] }, refl, refl)
-
-dataset_left : (d : Dataset) → IsWellFormed d → all_leaves_everywhere d.members ≡ true → constrained (marks d no_constraint) d ≡ d
-dataset_left d well leaves = ap (λ ms. record d { members = ms }) (filtered_all_whole (marks d no_constraint) d.members 1 1 [] well.mapped leaves (marks_whole d))
 
 left_whole : (name file : List ℕ) (c : Contents) → IsBytes file → IsHeader c (take 1048576 file) (length file)
     → ((left_of (netcdf_stored name file c) no_constraint).dataset ≡ dataset_of c name) × ((left_of (netcdf_stored name file c) no_constraint).trees ≡ file_trees c file)

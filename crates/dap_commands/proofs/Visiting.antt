@@ -1,6 +1,6 @@
 -- Links that are served one after the other.
 use Rattle.std.proofs.Common.{◌≡◌, ℕ, suc, ◌+◌, ◌-◌, ◌<◌, ◌≤◌, List, [], ◌∷◌, ◌++◌, length, map, All, Option, Some, None, option_map, refl, sym, ap, ◌∙◌, subst, arith, append_assoc, append-nil, codes}
-use Rattle.std.proofs.KnownBytes.{Appends-trans}
+use Rattle.std.proofs.KnownBytes.{Appends-trans, Appends-nil}
 use Rattle.std.proofs.lemmas.List.Elements.{All-cons, All-head, All-nil, All-tail}
 use Rattle.std.proofs.lemmas.List.Sums.{sum_by-cons}
 use Rattle.std.specs.Fmt.{decimal}
@@ -19,15 +19,11 @@ use Rattle.dap_commands.specs.declared.status.Status.TheVariants.{Complete, Word
 abbrev pub standing : {W : Type 0} → Option (List W) → ℕ → ℕ → Option (List ℕ) → Standing W
 standing back faults asked written = record { back = back; faults = faults; asked = asked; written = written }
 
-appends-none : (o : Option (List ℕ)) → Appends o o []
-appends-none None = tt
-appends-none (Some xs) = sym (append-nil xs)
-
-back-none : {W : Type 0} (o : Option (List W)) → o ≡ option_map (λ links. links ++ []) o
+pub back-none : {W : Type 0} (o : Option (List W)) → o ≡ option_map (λ links. links ++ []) o
 back-none None = refl
 back-none (Some links) = ap (λ l. Some l) (sym (append-nil links))
 
-back-more : {W : Type 0} (o : Option (List W)) (v : W) (vs : List W) → option_map (λ links. links ++ vs) (option_map (λ links. links ++ v ∷ []) o) ≡ option_map (λ links. links ++ v ∷ vs) o
+pub back-more : {W : Type 0} (o : Option (List W)) (v : W) (vs : List W) → option_map (λ links. links ++ vs) (option_map (λ links. links ++ v ∷ []) o) ≡ option_map (λ links. links ++ v ∷ vs) o
 back-more None v vs = refl
 back-more (Some links) v vs = ap (λ l. Some l) (append_assoc links (v ∷ []) vs)
 
@@ -112,7 +108,7 @@ module _ {W : Type 0} (told : Told) (state : W → LinkState) where
         calm = λ all. refl;
         asked = omega arith;
         answered = λ quiet. All-nil (IsWholeVisit told state);
-        says = (some, appends-none a.written);
+        says = (some, Appends-nil a.written);
       }
 
   -- none is asked for
@@ -126,7 +122,7 @@ module _ {W : Type 0} (told : Told) (state : W → LinkState) where
         calm = λ all. refl;
         asked = omega arith;
         answered = λ quiet. All-nil (IsWholeVisit told state);
-        says = (sym none, appends-none a.written);
+        says = (sym none, Appends-nil a.written);
       }
 
   -- what comes of the links from here on is what comes of all

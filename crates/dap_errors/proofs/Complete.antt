@@ -1,7 +1,8 @@
 -- The machine reads the tokens of each Error object, and every state can be completed to one.
-use Rattle.std.proofs.Common.{◌≡◌, List, [], ◌∷◌, ◌++◌, ℕ, refl, sym, ap, subst, ◌∙◌, append_assoc, append-nil, Some, Bool, true, false, ◌&&◌, ◌||◌, not, IsTrue}
+use Rattle.std.proofs.Common.{◌≡◌, List, [], ◌∷◌, ◌++◌, ℕ, refl, sym, ap, subst, ◌∙◌, append_assoc, append-nil, Some, Bool, true, false, ◌||◌, not, IsTrue}
 use Rattle.std.specs.Prelude.{codes}
 use Rattle.std.specs.List.{flat_map, list_all}
+use Rattle.std.proofs.lemmas.Bool.{and_from}
 use Rattle.viable.specs.Quoted.{Piece}
 use Rattle.text_tokens.specs.inner.Machines.{run}
 use Rattle.text_tokens.specs.Tokens.{Token, sign, is_token}
@@ -37,9 +38,6 @@ when_named : (p q : Bool) → (p ≡ true → q ≡ true) → (not p || q) ≡ t
 when_named true q h = h refl
 when_named false q h = refl
 
-pub and_both : (p q : Bool) → p ≡ true → q ≡ true → (p && q) ≡ true
-and_both p q h g = rw (h, g) refl
-
 -- the machine reads one more field
 field_run : (done : List Field) (f : Field) (rest : List Token) → may_label done f.label ≡ true → may_hold f.label f.value ≡ true
     → run step (Fields done) (field_tokens f ++ rest) ≡ run step (Fields (done ++ f ∷ [])) rest
@@ -62,10 +60,10 @@ fields_run done [] rest said = rw append-nil refl
 fields_run done (f ∷ fields) rest said =
     ap (run step (Fields done)) (append_assoc (field_tokens f) (flat_map field_tokens fields) rest)
     ∙ field_run done f (flat_map field_tokens fields ++ rest)
-    (and_both _ _
+    (and_from _ _
     (when_named (is_code f.label) (is_none_of (values is_code done)) (λ t. rw ((only_one is_code done f fields (bare said.code) said.one_code t).0) refl))
     (when_named (is_message f.label) (is_none_of (values is_message done)) (λ t. rw ((only_one is_message done f fields (text said.message) said.one_message t).0) refl)))
-    (and_both _ _
+    (and_from _ _
     (when_named (is_code f.label) (holds_code f.value) (λ t. rw ((only_one is_code done f fields (bare said.code) said.one_code t).1) said.code_fits))
     (when_named (is_message f.label) (holds_message f.value) (λ t. rw ((only_one is_message done f fields (text said.message) said.one_message t).1) refl)))
     ∙ fields_run (done ++ f ∷ []) fields rest (subst Said (sym (append_assoc done (f ∷ []) fields)) said)
@@ -91,7 +89,7 @@ Live s = (t : Token) × (more : List Token) × IsTrue (list_all (is_token signs)
 
 pub live_step : (s next : State) (t : Token) → step s t ≡ Some next → IsValid t → Live next → Live s
 live_step s next t st valid (t', more, ok, error, r) =
-    (t, t' ∷ more, and_both _ _ valid ok, error, rw st r)
+    (t, t' ∷ more, and_from _ _ valid ok, error, rw st r)
 
 unfoldable pub code_field : Field
 code_field = field_of (codes "code") (bare (codes "0"))

@@ -1,6 +1,7 @@
 -- What the fields of an object say, one field more at a time.
 use Rattle.std.proofs.Common.{◌≡◌, List, [], ◌∷◌, ◌++◌, ℕ, ℤ, refl, sym, ap, subst, ◌∙◌, append-nil, Option, Some, None, Bool, true, false, ◌&&◌, ◌||◌, not, ◌==◌, IsTrue, if◌then◌else◌, is_some}
 use Rattle.std.specs.Prelude.{MatchOption}
+use Rattle.plain_lemmas.proofs.Truths.{and_true}
 use Rattle.viable.specs.Quoted.{Piece, quoted_value}
 use Rattle.viable.proofs.Tests.{and_parts}
 use Rattle.text_tokens.specs.Tokens.{sign, word, quoted}
@@ -42,10 +43,6 @@ code_counts (Some z) vs h = rw h.1 refl
 message_counts : (o : Option (List ℕ)) (vs : List Value) → HoldsMessage o vs → is_some o ≡ not (is_none_of vs)
 message_counts None vs h = rw h refl
 message_counts (Some m) vs h = rw h.1 refl
-
-and_true : (a : Bool) → (a && true) ≡ a
-and_true true = refl
-and_true false = refl
 
 pub taken_code : (found : Found) (done : List Field) (w : List ℕ) → label_kind w ≡ labels.Code → Holds found done → is_some found.code ≡ not (may_label done w)
 taken_code found done w k h =
@@ -135,14 +132,6 @@ ended_step done b h = rw h refl
 
 pub not_ended : (done : List Field) (b : ℕ) → (b == 125 && has_both done) ≡ false → step (Fields done) (sign b) ≡ None
 not_ended done b h = rw h refl
-
-pub not_false : (b : Bool) → not b ≡ false → b ≡ true
-not_false true h = refl
-not_false false h = cc
-
-pub not_true : (b : Bool) → not b ≡ true → b ≡ false
-not_true true h = cc
-not_true false h = refl
 
 -- the code that a word is, if it is one
 pub held_code : (o : Option ℤ) (bytes : List ℕ) → MatchOption o (is_code_word bytes ≡ false) (λ z. IsTrue (is_code_word bytes) × (z ≡ code_value bytes)) → is_some o ≡ true

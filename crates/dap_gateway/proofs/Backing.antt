@@ -10,6 +10,9 @@ use Rattle.std.proofs.lemmas.Bool.{false≢true}
 use Rattle.std.proofs.lemmas.List.{take_all}
 use Rattle.std.proofs.lemmas.List.Elements.{All-append, All-cons, All-contains, All-contains_itself, All-head, All-nil, All-tail, All-take, All-weaker}
 use Rattle.std.proofs.lemmas.Slice.Eq.{bytes_eq-Decides}
+use Rattle.dap_client.proofs.Lasts.{at-end}
+use Rattle.dap_http.proofs.HeadReading.{left-behind}
+use Rattle.plain_lemmas.proofs.Options.{same_value}
 use Rattle.lru.proofs.CallerLemmas.{Contains-promoted}
 use Rattle.lru.specs.LruCache.{promoted}
 use Rattle.target_names.specs.Names.{is_name}
@@ -18,7 +21,6 @@ use Rattle.dap_outside.specs.Links.{IsNew, LinkState}
 use Rattle.dap_http.proofs.Deliveries.{delivery-more}
 use Rattle.dap_http.specs.Delivered.{Delivers}
 use Rattle.dap_http.specs.Targets.{Asked}
-use Rattle.dap_client.proofs.Only.{left_over, nothing_over}
 use Rattle.dap_client.specs.Fetched.{DialState}
 use Rattle.dap_client.specs.Replies.{form_of}
 use Rattle.dap_client.specs.Verdict.{Form}
@@ -110,16 +112,13 @@ all-more-pairs host port asked key es x (p ∷ ps) is named front none all =
 
 -- ---- the link of this call
 
-some-list : (a b : List ℕ) → Some a ≡ Some b → a ≡ b
-some-list a b is = cc is
-
 -- what a new link has written is what was appended
 written-is : (came back : Option (List ℕ)) (bytes w : List ℕ) → IsSome came → came ≡ option_map (λ _. []) came → Appends came back bytes → back ≡ Some w → w ≡ bytes
 written-is None back bytes w some new appends is = cc some
 written-is (Some xs) None bytes w some new appends is = absurd appends
 written-is (Some xs) (Some ys) bytes w some new appends is =
-    let nothing : xs ≡ [] = some-list xs [] new in
-    sym (some-list ys w is) ∙ appends ∙ ap (λ l. l ++ bytes) nothing
+    let nothing : xs ≡ [] = same_value xs [] new in
+    sym (same_value ys w is) ∙ appends ∙ ap (λ l. l ++ bytes) nothing
 
 front-written : (form : Form) (key : List ℕ) (came back : LinkState) (outcome : BodyOutcome) (w : List ℕ) → IsSome came.written → IsAskedOver form key came back outcome → back.written ≡ Some w → IsFrontOf key w
 front-written form key came back outcome w some over is = go over.asked where
@@ -165,8 +164,8 @@ good-reply form key came back body reply over is = go over.asked where
   go (inr asked) =
       let (taken, consumes, says) = asked.says in
       let ((rest, delivers), told, few) = says in
-      let (more, now, whole) = left_over came.left back.left reply taken left consumes in
-      (rest ++ more, subst (λ l. Delivers l true body (rest ++ more)) (sym whole) (delivery-more taken more back.ended body rest (λ e. nothing_over back.left more now (over.end e)) delivers), told)
+      let (more, now, whole) = left-behind came.left back.left reply taken left consumes in
+      (rest ++ more, subst (λ l. Delivers l true body (rest ++ more)) (sym whole) (delivery-more taken more back.ended body rest (λ e. at-end back.left more now (over.end e)) delivers), told)
 
 new-backed : (host : List ℕ) (port : ℕ) (asked : Asked) (key body : List ℕ) (es : List Exchange) (x : Exchange) → length body ≤ most_kept → key ≡ key_of host port asked → IsTrue (is_name asked.name) → x.written ≡ key
     → IsGoodReply (form_of asked.kind) x.reply body → IsBacked host port (es ++ x ∷ []) (key, body)

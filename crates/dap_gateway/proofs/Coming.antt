@@ -4,6 +4,7 @@ use Rattle.std.specs.Prelude.{is_some}
 use Rattle.std.specs.Io.KnownBytes.{Consumes}
 use Rattle.std.specs.Map.{lookup}
 use Rattle.std.specs.Str.{bytes_eq}
+use Rattle.plain_lemmas.proofs.Lists.{nothing_in_front}
 use Rattle.httparse.specs.Grammar.{RequestHead, print_request}
 use Rattle.lru.specs.LruCache.{promoted}
 use Rattle.dap_errors.specs.declared.cause.Cause.TheVariants.{OutOfMemory}
@@ -159,8 +160,5 @@ pub comes-from : {W : Type 0} (state : W → LinkState) (NotCalled : Type 0) (ho
     → ComesTo state NotCalled host port room bytes (record { written = mid; pairs = ps }) now a b result → ComesTo state NotCalled host port room bytes (record { written = old; pairs = ps }) now a b result
 comes-from state NotCalled host port room bytes old mid ps now a b result is comes = subst (λ (w : Told). ComesTo state NotCalled host port room bytes (record { written = w; pairs = ps }) now a b result) is comes
 
-pub from-none : (kept taken : List ℕ) → kept ≡ [] → kept ++ taken ≡ taken
-from-none kept taken is = ap (λ k. k ++ taken) is
-
 pub first-from : (kept taken : List ℕ) (tree : RequestHead) (rest : List ℕ) → kept ≡ [] → FirstRequest (kept ++ taken) tree rest → FirstRequest taken tree rest
-first-from kept taken tree rest is first = subst (λ (b : List ℕ). FirstRequest b tree rest) (from-none kept taken is) first
+first-from kept taken tree rest is first = subst (λ (b : List ℕ). FirstRequest b tree rest) (nothing_in_front kept taken is) first

@@ -4,6 +4,7 @@ use Rattle.std.specs.Prelude.{IsTrue, codes, ◌==◌}
 use Rattle.std.specs.List.{list_all, onto_first, slice_split}
 use Rattle.std.specs.Fmt.{digit_glyph}
 use Rattle.std.proofs.lemmas.Bool.{and_from, and_parts, eqb-true, false≢true}
+use Rattle.plain_lemmas.proofs.Lists.{cons_first, cons_rest}
 use Rattle.target_names.specs.Names.{is_name, is_name_byte, is_slash}
 use Rattle.dap_http.specs.Targets.{Asked, suffix_of}
 use Rattle.dap_http.specs.Texts.{close_line, escaped, escaped_byte, host_lines, is_plain, query_text, request_text}
@@ -26,20 +27,14 @@ both (x ∷ xs) ys a b = let (one, more) = and_parts (no_feed x) (list_all no_fe
 other : (x : ℕ) → no_feed x ≡ true → x ≡ 10 → ⊥
 other x is ten = false≢true (sym (ap no_feed ten) ∙ is)
 
-pub heads : (x y : ℕ) (xs ys : List ℕ) → x ∷ xs ≡ y ∷ ys → x ≡ y
-heads x y xs ys e = cc e
-
-pub tails : (x y : ℕ) (xs ys : List ℕ) → x ∷ xs ≡ y ∷ ys → xs ≡ ys
-tails x y xs ys e = cc e
-
 -- texts with the same first line have the same rest
 first-feed : (xs ys us vs : List ℕ) → NoFeeds xs → NoFeeds us → xs ++ 10 ∷ ys ≡ us ++ 10 ∷ vs → (xs ≡ us) × (ys ≡ vs)
-first-feed [] ys [] vs a b e = (refl, tails 10 10 ys vs e)
-first-feed [] ys (u ∷ us) vs a b e = absurd (other u (and_parts (no_feed u) (list_all no_feed us) b).0 (sym (heads 10 u ys (us ++ 10 ∷ vs) e)))
-first-feed (x ∷ xs) ys [] vs a b e = absurd (other x (and_parts (no_feed x) (list_all no_feed xs) a).0 (heads x 10 (xs ++ 10 ∷ ys) vs e))
+first-feed [] ys [] vs a b e = (refl, cons_rest 10 10 ys vs e)
+first-feed [] ys (u ∷ us) vs a b e = absurd (other u (and_parts (no_feed u) (list_all no_feed us) b).0 (sym (cons_first 10 u ys (us ++ 10 ∷ vs) e)))
+first-feed (x ∷ xs) ys [] vs a b e = absurd (other x (and_parts (no_feed x) (list_all no_feed xs) a).0 (cons_first x 10 (xs ++ 10 ∷ ys) vs e))
 first-feed (x ∷ xs) ys (u ∷ us) vs a b e =
-    let (same, rest) = first-feed xs ys us vs (and_parts (no_feed x) (list_all no_feed xs) a).1 (and_parts (no_feed u) (list_all no_feed us) b).1 (tails x u (xs ++ 10 ∷ ys) (us ++ 10 ∷ vs) e) in
-    let one : x ≡ u = heads x u (xs ++ 10 ∷ ys) (us ++ 10 ∷ vs) e in
+    let (same, rest) = first-feed xs ys us vs (and_parts (no_feed x) (list_all no_feed xs) a).1 (and_parts (no_feed u) (list_all no_feed us) b).1 (cons_rest x u (xs ++ 10 ∷ ys) (us ++ 10 ∷ vs) e) in
+    let one : x ≡ u = cons_first x u (xs ++ 10 ∷ ys) (us ++ 10 ∷ vs) e in
     (ap (λ y. y ∷ xs) one ∙ ap (λ ws. u ∷ ws) same, rest)
 
 -- ---- the first line of a request has none but its own
@@ -129,7 +124,7 @@ laid host port a = lay (codes "GET ") (47 ∷ a.name) (suffix_of a.kind) (query_
 
 nothing-more : (xs more : List ℕ) → xs ≡ xs ++ more → more ≡ []
 nothing-more [] more e = sym e
-nothing-more (x ∷ xs) more e = nothing-more xs more (tails x x xs (xs ++ more) e)
+nothing-more (x ∷ xs) more e = nothing-more xs more (cons_rest x x xs (xs ++ more) e)
 
 -- equal requests have equal first lines
 pub same-line : (host : List ℕ) (port : ℕ) (a b : Asked) → IsTrue (is_name a.name) → IsTrue (is_name b.name)

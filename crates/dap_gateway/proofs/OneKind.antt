@@ -4,12 +4,13 @@ use Rattle.std.specs.Prelude.{IsTrue, codes, ◌==◌}
 use Rattle.std.specs.List.{list_all}
 use Rattle.std.proofs.Math.Seq.{drop-append_seam}
 use Rattle.std.proofs.lemmas.Bool.{and_from, and_parts, false≢true}
+use Rattle.plain_lemmas.proofs.Lists.{cons_first, cons_rest}
 use Rattle.target_names.specs.Names.{is_name, is_name_byte, is_slash}
 use Rattle.dap_http.specs.Targets.{Asked, suffix_of}
 use Rattle.dap_http.specs.Texts.{escaped, query_text}
 use Rattle.dap_http.specs.declared.kind.Kind.{Kind}
 use Rattle.dap_http.specs.declared.kind.Kind.TheVariants.{Dds, Das, Dods, Ver}
-use Rattle.dap_gateway.proofs.Keys.{first-line, heads, name-all, same-line, tails}
+use Rattle.dap_gateway.proofs.Keys.{first-line, name-all, same-line}
 use Rattle.dap_gateway.specs.Upstream.{key_of}
 
 -- ---- the path ends at the first `?` or blank
@@ -29,11 +30,11 @@ clash x s on stop same = false≢true (sym stop ∙ sym (ap goes_on same) ∙ on
 
 first-stop : (xs ys us vs : List ℕ) (s t : ℕ) → GoOn xs → GoOn us → goes_on s ≡ false → goes_on t ≡ false → xs ++ s ∷ ys ≡ us ++ t ∷ vs → xs ≡ us
 first-stop [] ys [] vs s t a b p q e = refl
-first-stop [] ys (u ∷ us) vs s t a b p q e = absurd (clash u s (and_parts (goes_on u) (list_all goes_on us) b).0 p (sym (heads s u ys (us ++ t ∷ vs) e)))
-first-stop (x ∷ xs) ys [] vs s t a b p q e = absurd (clash x t (and_parts (goes_on x) (list_all goes_on xs) a).0 q (heads x t (xs ++ s ∷ ys) vs e))
+first-stop [] ys (u ∷ us) vs s t a b p q e = absurd (clash u s (and_parts (goes_on u) (list_all goes_on us) b).0 p (sym (cons_first s u ys (us ++ t ∷ vs) e)))
+first-stop (x ∷ xs) ys [] vs s t a b p q e = absurd (clash x t (and_parts (goes_on x) (list_all goes_on xs) a).0 q (cons_first x t (xs ++ s ∷ ys) vs e))
 first-stop (x ∷ xs) ys (u ∷ us) vs s t a b p q e =
-    let same = first-stop xs ys us vs s t (and_parts (goes_on x) (list_all goes_on xs) a).1 (and_parts (goes_on u) (list_all goes_on us) b).1 p q (tails x u (xs ++ s ∷ ys) (us ++ t ∷ vs) e) in
-    let one : x ≡ u = heads x u (xs ++ s ∷ ys) (us ++ t ∷ vs) e in
+    let same = first-stop xs ys us vs s t (and_parts (goes_on x) (list_all goes_on xs) a).1 (and_parts (goes_on u) (list_all goes_on us) b).1 p q (cons_rest x u (xs ++ s ∷ ys) (us ++ t ∷ vs) e) in
+    let one : x ≡ u = cons_first x u (xs ++ s ∷ ys) (us ++ t ∷ vs) e in
     ap (λ y. y ∷ xs) one ∙ ap (λ ws. u ∷ ws) same
 
 record Stops (query : List ℕ) : Type 0 where

@@ -5,6 +5,7 @@ use Rattle.std.specs.Map.{lookup}
 use Rattle.std.specs.Str.{bytes_eq}
 use Rattle.std.proofs.lemmas.List.Elements.{All-head, All-tail, Contains-append_right}
 use Rattle.std.proofs.lemmas.Slice.Eq.{bytes_eq-Decides}
+use Rattle.plain_lemmas.proofs.Options.{same_value}
 use Rattle.dap_types.specs.Limits.{most_body, most_kept}
 use Rattle.dap_client.specs.Held.{IsLong, IsTold}
 use Rattle.dap_client.specs.Replies.{form_of}
@@ -28,14 +29,11 @@ record IsKept (host : List ℕ) (port : ℕ) (es : List Exchange) (key body : Li
   pub same : key ≡ pair.0
   pub value : pair.1 ≡ body
 
-some-body : (x y : List ℕ) → Some x ≡ Some y → x ≡ y
-some-body x y is = cc is
-
 kept : (host : List ℕ) (port : ℕ) (es : List Exchange) (key body : List ℕ) (ps : List Pair) → All (IsBacked host port es) ps → lookup (bytes_eq key) ps ≡ Some body → IsKept host port es key body
 kept host port es key body [] all is = cc is
 kept host port es key body (p ∷ ps) all is = go (bytes_eq key p.0) refl is (λ more. kept host port es key body ps (All-tail (IsBacked host port es) p ps all) more) where
   go : (t : Bool) → bytes_eq key p.0 ≡ t → cond t (Some p.1) (lookup (bytes_eq key) ps) ≡ Some body → (lookup (bytes_eq key) ps ≡ Some body → IsKept host port es key body) → IsKept host port es key body
-  go true t here more = record { pair = p; backed = All-head (IsBacked host port es) p ps all; same = (bytes_eq-Decides key p.0).0 t; value = some-body p.1 body here }
+  go true t here more = record { pair = p; backed = All-head (IsBacked host port es) p ps all; same = (bytes_eq-Decides key p.0).0 t; value = same_value p.1 body here }
   go false t here more = more here
 
 there : (e : Exchange) (after : List Exchange) → Contains (e ∷ after) e

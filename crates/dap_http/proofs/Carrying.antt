@@ -12,6 +12,7 @@ use Rattle.std.proofs.lemmas.List.{map-append}
 use Rattle.std.proofs.lemmas.List.Elements.{All-append, All-cons, All-nil}
 use Rattle.std.proofs.lemmas.List.Sums.{AllPass-from_list_all}
 use Rattle.std.proofs.lemmas.Str.Parse.{numerals_by_value, tells_all_ascii_digits}
+use Rattle.plain_lemmas.proofs.Lists.{right_of_five}
 use Rattle.http.specs.StatusCode.{code_digits, reason_phrase}
 use Rattle.httparse.specs.Ascii.{crlf_bytes}
 use Rattle.httparse.specs.Grammar.{AllPass, Field, IsField, IsResponseHead, IsToken, ResponseHead, crlf, is_ows, is_token_byte, is_value_byte, print_field, print_response, print_section, skip_ows, trim_ows}
@@ -104,18 +105,14 @@ fields-printed o d t len b close a k allowed kinds =
 allow-is : (status : ℕ) → flat_map print_field (allow_fields (status == 405)) ≡ allow_line status
 allow-is status = allow-printed (status == 405)
 
--- nested to the right
-right-of-five : (a b c d e : List ℕ) → (((a ++ b) ++ c) ++ d) ++ e ≡ a ++ (b ++ (c ++ (d ++ e)))
-right-of-five a b c d e = append_assoc ((a ++ b) ++ c) d e ∙ append_assoc (a ++ b) c (d ++ e) ∙ append_assoc a b (c ++ (d ++ e))
-
 right-of-seven : (a b c d e f g : List ℕ) → (((((a ++ b) ++ c) ++ d) ++ e) ++ f) ++ g ≡ a ++ (b ++ (c ++ (d ++ (e ++ (f ++ g)))))
 right-of-seven a b c d e f g =
-    append_assoc ((((a ++ b) ++ c) ++ d) ++ e) f g ∙ append_assoc (((a ++ b) ++ c) ++ d) e (f ++ g) ∙ right-of-five a b c d (e ++ (f ++ g))
+    append_assoc ((((a ++ b) ++ c) ++ d) ++ e) f g ∙ append_assoc (((a ++ b) ++ c) ++ d) e (f ++ g) ∙ right_of_five a b c d (e ++ (f ++ g))
 
 kind-is : (d : List ℕ) → flat_map print_field (kind_fields d (content_type d)) ≡ description_lines d
 kind-is d =
     kind-printed d (content_type d)
-    ∙ sym (right-of-five (codes "Content-Description: ") d (codes "\r\nContent-Type: ") (content_type d) (codes "\r\n"))
+    ∙ sym (right_of_five (codes "Content-Description: ") d (codes "\r\nContent-Type: ") (content_type d) (codes "\r\n"))
 
 pub head-printed : (status : ℕ) (description : List ℕ) (len : Option ℕ) (in_chunks close : Bool)
     → head_text status description len in_chunks close ≡ print_response (head_of status description len in_chunks close)

@@ -55,7 +55,7 @@ one-delivery reply ended body other rest left a b =
     one-whole a.coding a.behind ended body other rest left a.is_whole there
 
 -- a head that gives a coding is not wrong
-good-head : (reply behind : List ℕ) (ended : Bool) (bad : BadField) (c : Coding) → HasCoding reply c behind → HasBadHead reply ended bad → ⊥
+pub good-head : (reply behind : List ℕ) (ended : Bool) (bad : BadField) (c : Coding) → HasCoding reply c behind → HasBadHead reply ended bad → ⊥
 good-head reply behind ended bad c (head, final, within, is) (place, inl (kind, none)) = no-reply-final reply behind head none final
 good-head reply behind ended bad c (head, final, within, is) (place, inr (inl (kind, long))) = omega (arith, within, long.none head behind final)
 good-head reply behind ended bad c (head, final, within, is) (place, inr (inr (inl (kind, end, cut)))) = cut.none head behind final

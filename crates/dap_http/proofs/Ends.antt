@@ -9,6 +9,7 @@ use Rattle.std.proofs.Math.Seq.{drop-append_seam}
 use Rattle.std.proofs.lemmas.Bool.{cases_lt, eqb-true, false≢true}
 use Rattle.std.proofs.lemmas.List.{take-append-drop, take_all, take_at}
 use Rattle.std.proofs.lemmas.Slice.Eq.{bytes_eq-Decides}
+use Rattle.dap_http.proofs.Sizes.{nothing-less}
 use Rattle.dap_outside.specs.Streams.{AppendsFront}
 use Rattle.dap_http.specs.Frames.{IsFront, IsProperFront, chunk, chunked, first_pieces, framed, last_chunk, piece_size}
 use Rattle.dap_http.specs.Framings.{EndsEarly, IsUnfinished}
@@ -123,9 +124,6 @@ framed-is : (m : Bool) (front frame body gained more : List ℕ) (from sent : �
     → framed m (body ++ more) ≡ flat_map (piece_of m) w.pieces ++ framed m (w.held ++ more)
 framed-is m front frame body gained more from sent w =
     ap (λ t. framed m (t ++ more)) w.body_is ∙ ap (framed m) (append_assoc (flat_map (λ (p : List ℕ). p) w.pieces) w.held more) ∙ framed-pieces m w.pieces (w.held ++ more) w.whole
-
-nothing-less : (n : ℕ) → n - 0 ≡ n
-nothing-less n = omega arith
 
 -- behind the chunks that are whole
 chunks-break : (front frame body gained : List ℕ) (from sent : ℕ) → length frame < from + 65536 → InFrames true front frame from sent body gained

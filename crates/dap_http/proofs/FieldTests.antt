@@ -20,10 +20,6 @@ or-false : (b : Bool) (c : Bool) → ((b || false) || c) ≡ (b || c)
 or-false true c = refl
 or-false false c = refl
 
-pub any-map : {X Y : Type 0} (p : Y → Bool) (f : X → Y) (xs : List X) → list_any p (map f xs) ≡ list_any (λ x. p (f x)) xs
-any-map p f [] = refl
-any-map p f (x ∷ xs) = ap (λ b. p (f x) || b) (any-map p f xs)
-
 -- a test on the values of a name, as one on fields
 pub any-values : (p : List ℕ → Bool) (name : List ℕ) (fields : List (List ℕ × List ℕ)) → list_any p (values_of name fields) ≡ list_any (λ f. is_named name f && p f.1) fields
 any-values p name [] = refl

@@ -111,7 +111,7 @@ pub bad-request : (bytes : List ℕ) → IsJudged bytes Bad → IsBadRequest (by
 bad-request bytes (never, why) = (subst IsBadRequest (sym (append-nil bytes)) (record { never = never; why = why }), sym (append-nil bytes))
 
 -- what is refused stays so
-never-still : (bytes more : List ℕ) → NeverHasHead bytes → NeverHasHead (bytes ++ more)
+pub never-still : (bytes more : List ℕ) → NeverHasHead bytes → NeverHasHead (bytes ++ more)
 never-still bytes more never behind head rest reads =
     never (more ++ behind) head rest (subst (λ (b : List ℕ). ReadsHead b head rest) (append_assoc bytes more behind) reads)
 

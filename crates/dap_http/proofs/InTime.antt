@@ -4,7 +4,7 @@ use Rattle.std.proofs.lemmas.List.{length-take}
 use Rattle.dap_types.specs.Limits.{body_limit}
 use Rattle.dap_http.proofs.Further.{come-further}
 use Rattle.dap_http.proofs.Lending.{stands-in}
-use Rattle.dap_http.proofs.Parts.{start-goes}
+use Rattle.dap_http.proofs.Parts.{start-goes, limit-is}
 use Rattle.dap_http.proofs.Whole.{goes-known}
 use Rattle.dap_http.specs.After.{UnframerStandsAfter, coding_of, lent_by}
 use Rattle.dap_http.specs.Codings.{Goes}
@@ -16,9 +16,6 @@ use Rattle.dap_http.specs.declared.body_parts.BodyParts.{BodyParts}
 use Rattle.dap_http.specs.declared.coding.Coding.{Coding}
 use Rattle.dap_http.specs.declared.coding.Coding.TheVariants.{Chunked, Length, ToEnd}
 use Rattle.dap_http.specs.declared.unframer.Unframer.{Unframer}
-
-limit-is : body_limit ≡ 1099511627776
-limit-is = refl
 
 -- with the head
 pub in-time-new : (c : Coding) (first : List ℕ) → length first ≤ 65536 → IsInTime c first []

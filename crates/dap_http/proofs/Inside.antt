@@ -12,9 +12,9 @@ use Rattle.dap_http.specs.declared.chunk_step.At.{At}
 use Rattle.dap_http.specs.declared.chunk_step.At.TheVariants.{Line, Digits, Blanks, Extension, LineFeed, Data, EndCr, EndLf, Fresh, Trailer, EmptyCr, TrailerCr, Done, Bad}
 use Rattle.dap_http.specs.Chunks.{Fits, IsInLine, IsSizeLine, MayFit, Stage, at_bytes, at_end, at_line, at_trailer, print_trailers}
 use Rattle.std.proofs.lemmas.List.{length-replicate}
+use Rattle.plain_lemmas.proofs.Truths.{true_or_false}
 use Rattle.dap_http.specs.inner.Steps.{is_data, is_done, is_open, is_start, step, step_blanks, step_trailer}
 use Rattle.dap_http.proofs.Lines.{line-parts}
-use Rattle.dap_http.proofs.Runs.{truth}
 use Rattle.dap_http.proofs.Seams.{in-line-nil, in-line-push, in-line-front, one-more, snoc-same}
 
 -- the digits of a number
@@ -112,7 +112,7 @@ more-tail n size b part ds pad tail begun few = record {
 
 -- behind the digits and some blanks
 blanks-step : (n size b : ℕ) (cs : List _) (part ds pad : List ℕ) → IsBegun n size part ds pad [] → Steps (step_blanks n size b) (at_line cs) (part ++ b ∷ [])
-blanks-step n size b cs part ds pad begun = go (truth (b == 13)) (truth (nat_lt 1021 n)) (truth (is_ows b)) (truth (b == 59)) where
+blanks-step n size b cs part ds pad begun = go (true_or_false (b == 13)) (true_or_false (nat_lt 1021 n)) (true_or_false (is_ows b)) (true_or_false (b == 59)) where
   go : ((b == 13) ≡ true) ⊎ ((b == 13) ≡ false) → (nat_lt 1021 n ≡ true) ⊎ (nat_lt 1021 n ≡ false) → (is_ows b ≡ true) ⊎ (is_ows b ≡ false) → ((b == 59) ≡ true) ⊎ ((b == 59) ≡ false)
       → Steps (step_blanks n size b) (at_line cs) (part ++ b ∷ [])
   go (inl cr) few ows semi =
@@ -126,7 +126,7 @@ blanks-step n size b cs part ds pad begun = go (truth (b == 13)) (truth (nat_lt 
   go (inr cr) (inr few) (inr ows) (inr semi) = rw (cr, few, ows, semi) (inr (inr refl))
 
 digits-step : (n size b : ℕ) (cs : List _) (part : List ℕ) → IsNumber size part → length part ≡ n → Steps (step (Digits n size) b) (at_line cs) (part ++ b ∷ [])
-digits-step n size b cs part number count = go (truth (is_ascii_hexdigit b)) (truth (nat_lt n 8)) where
+digits-step n size b cs part number count = go (true_or_false (is_ascii_hexdigit b)) (true_or_false (nat_lt n 8)) where
   begun : IsBegun n size part part [] []
   begun = record { number = number; blanks = All-nil (λ x. IsTrue (is_ows x)); is = sym (append-nil part); count = count; short = omega (arith, count, number.few) }
 
@@ -138,7 +138,7 @@ digits-step n size b cs part number count = go (truth (is_ascii_hexdigit b)) (tr
   go (inr hex) few = rw hex (blanks-step n size b cs part part [] begun)
 
 first-step : (b : ℕ) (cs : List _) → Steps (step Line b) (at_line cs) (b ∷ [])
-first-step b cs = go (truth (is_ascii_hexdigit b)) where
+first-step b cs = go (true_or_false (is_ascii_hexdigit b)) where
   go : (is_ascii_hexdigit b ≡ true) ⊎ (is_ascii_hexdigit b ≡ false) → Steps (step Line b) (at_line cs) (b ∷ [])
   go (inl hex) = rw hex (inl (
     record {
@@ -152,7 +152,7 @@ first-step b cs = go (truth (is_ascii_hexdigit b)) where
   go (inr hex) = rw hex (inr (inr refl))
 
 extension-step : (n size b : ℕ) (cs : List _) (part ds pad t : List ℕ) → IsBegun n size part ds pad (59 ∷ t) → AllPass is_extension_byte t → Steps (step (Extension n size) b) (at_line cs) (part ++ b ∷ [])
-extension-step n size b cs part ds pad t begun ext = go (truth (b == 13)) (truth (b == 10)) (truth (nat_lt 1021 n)) where
+extension-step n size b cs part ds pad t begun ext = go (true_or_false (b == 13)) (true_or_false (b == 10)) (true_or_false (nat_lt 1021 n)) where
   go : ((b == 13) ≡ true) ⊎ ((b == 13) ≡ false) → ((b == 10) ≡ true) ⊎ ((b == 10) ≡ false) → (nat_lt 1021 n ≡ true) ⊎ (nat_lt 1021 n ≡ false) → Steps (step (Extension n size) b) (at_line cs) (part ++ b ∷ [])
   go (inl cr) lf few =
       let same : b ≡ 13 = eqb-true b 13 cr in
@@ -164,7 +164,7 @@ extension-step n size b cs part ds pad t begun ext = go (truth (b == 13)) (truth
       rw (cr, lf, few) (inl (ds, pad, t ++ b ∷ [], more-tail n size b part ds pad (59 ∷ t) begun (ltb-false 1021 n few), All-push (λ x. IsTrue (is_extension_byte x)) t b ext plain))
 
 feed-step : (size b : ℕ) (cs : List _) (part : List ℕ) (l : ChunkLine) → IsSizeLine l → print_chunk_line l ≡ part ++ 10 ∷ [] → Steps (step (LineFeed size) b) (at_line cs) (part ++ b ∷ [])
-feed-step size b cs part l is printed = go (truth (b == 10)) where
+feed-step size b cs part l is printed = go (true_or_false (b == 10)) where
   go : ((b == 10) ≡ true) ⊎ ((b == 10) ≡ false) → Steps (step (LineFeed size) b) (at_line cs) (part ++ b ∷ [])
   go (inl lf) =
       let same : b ≡ 10 = eqb-true b 10 lf in
@@ -174,7 +174,7 @@ feed-step size b cs part l is printed = go (truth (b == 10)) where
 -- ---- bytes and their line end
 
 data-step : (left b : ℕ) (cs : List _) (l : ChunkLine) (part : List ℕ) → length part + left ≡ chunk_size l → 0 < left → Steps (step (Data left) b) (at_bytes cs l) (part ++ b ∷ [])
-data-step left b cs l part count some = go (truth (nat_le left 1)) where
+data-step left b cs l part count some = go (true_or_false (nat_le left 1)) where
   go : (nat_le left 1 ≡ true) ⊎ (nat_le left 1 ≡ false) → Steps (step (Data left) b) (at_bytes cs l) (part ++ b ∷ [])
   go (inl one) =
       let le = leb-true left 1 one in
@@ -184,13 +184,13 @@ data-step left b cs l part count some = go (truth (nat_le left 1)) where
       rw more (inl (omega (arith, one-more part b, count, gt), omega (arith, gt)))
 
 cr-step : (b : ℕ) (cs : List _) (l : ChunkLine) (bytes : List ℕ) → Steps (step EndCr b) (at_end cs l bytes) (b ∷ [])
-cr-step b cs l bytes = go (truth (b == 13)) where
+cr-step b cs l bytes = go (true_or_false (b == 13)) where
   go : ((b == 13) ≡ true) ⊎ ((b == 13) ≡ false) → Steps (step EndCr b) (at_end cs l bytes) (b ∷ [])
   go (inl cr) = let same : b ≡ 13 = eqb-true b 13 cr in rw same (inl refl)
   go (inr cr) = rw cr (inr (inr refl))
 
 lf-step : (b : ℕ) (cs : List _) (l : ChunkLine) (bytes : List ℕ) → Steps (step EndLf b) (at_end cs l bytes) (13 ∷ b ∷ [])
-lf-step b cs l bytes = go (truth (b == 10)) where
+lf-step b cs l bytes = go (true_or_false (b == 10)) where
   go : ((b == 10) ≡ true) ⊎ ((b == 10) ≡ false) → Steps (step EndLf b) (at_end cs l bytes) (13 ∷ b ∷ [])
   go (inl lf) = let same : b ≡ 10 = eqb-true b 10 lf in rw same (inr (inl refl))
   go (inr lf) = rw lf (inr (inr refl))
@@ -202,7 +202,7 @@ trailer-step : (r b : ℕ) (cr : At) (cs : List _) (l : ChunkLine) (lines : List
     → length (print_trailers lines) + length part + r ≡ 16384
     → (b ≡ 13 → 2 ≤ r → Holds cr (at_trailer cs l lines) (part ++ 13 ∷ []))
     → Steps (step_trailer r b cr) (at_trailer cs l lines) (part ++ b ∷ [])
-trailer-step r b cr cs l lines part inside count holds = go (truth (b == 13)) (truth (nat_lt r 2)) (truth (nat_lt r 3)) where
+trailer-step r b cr cs l lines part inside count holds = go (true_or_false (b == 13)) (true_or_false (nat_lt r 2)) (true_or_false (nat_lt r 3)) where
   go : ((b == 13) ≡ true) ⊎ ((b == 13) ≡ false) → (nat_lt r 2 ≡ true) ⊎ (nat_lt r 2 ≡ false) → (nat_lt r 3 ≡ true) ⊎ (nat_lt r 3 ≡ false)
       → Steps (step_trailer r b cr) (at_trailer cs l lines) (part ++ b ∷ [])
   go (inl is) (inl few) three = rw (is, few) (inr (inr refl))
@@ -245,7 +245,7 @@ cr-in-line : IsInLine (13 ∷ [])
 cr-in-line = in-line-push [] 13 in-line-nil (λ xs e. absurd (omega (arith, e.0)))
 
 empty-step : (r b : ℕ) (cs : List _) (l : ChunkLine) (lines : List (List ℕ)) → length (print_trailers lines) + 1 + r ≡ 16384 → 1 ≤ r → Steps (step (EmptyCr r) b) (at_trailer cs l lines) (13 ∷ b ∷ [])
-empty-step r b cs l lines count room = go (truth (b == 10)) where
+empty-step r b cs l lines count room = go (true_or_false (b == 10)) where
   go : ((b == 10) ≡ true) ⊎ ((b == 10) ≡ false) → Steps (step (EmptyCr r) b) (at_trailer cs l lines) (13 ∷ b ∷ [])
   go (inl lf) =
       let same : b ≡ 10 = eqb-true b 10 lf in
@@ -254,7 +254,7 @@ empty-step r b cs l lines count room = go (truth (b == 10)) where
   go (inr lf) = rw lf (behind-cr r b cs l lines (13 ∷ []) lf cr-in-line (omega arith) (omega (arith, count)))
 
 trailer-cr-step : (r b : ℕ) (cs : List _) (l : ChunkLine) (lines : List (List ℕ)) (part : List ℕ) → Holds (TrailerCr r) (at_trailer cs l lines) part → Steps (step (TrailerCr r) b) (at_trailer cs l lines) (part ++ b ∷ [])
-trailer-cr-step r b cs l lines part (xs, is, inside, count, room, some) = go (truth (b == 10)) where
+trailer-cr-step r b cs l lines part (xs, is, inside, count, room, some) = go (true_or_false (b == 10)) where
   go : ((b == 10) ≡ true) ⊎ ((b == 10) ≡ false) → Steps (step (TrailerCr r) b) (at_trailer cs l lines) (part ++ b ∷ [])
   go (inl lf) =
       let same : b ≡ 10 = eqb-true b 10 lf in

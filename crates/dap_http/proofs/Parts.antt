@@ -91,7 +91,7 @@ pub used-is : (u : Unframer) (bytes : List ℕ) → UnframerStandsAfter u bytes 
 used-is u bytes stands = count-in u u.coding bytes (stands-in u u.coding bytes refl stands)
 
 -- and few where the body is short
-limit-is : body_limit ≡ 1099511627776
+pub limit-is : body_limit ≡ 1099511627776
 limit-is = refl
 
 pub short-room : (p : BodyParts) → IsShort p → used_by p.unframer + 65536 < 2 ^ 52

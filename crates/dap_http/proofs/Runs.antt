@@ -1,5 +1,5 @@
 -- Running over bytes of the chunked coding: runs one behind the other, and what stays or grows.
-use Rattle.std.proofs.Common.{◌≡◌, ℕ, ◌+◌, ◌≤◌, ◌⊎◌, Bool, true, false, List, [], ◌∷◌, ◌++◌, length, refl, sym, ap, ◌∙◌, arith, append_assoc, append-nil, inl, inr}
+use Rattle.std.proofs.Common.{◌≡◌, ℕ, ◌+◌, ◌≤◌, Bool, true, false, List, [], ◌∷◌, ◌++◌, length, refl, sym, ap, ◌∙◌, arith, append_assoc, append-nil}
 use Rattle.std.proofs.lemmas.Bool.{true≢false}
 use Rattle.std.specs.Prelude.{if◌then◌else◌}
 use Rattle.dap_http.specs.declared.chunk_step.At.{At}
@@ -101,7 +101,3 @@ moves-on k (b ∷ bytes) le =
     let (from, within) = moved (is_done k.at) (is_start (step k.at b)) k.used k.from (done-starts k.at b) le in
     let more = moves-on (advance k b) bytes within in
     record { from = omega (arith, from, more.from); within = more.within }
-
-pub truth : (b : Bool) → (b ≡ true) ⊎ (b ≡ false)
-truth true = inl refl
-truth false = inr refl

@@ -47,7 +47,7 @@ pasted d at n here fits =
     ∙ append_assoc (take at d) (take n d) (drop (at + n) d) in
     ap (drop at) all ∙ ap (λ m. drop m (take at d ++ (take n d ++ drop (at + n) d))) (sym (length-take-le at d here)) ∙ drop-append_seam (take at d) (take n d ++ drop (at + n) d)
 
-nothing-less : (n : ℕ) → n - 0 ≡ n
+pub nothing-less : (n : ℕ) → n - 0 ≡ n
 nothing-less n = omega arith
 
 pub copied : (d : List ℕ) (at n : ℕ) → at ≤ length d → n ≤ length d → drop at (copy_within d 0 n at) ≡ take n d ++ drop (at + n) d

@@ -3,6 +3,7 @@ use Rattle.std.proofs.Common.{◌≡◌, ℕ, ◌+◌, ◌-◌, ◌<◌, ◌≤�
 use Rattle.std.specs.Prelude.{if◌then◌else◌, ◌==◌, nat_lt, All}
 use Rattle.std.proofs.lemmas.Bool.{le-ltb, le-leb, lt-leb, ne_eqb, eqb-true}
 use Rattle.std.proofs.lemmas.List.Elements.{All-head, All-tail}
+use Rattle.plain_lemmas.proofs.Truths.{true_or_false}
 use Rattle.httparse.specs.Ascii.{crlf_bytes}
 use Rattle.httparse.specs.Grammar.{ChunkLine, chunk_size, print_chunk_line}
 use Rattle.dap_http.specs.declared.chunk_step.At.{At}
@@ -10,7 +11,7 @@ use Rattle.dap_http.specs.declared.chunk_step.At.TheVariants.{Line, Data, EndCr,
 use Rattle.dap_http.specs.Chunks.{Chunk, IsChunk, IsInLine, IsSizeLine, IsStage, IsTrailer, Stage, at_bytes, at_end, at_line, at_trailer, bodies, body_before, print_chunk, print_chunks, print_stage, print_trailers}
 use Rattle.dap_http.specs.inner.Steps.{Known, advance, behind_line, is_data, is_done, is_start, run, start, step, step_trailer}
 use Rattle.dap_http.proofs.Lines.{run-line}
-use Rattle.dap_http.proofs.Runs.{begins, known, run-append, stays, truth}
+use Rattle.dap_http.proofs.Runs.{begins, known, run-append, stays}
 use Rattle.dap_http.proofs.Seams.{in-line-tail, no-feed}
 
 -- ---- the bytes of a chunk
@@ -143,7 +144,7 @@ run-trailing [] r at w may u f v q body p t =
 run-trailing (x ∷ xs) r at w may u f v q body p t =
     let (done, dat) = trailing-open r at w in
     let line : IsInLine (x ∷ xs) = still-in-line r at w x xs may in
-    elim (truth (x == 13)) [
+    elim (true_or_false (x == 13)) [
       | inl cr ↦
           let same : x ≡ 13 = eqb-true x 13 cr in
           let one : step at x ≡ TrailerCr (r - 1) = ap (step at) same ∙ trailing-cr r at w (omega (arith, p)) in
@@ -161,7 +162,7 @@ pub run-trailer : (line : List ℕ) → IsTrailer line → (r q u f v : ℕ) (bo
     → run (known (Fresh r) u f body) (line ++ crlf_bytes) ≡ known (Fresh q) v v body
 unfolding may-come
 run-trailer [] is r q u f v body p t = absurd (omega (arith, is.some))
-run-trailer (x ∷ xs) is r q u f v body p t = go (truth (x == 13)) where
+run-trailer (x ∷ xs) is r q u f v body p t = go (true_or_false (x == 13)) where
   go : ((x == 13) ≡ true) ⊎ ((x == 13) ≡ false) → run (known (Fresh r) u f body) ((x ∷ xs) ++ crlf_bytes) ≡ known (Fresh q) v v body
   go (inl cr) =
       let same : x ≡ 13 = eqb-true x 13 cr in

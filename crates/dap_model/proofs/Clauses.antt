@@ -1,9 +1,11 @@
 -- What the clauses of a selection keep.
-use Rattle.std.proofs.Common.{◌≡◌, ℕ, zero, suc, ◌+◌, ◌-◌, ◌<◌, ◌≤◌, ◌&&◌, ◌||◌, Bool, true, false, cond, ltb, List, [], ◌∷◌, ◌++◌, length, Option, Some, None, slice_get, refl, ap, ◌∙◌, arith}
+use Rattle.std.proofs.Common.{◌≡◌, ℕ, ◌+◌, ◌-◌, ◌<◌, ◌≤◌, ◌&&◌, true, false, cond, ltb, List, [], ◌∷◌, ◌++◌, length, Option, Some, None, slice_get, refl, ap, ◌∙◌, arith}
 use Rattle.std.specs.List.{list_any}
 use Rattle.std.specs.Option.{option_map_or}
 use Rattle.std.proofs.lemmas.Bool.{le-ltb, lt-ltb}
 use Rattle.std.proofs.lemmas.List.Folds.{list_all-append}
+use Rattle.std.proofs.lemmas.Option.{slice_get_past}
+use Rattle.plain_lemmas.proofs.Truths.{and_true, or_false}
 use Rattle.dap_types.specs.Model.{Tree, one, kids}
 use Rattle.dap_types.specs.declared.values.Value.{Value}
 use Rattle.dap_model.specs.Fits.{values_in}
@@ -12,23 +14,10 @@ use Rattle.dap_model.specs.Rows.{Selection, cell_at, holds, kept}
 pub each_clause_keeps : (clauses more : List Selection) (n : ℕ) (row : Tree) → (kept [] n row ≡ true) × (kept (clauses ++ more) n row ≡ (kept clauses n row && kept more n row))
 each_clause_keeps clauses more n row = (refl, list_all-append (λ clause. option_map_or (λ cell. list_any (holds clause) (values_in cell)) (cell_at n row clause.column) true) clauses more)
 
-and_true : (b : Bool) → (b && true) ≡ b
-and_true true = refl
-and_true false = refl
-
-pub or_false : (b : Bool) → (b || false) ≡ b
-or_false true = refl
-or_false false = refl
-
 -- a clause by the cell of its column
 by_cell : (clause : Selection) (n : ℕ) (row : Tree) (o : Option Tree) → cell_at n row clause.column ≡ o
     → kept (clause ∷ []) n row ≡ option_map_or (λ cell. list_any (holds clause) (values_in cell)) o true
 by_cell clause n row o is = and_true (option_map_or (λ cell. list_any (holds clause) (values_in cell)) (cell_at n row clause.column) true) ∙ ap (λ c. option_map_or (λ cell. list_any (holds clause) (values_in cell)) c true) is
-
-none_there : {X : Type 0} (xs : List X) (k : ℕ) → length xs ≤ k → slice_get xs k ≡ None
-none_there [] k le = refl
-none_there (x ∷ xs) zero le = absurd (omega arith)
-none_there (x ∷ xs) (suc k) le = none_there xs k (omega arith)
 
 -- the cell of a column by its place behind the Sequence
 cell_there : (n k at : ℕ) (row : Tree) → at ≡ n + 1 + k → cell_at n row at ≡ slice_get (kids row) k
@@ -45,5 +34,5 @@ clause_keeps clause n row = (
   λ k v at cell. by_cell clause n row (Some (one v)) (cell_there n k clause.column row at ∙ cell) ∙ or_false (holds clause v),
   λ before. by_cell clause n row None (let outside : ltb n clause.column ≡ false = le-ltb n clause.column before in ap (λ b. cond b (slice_get (kids row) (clause.column - (n + 1))) None) outside),
   λ behind. let k : ℕ = clause.column - (n + 1) in
-      by_cell clause n row None (cell_there n k clause.column row (omega (arith, behind)) ∙ none_there (kids row) k (omega (arith, behind))),
+      by_cell clause n row None (cell_there n k clause.column row (omega (arith, behind)) ∙ slice_get_past (kids row) k (omega (arith, behind))),
 )

@@ -22,7 +22,7 @@ few_below start stride (suc c) n up all =
     let below : get_or (map (λ k. start + k * stride) (range_with_len 0 (suc c))) c 0 < n = all c 0 inside in
     let grows : c * 1 ≤ c * stride = mul-le-mul_left c up in omega (arith, last, below, grows)
 
-few_picked : (s : Slab) (n : ℕ) → IsWithin s n → s.count ≤ n
+pub few_picked : (s : Slab) (n : ℕ) → IsWithin s n → s.count ≤ n
 few_picked s n within = few_below s.start s.stride s.count n within.0 within.1
 
 -- the sizes of a counted array are the counts

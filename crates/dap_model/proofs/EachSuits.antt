@@ -3,12 +3,13 @@ use Rattle.std.proofs.Common.{◌≡◌, ℕ, suc, ◌+◌, List, [], ◌∷◌,
 use Rattle.std.specs.Bool.{⊤}
 use Rattle.std.specs.Option.{option_or}
 use Rattle.std.proofs.lemmas.Option.{slice_get_within}
+use Rattle.plain_lemmas.proofs.Lists.{front_get}
 use Rattle.dap_types.specs.Model.{Member, scalar, array, structure, grid, sequence, Members, no_members, member, count}
 use Rattle.dap_types.specs.Preorder.{preorder, preorder_all}
 use Rattle.dap_types.specs.declared.slabs.Slab.{Slab}
 use Rattle.dap_types.specs.declared.declarations.ArrayDecl.{ArrayDecl}
 use Rattle.dap_types.proofs.Preorder.{length-preorder}
-use Rattle.dap_types.proofs.PreorderPlaces.{front_get, back_get}
+use Rattle.dap_types.proofs.PreorderPlaces.{back_get}
 use Rattle.dap_model.specs.Filter.{Marks, Suits, SuitEach, SuitsMember, SuitsAll}
 
 -- what one member is marked with suits it

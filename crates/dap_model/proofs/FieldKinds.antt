@@ -4,6 +4,7 @@ use Rattle.std.proofs.lemmas.Int.{ints}
 use Rattle.std.proofs.lemmas.List.{length-replicate}
 use Rattle.std.proofs.lemmas.Nat.{from_be_bytes-to_be_bytes_4, from_be_bytes-to_be_bytes_8}
 use Rattle.std.specs.Int.{to_be_bytes, from_be_bytes, cast_unsigned, w32, w64}
+use Rattle.plain_lemmas.proofs.Lists.{cons_first}
 use Rattle.dap_types.specs.declared.declarations.BaseType.{BaseType}
 use Rattle.dap_types.specs.declared.declarations.BaseType.TheVariants.{Byte, Int16, UInt16, Int32, UInt32, Float32, Float64, Text, Url}
 use Rattle.dap_types.specs.declared.values.Value.{Value}
@@ -36,7 +37,7 @@ double_same : (n m : ℕ) → n < 2 ^ 64 → m < 2 ^ 64 → to_be_bytes w64 n �
 double_same n m a b same = sym (from_be_bytes-to_be_bytes_8 n a) ∙ ap (from_be_bytes w64) same ∙ from_be_bytes-to_be_bytes_8 m b
 
 -- whole numbers of one type by their words
-small_word : (z : ℤ) → neg_ℤ (pos (2 ^ 31)) ≤ℤ z → z <ℤ pos (2 ^ 32) → cast_unsigned w32 z < 2 ^ 32
+pub small_word : (z : ℤ) → neg_ℤ (pos (2 ^ 31)) ≤ℤ z → z <ℤ pos (2 ^ 32) → cast_unsigned w32 z < 2 ^ 32
 small_word (pos n) low high = omega (arith, ints)
 small_word (negsuc n) low high = omega (arith, ints)
 
@@ -162,9 +163,6 @@ byte_same (values.Whole (negsuc b)) w is is' same = absurd (omega (arith, ints))
 byte_same (values.Whole (pos b)) w is is' same = absurd is'
 byte_same v w is is' same = absurd is
 
-head_same : (a b : ℕ) (xs ys : List ℕ) → a ∷ xs ≡ b ∷ ys → a ≡ b
-head_same a b xs ys same = cc
-
 -- bytes that spell two fields of one kind spell one field
 pub spelled_same : (f g : Field) (bs : List ℕ) → SameKind f g → SpellsField f bs → SpellsField g bs → f ≡ g
 unfolding field_bytes
@@ -173,10 +171,10 @@ spelled_same (number b v) (number c w) bs kind one two =
     let two' = subst (λ d. SpellsField (number d w) bs) (sym kind.0) two in
     let is' = subst (λ d. IsOf d w) (sym kind.0) kind.3 in
     ap (number b) (numbers_same b v w bs kind.1 kind.2 is' one two') ∙ ap (λ d. number d w) kind.0
-spelled_same (packed v) (packed w) bs kind one two = ap packed (byte_same v w kind.0 kind.1 (head_same (byte_of v) (byte_of w) [] [] (sym one ∙ two)))
+spelled_same (packed v) (packed w) bs kind one two = ap packed (byte_same v w kind.0 kind.1 (cons_first (byte_of v) (byte_of w) [] [] (sym one ∙ two)))
 spelled_same (filler n) (filler m) bs kind one two = ap filler kind
 spelled_same (size n) (size m) bs kind one two = ap size (word_same n m (omega (arith, kind.0)) (omega (arith, kind.1)) (sym one ∙ two))
 spelled_same (text a) (text b) bs kind one two = ap text (sym one ∙ two)
 spelled_same (padding n) (padding m) bs kind one two = ap padding kind
-spelled_same (mark a) (mark b) bs kind one two = ap mark (head_same a b (0 ∷ 0 ∷ 0 ∷ []) (0 ∷ 0 ∷ 0 ∷ []) (sym one ∙ two))
+spelled_same (mark a) (mark b) bs kind one two = ap mark (cons_first a b (0 ∷ 0 ∷ 0 ∷ []) (0 ∷ 0 ∷ 0 ∷ []) (sym one ∙ two))
 spelled_same f g bs kind one two = absurd kind

@@ -1,8 +1,10 @@
 -- What a constraint leaves of a dataset of words is one of words.
-use Rattle.std.proofs.Common.{◌≡◌, ℕ, ◌+◌, List, [], ◌∷◌, map, All, Option, Some, None, Bool, true, false, ◌&&◌, if◌then◌else◌, refl, sym, ap, subst}
+use Rattle.std.proofs.Common.{◌≡◌, ℕ, ◌+◌, List, [], ◌∷◌, map, All, Option, Some, None, Bool, true, false, if◌then◌else◌, refl, sym, ap, subst}
 use Rattle.std.specs.List.{list_all, zip}
 use Rattle.std.specs.Option.{option_map_or}
 use Rattle.std.proofs.lemmas.List.Elements.{All-append, All-cons, All-map, All-nil}
+use Rattle.std.proofs.lemmas.Bool.{and_from}
+use Rattle.plain_lemmas.proofs.Truths.{both_true}
 use Rattle.dap_types.proofs.Preorder.{preorder-places}
 use Rattle.dap_types.specs.Model.{Member, scalar, array, structure, grid, sequence, Members, no_members, member, members_of, Dataset, count}
 use Rattle.dap_types.specs.Preorder.{preorder, preorder_all}
@@ -10,7 +12,6 @@ use Rattle.dap_types.specs.WellFormed.{Place, places_of}
 use Rattle.dap_types.specs.declared.declarations.ArrayDecl.{ArrayDecl}
 use Rattle.dap_types.specs.declared.declarations.Dim.{Dim}
 use Rattle.dap_types.specs.declared.slabs.Slab.{Slab}
-use Rattle.dap_model.proofs.Tests.{both_true}
 use Rattle.dap_model.proofs.Values.{all_first, all_rest, all_front, all_back}
 use Rattle.dap_model.specs.Cutting.{counted}
 use Rattle.dap_model.specs.Filter.{Marks, marked, unchanged, slabs_at, has_mark, stays_grid, as_grid, filtered, filtered_all, constrained}
@@ -19,10 +20,6 @@ use Rattle.dap_model.specs.Tokens.{is_word}
 
 abbrev pub IsOfWords : Member → Type 0
 IsOfWords m = are_words m ≡ true
-
-pub both : (a b : Bool) → a ≡ true → b ≡ true → (a && b) ≡ true
-both true b x y = y
-both false b x y = cc
 
 abbrev pub has_word : Dim → Bool
 has_word dim = option_map_or is_word dim.name true
@@ -33,12 +30,12 @@ dims_kept [] slabs all = refl
 dims_kept (d ∷ dims) [] all = refl
 dims_kept (d ∷ dims) (s ∷ slabs) all =
     let (here, rest) = both_true (has_word d) (list_all has_word dims) all in
-    both (has_word d) (list_all has_word (map (λ (p : Dim × Slab). record p.0 { size = p.1.count }) (zip dims slabs))) here (dims_kept dims slabs rest)
+    and_from (has_word d) (list_all has_word (map (λ (p : Dim × Slab). record p.0 { size = p.1.count }) (zip dims slabs))) here (dims_kept dims slabs rest)
 
 array_kept : (slabs : List Slab) (a : ArrayDecl) → IsOfWords (array a) → IsOfWords (array (counted slabs a))
 array_kept slabs a all =
     let (own, dims) = both_true (is_word a.name) (list_all has_word a.dims) all in
-    both (is_word a.name) (list_all has_word (counted slabs a).dims) own (dims_kept a.dims slabs dims)
+    and_from (is_word a.name) (list_all has_word (counted slabs a).dims) own (dims_kept a.dims slabs dims)
 
 -- the marked ones of some leaves
 leaves_kept : {X : Type 0} (leaf : X → Member) (change : List Slab → X → X) → ((slabs : List Slab) (x : X) → IsOfWords (leaf x) → IsOfWords (leaf (change slabs x)))

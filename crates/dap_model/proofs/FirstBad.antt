@@ -1,6 +1,6 @@
 -- A text's bad token, from a dataset whose text goes on behind it.
-use Rattle.std.proofs.Common.{◌≡◌, ℕ, zero, suc, ◌+◌, ◌<◌, List, [], ◌∷◌, ◌++◌, length, take, drop, Bool, true, false, ◌||◌, slice_get, ⊎_elim, inr, refl, ap, ◌∙◌, sym, subst, arith}
-use Rattle.std.proofs.lemmas.Bool.{false≢true}
+use Rattle.std.proofs.Common.{◌≡◌, ℕ, zero, suc, ◌+◌, ◌<◌, List, [], ◌∷◌, ◌++◌, length, take, drop, Bool, true, false, slice_get, ⊎_elim, inr, refl, ap, ◌∙◌, sym, subst, arith}
+use Rattle.std.proofs.lemmas.Bool.{false≢true, or_parts}
 use Rattle.std.specs.List.{list_any}
 use Rattle.std.specs.Option.{option_map_or}
 use Rattle.dap_types.specs.Model.{Dataset}
@@ -11,15 +11,11 @@ use Rattle.dap_model.specs.Tokens.{Token}
 abbrev broken_at : List Judged → ℕ → Bool
 broken_at js k = option_map_or (λ j. j.broken) (slice_get js k) false
 
-or_none : (a b : Bool) → (a || b) ≡ false → (a ≡ false) × (b ≡ false)
-or_none true b is = absurd (false≢true (sym is))
-or_none false b is = (refl, is)
-
 unbroken_before : (js : List Judged) (k j : ℕ) → j < k → list_any (λ i. i.broken) (take k js) ≡ false → broken_at js j ≡ false
 unbroken_before [] k j lt none = refl
 unbroken_before (i ∷ js) zero j lt none = absurd (omega arith)
-unbroken_before (i ∷ js) (suc k) zero lt none = (or_none i.broken (list_any (λ h. h.broken) (take k js)) none).0
-unbroken_before (i ∷ js) (suc k) (suc j) lt none = unbroken_before js k j (omega arith) (or_none i.broken (list_any (λ h. h.broken) (take k js)) none).1
+unbroken_before (i ∷ js) (suc k) zero lt none = (or_parts i.broken (list_any (λ h. h.broken) (take k js)) none).0
+unbroken_before (i ∷ js) (suc k) (suc j) lt none = unbroken_before js k j (omega arith) (or_parts i.broken (list_any (λ h. h.broken) (take k js)) none).1
 
 -- a front of a front, and what stands behind it
 split_front : (ts more : List Token) (j k : ℕ) → j < k → take (suc j) ts ++ (drop (suc j) (take (suc k) ts) ++ more) ≡ take (suc k) ts ++ more

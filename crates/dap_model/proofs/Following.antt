@@ -4,11 +4,11 @@ use Rattle.std.proofs.Common.{◌≡◌, ℕ, ◌+◌, List, [], ◌∷◌, ◌+
 use Rattle.std.proofs.lemmas.Bool.{false≢true}
 use Rattle.std.specs.List.{list_any}
 use Rattle.std.specs.Str.{bytes_eq, str_to_ascii_lowercase}
+use Rattle.plain_lemmas.proofs.Truths.{both_true}
 use Rattle.dap_types.specs.Model.{Member, scalar, array, structure, grid, sequence, Members, no_members, member, Dataset, name_of, count, sizes}
 use Rattle.dap_types.specs.declared.declarations.ArrayDecl.{ArrayDecl}
 use Rattle.dap_types.specs.declared.declarations.Column.{Column}
 use Rattle.dap_types.specs.declared.declarations.Dim.{Dim}
-use Rattle.dap_model.proofs.Tests.{both_true}
 use Rattle.dap_model.proofs.Words.{same_name, same_size, same_keyword, apart_signs, no_sign_keyword, same_type, kind, kinds_apart, type_kind, structure_kind, grid_kind, sequence_kind}
 use Rattle.dap_model.specs.Dds.{type_word}
 use Rattle.dap_model.specs.Grammar.{keyword, name, size, sign, spells, Judged, fine, opens, closes, end_of_dim, semicolon, equals, colon, head, named, is_other, size_slots, dim_slots, scalar_slots, array_slots, column_slots, map_slots, slots, slots_all, dataset_slots, has_dims, have_dims, all_have_dims}

@@ -6,13 +6,13 @@ use Rattle.std.proofs.lemmas.Int.{ints}
 use Rattle.std.proofs.lemmas.List.Elements.{All-cons, All-nil}
 use Rattle.std.specs.Fmt.{digits}
 use Rattle.std.specs.List.{list_all}
+use Rattle.plain_lemmas.proofs.Truths.{both_true}
 use Rattle.dap_types.specs.Model.{Tree}
 use Rattle.dap_types.specs.declared.declarations.BaseType.TheVariants.{Int32, Text}
 use Rattle.dap_model.proofs.FieldKinds.{SameKind}
 use Rattle.dap_model.proofs.Files.{column, buoys, buoys_rows, list, text, whole, words}
 use Rattle.dap_model.proofs.OneSpelling.{next_kind}
 use Rattle.dap_model.proofs.Spelling.{Small, spelled}
-use Rattle.dap_model.proofs.Tests.{both_true}
 use Rattle.dap_model.specs.Fits.{FitsRow, FitsAll}
 use Rattle.dap_model.specs.Received.{IsOpen, IsBadField, IsFront, lines, open_line, wrong_mark}
 use Rattle.dap_model.specs.Xdr as field

@@ -1,6 +1,6 @@
 -- A token list of the grammar breaks no rule exactly where its dataset is well formed: slot by slot.
-use Rattle.std.proofs.Common.{◌≡◌, ℕ, ◌+◌, ◌≤◌, List, [], ◌∷◌, ◌++◌, length, map, take, All, Contains, Bool, true, false, ◌||◌, not, ◌==◌, nat_lt, Option, Some, None, refl, ap, ◌∙◌, sym, subst, codes, arith}
-use Rattle.std.proofs.lemmas.Bool.{false≢true}
+use Rattle.std.proofs.Common.{◌≡◌, ℕ, ◌+◌, ◌≤◌, List, [], ◌∷◌, ◌++◌, length, map, take, All, Contains, true, false, ◌||◌, not, ◌==◌, nat_lt, Option, Some, None, ap, ◌∙◌, sym, subst, codes, arith}
+use Rattle.std.proofs.lemmas.Bool.{false≢true, or_parts}
 use Rattle.std.proofs.lemmas.Bool.Decides.{nat_tests, not_from_Decides}
 use Rattle.std.proofs.lemmas.List.{length-map}
 use Rattle.std.proofs.Math.Seq.{take-length}
@@ -8,13 +8,13 @@ use Rattle.std.proofs.lemmas.List.Elements.{All-append, All-cons, All-nil}
 use Rattle.std.specs.Bool.{⊤}
 use Rattle.std.specs.List.{AllZip, list_all, list_any}
 use Rattle.std.specs.Str.{bytes_eq}
+use Rattle.plain_lemmas.proofs.Truths.{both_true}
 use Rattle.dap_types.proofs.Rules.{Obeys, earlier-Decides}
 use Rattle.dap_types.specs.Model.{Member, scalar, array, structure, grid, sequence, Members, no_members, member, name_of, count, count_all, sizes}
 use Rattle.dap_types.specs.WellFormed.{place, places, part_places, leaf_places, IsSized, HasMaps}
 use Rattle.dap_types.specs.declared.declarations.ArrayDecl.{ArrayDecl}
 use Rattle.dap_types.specs.declared.declarations.Column.{Column}
 use Rattle.dap_types.specs.declared.declarations.Dim.{Dim}
-use Rattle.dap_model.proofs.Tests.{both_true}
 use Rattle.dap_model.specs.Dds.{type_word}
 use Rattle.dap_model.specs.Grammar.{Slot, keyword, size, sign, Judged, fine, closes, semicolon, colon, head, named, size_slots, dim_slots, scalar_slots, array_slots, column_slots, map_slots, whole_slots, slots, slots_all, has_dims, have_dims, all_have_dims}
 
@@ -46,18 +46,11 @@ Small slot = ⊤
 abbrev pub Good : Judged → Type 0
 Good j = Kept j × Small j.slot
 
-pub none_of_two : (a b : Bool) → (a || b) ≡ false → (a ≡ false) × (b ≡ false)
-none_of_two true b is = absurd (false≢true (sym is))
-none_of_two false b is = (refl, is)
-
 pub not_below : (a b : ℕ) → nat_lt a b ≡ false → b ≤ a
 not_below a b is = grind (arith, nat_tests)
 
-pub below_not : (a b : ℕ) → b ≤ a → nat_lt a b ≡ false
-below_not a b le = grind (arith, nat_tests)
-
 head_kept : (depth n : ℕ) → (nat_lt 16 depth || nat_lt 1000000 n) ≡ false → (depth ≤ 16) × (n ≤ 1000000)
-head_kept depth n is = let both = none_of_two (nat_lt 16 depth) (nat_lt 1000000 n) is in (not_below 16 depth both.0, not_below 1000000 n both.1)
+head_kept depth n is = let both = or_parts (nat_lt 16 depth) (nat_lt 1000000 n) is in (not_below 16 depth both.0, not_below 1000000 n both.1)
 
 name_kept : (before : List (List ℕ)) (own : List ℕ) → list_any (bytes_eq own) before ≡ false → ¬ Contains before own
 name_kept before own is = not_from_Decides (list_any (bytes_eq own) before) (earlier-Decides own before) is

@@ -5,10 +5,11 @@ use Rattle.std.specs.List.{AllZip}
 use Rattle.std.specs.Str.{bytes_eq}
 use Rattle.std.proofs.lemmas.List.{length-map}
 use Rattle.std.proofs.lemmas.Option.{slice_get-map, slice_get_within, none-some, same_Some}
+use Rattle.plain_lemmas.proofs.Lists.{front_get}
 use Rattle.dap_types.proofs.Found.{same_path}
 use Rattle.dap_types.proofs.Numbering.{length-part_paths}
 use Rattle.dap_types.proofs.Preorder.{length-preorder, member_at-get}
-use Rattle.dap_types.proofs.PreorderPlaces.{back_get, front_get}
+use Rattle.dap_types.proofs.PreorderPlaces.{back_get}
 use Rattle.dap_types.specs.Model.{Member, scalar, array, structure, grid, sequence, Members, no_members, member, members_of, Dataset, name_of}
 use Rattle.dap_types.specs.Preorder.{preorder, preorder_all}
 use Rattle.dap_types.specs.WellFormed.{IsWellFormed, member_at, number_of, part_paths, paths}

@@ -6,10 +6,11 @@ use Rattle.std.proofs.lemmas.Bool.{false≢true}
 use Rattle.std.proofs.lemmas.List.{append_cancel_left, append_cancel_right, map-append}
 use Rattle.std.proofs.lemmas.List.Elements.{All-head, All-tail}
 use Rattle.std.proofs.lemmas.Bool.{cases_lt}
+use Rattle.plain_lemmas.proofs.Lists.{cons_first, cons_rest, last_part}
+use Rattle.plain_lemmas.proofs.Truths.{both_true}
 use Rattle.dap_types.specs.Model.{Dataset, Tree}
 use Rattle.dap_model.proofs.Following.{dataset_same}
 use Rattle.dap_model.proofs.OneSpelling.{one_spelling}
-use Rattle.dap_model.proofs.Tests.{both_true}
 use Rattle.dap_model.specs.Body.{IsBody, IsHead}
 use Rattle.dap_model.specs.Grammar.{DdsOf, Judged, StandsFor, spells}
 use Rattle.dap_model.specs.Tokens.{Placed, Token, ended, is_sign, is_white, sign_at, tokens_from, tokens_of}
@@ -76,12 +77,6 @@ pub not_none : (xs ys : List ℕ) (x : ℕ) → xs ++ x ∷ ys ≡ [] → ⊥
 not_none [] ys x e = cc
 not_none (z ∷ xs) ys x e = cc
 
--- the last byte of some bytes is that of their last part
-last_part : (xs ys w : List ℕ) (y c : ℕ) → xs ++ y ∷ ys ≡ w ++ c ∷ [] → (v : List ℕ) × (y ∷ ys ≡ v ++ c ∷ [])
-last_part [] ys w y c e = (w, e)
-last_part (x ∷ xs) ys [] y c e = let none : xs ++ y ∷ ys ≡ [] = cc in absurd (not_none xs ys y none)
-last_part (x ∷ xs) ys (z ∷ w) y c e = let rest : xs ++ y ∷ ys ≡ w ++ c ∷ [] = cc in last_part xs ys w y c rest
-
 -- a text that begins with a text is no longer
 same_text : (xs u : List ℕ) (d e : Dataset) → DdsOf xs d → DdsOf (xs ++ u) e → (u ≡ []) × (d ≡ e)
 same_text xs u d e a b =
@@ -97,19 +92,13 @@ same_text xs u d e a b =
         let (v, is) = last_part xs cs w c 59 last in
         absurd (holds_token f n v (ap (λ x. bare (tokens_from f n x)) (sym is) ∙ empty))
 
-pub cons_head : (x y : ℕ) (xs ys : List ℕ) → x ∷ xs ≡ y ∷ ys → x ≡ y
-cons_head x y xs ys e = cc
-
-pub cons_tail : (x y : ℕ) (xs ys : List ℕ) → x ∷ xs ≡ y ∷ ys → xs ≡ ys
-cons_tail x y xs ys e = cc
-
 -- of two fronts of the same bytes the shorter one begins the longer one
 front_of : (xs ys rs ss : List ℕ) → xs ++ rs ≡ ys ++ ss → length xs ≤ length ys → (u : List ℕ) × (ys ≡ xs ++ u)
 front_of [] ys rs ss e le = (ys, refl)
 front_of (x ∷ xs) [] rs ss e le = absurd (omega arith)
 front_of (x ∷ xs) (y ∷ ys) rs ss e le =
-    let (u, is) = front_of xs ys rs ss (cons_tail x y (xs ++ rs) (ys ++ ss) e) (omega arith) in
-    (u, ap (λ z. z ∷ ys) (sym (cons_head x y (xs ++ rs) (ys ++ ss) e)) ∙ ap (λ zs. x ∷ zs) is)
+    let (u, is) = front_of xs ys rs ss (cons_rest x y (xs ++ rs) (ys ++ ss) e) (omega arith) in
+    (u, ap (λ z. z ∷ ys) (sym (cons_first x y (xs ++ rs) (ys ++ ss) e)) ∙ ap (λ zs. x ∷ zs) is)
 
 longer_text : (xs ys rs ss : List ℕ) (d e : Dataset) → DdsOf xs d → DdsOf ys e → xs ++ rs ≡ ys ++ ss → length xs ≤ length ys → (xs ≡ ys) × (d ≡ e)
 longer_text xs ys rs ss d e a b same le =
@@ -127,22 +116,22 @@ white_d e = cc
 
 -- white space before `D` is the same
 same_white : (ws vs rs ss : List ℕ) → AllPass is_white ws → AllPass is_white vs → ws ++ 68 ∷ rs ≡ vs ++ 68 ∷ ss → rs ≡ ss
-same_white [] [] rs ss a b e = cons_tail 68 68 rs ss e
-same_white [] (v ∷ vs) rs ss a b e = absurd (white_d (subst (λ x. is_white x ≡ true) (sym (cons_head 68 v rs (vs ++ 68 ∷ ss) e)) (All-head (λ x. is_white x ≡ true) v vs b)))
-same_white (w ∷ ws) [] rs ss a b e = absurd (white_d (subst (λ x. is_white x ≡ true) (cons_head w 68 (ws ++ 68 ∷ rs) ss e) (All-head (λ x. is_white x ≡ true) w ws a)))
-same_white (w ∷ ws) (v ∷ vs) rs ss a b e = same_white ws vs rs ss (All-tail (λ x. is_white x ≡ true) w ws a) (All-tail (λ x. is_white x ≡ true) v vs b) (cons_tail w v (ws ++ 68 ∷ rs) (vs ++ 68 ∷ ss) e)
+same_white [] [] rs ss a b e = cons_rest 68 68 rs ss e
+same_white [] (v ∷ vs) rs ss a b e = absurd (white_d (subst (λ x. is_white x ≡ true) (sym (cons_first 68 v rs (vs ++ 68 ∷ ss) e)) (All-head (λ x. is_white x ≡ true) v vs b)))
+same_white (w ∷ ws) [] rs ss a b e = absurd (white_d (subst (λ x. is_white x ≡ true) (cons_first w 68 (ws ++ 68 ∷ rs) ss e) (All-head (λ x. is_white x ≡ true) w ws a)))
+same_white (w ∷ ws) (v ∷ vs) rs ss a b e = same_white ws vs rs ss (All-tail (λ x. is_white x ≡ true) w ws a) (All-tail (λ x. is_white x ≡ true) v vs b) (cons_rest w v (ws ++ 68 ∷ rs) (vs ++ 68 ∷ ss) e)
 
 abbrev IsEnd : List ℕ → Type 0
 IsEnd end = (end ≡ codes "\n") ⊎ (end ≡ codes "\r\n")
 
 same_end : (e f rs ss : List ℕ) → IsEnd e → IsEnd f → e ++ rs ≡ f ++ ss → rs ≡ ss
-same_end e f rs ss (inl a) (inl b) q = cons_tail 10 10 rs ss (sym (ap (λ x. x ++ rs) a) ∙ q ∙ ap (λ x. x ++ ss) b)
-same_end e f rs ss (inr a) (inr b) q = cons_tail 10 10 rs ss (cons_tail 13 13 (10 ∷ rs) (10 ∷ ss) (sym (ap (λ x. x ++ rs) a) ∙ q ∙ ap (λ x. x ++ ss) b))
-same_end e f rs ss (inl a) (inr b) q = absurd (apart (cons_head 10 13 rs (10 ∷ ss) (sym (ap (λ x. x ++ rs) a) ∙ q ∙ ap (λ x. x ++ ss) b)))
+same_end e f rs ss (inl a) (inl b) q = cons_rest 10 10 rs ss (sym (ap (λ x. x ++ rs) a) ∙ q ∙ ap (λ x. x ++ ss) b)
+same_end e f rs ss (inr a) (inr b) q = cons_rest 10 10 rs ss (cons_rest 13 13 (10 ∷ rs) (10 ∷ ss) (sym (ap (λ x. x ++ rs) a) ∙ q ∙ ap (λ x. x ++ ss) b))
+same_end e f rs ss (inl a) (inr b) q = absurd (apart (cons_first 10 13 rs (10 ∷ ss) (sym (ap (λ x. x ++ rs) a) ∙ q ∙ ap (λ x. x ++ ss) b)))
   where
     apart : Path ℕ 10 13 → ⊥
     apart p = cc
-same_end e f rs ss (inr a) (inl b) q = absurd (apart (cons_head 13 10 (10 ∷ rs) ss (sym (ap (λ x. x ++ rs) a) ∙ q ∙ ap (λ x. x ++ ss) b)))
+same_end e f rs ss (inr a) (inl b) q = absurd (apart (cons_first 13 10 (10 ∷ rs) ss (sym (ap (λ x. x ++ rs) a) ∙ q ∙ ap (λ x. x ++ ss) b)))
   where
     apart : Path ℕ 13 10 → ⊥
     apart p = cc
@@ -163,7 +152,7 @@ one_head h k vs ws d e a b q =
     let one = one_text_front a.text b.text ra rb d e a.is_text b.is_text same in
     let behind : ra ≡ rb = append_cancel_left a.text ra rb (same ∙ ap (λ t. t ++ rb) (sym one.0)) in
     let line_is = same_white a.white b.white (97 ∷ 116 ∷ 97 ∷ 58 ∷ (a.end ++ vs)) (97 ∷ 116 ∷ 97 ∷ 58 ∷ (b.end ++ ws)) a.is_white b.is_white behind in
-    let rest = cons_tail 58 58 _ _ (cons_tail 97 97 _ _ (cons_tail 116 116 _ _ (cons_tail 97 97 _ _ line_is))) in
+    let rest = cons_rest 58 58 _ _ (cons_rest 97 97 _ _ (cons_rest 116 116 _ _ (cons_rest 97 97 _ _ line_is))) in
     let values = same_end a.end b.end vs ws a.is_end b.is_end rest in
     (append_cancel_right h k ws (ap (λ z. h ++ z) (sym values) ∙ q), one.1, values)
 

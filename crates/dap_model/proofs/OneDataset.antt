@@ -4,9 +4,9 @@ use Rattle.std.proofs.Common.{◌≡◌, ℕ, zero, suc, ◌<◌, List, [], ◌�
 use Rattle.std.proofs.lemmas.Bool.{false≢true}
 use Rattle.std.specs.Cmp.Lexicographic.{pointwise}
 use Rattle.std.specs.Option.{option_map_or}
+use Rattle.plain_lemmas.proofs.Truths.{both_true}
 use Rattle.dap_types.specs.Model.{Dataset}
 use Rattle.dap_model.proofs.Following.{dataset_same}
-use Rattle.dap_model.proofs.Tests.{both_true}
 use Rattle.dap_model.specs.Grammar.{spells, Judged, dataset_slots, StandsFor}
 use Rattle.dap_model.specs.Tokens.{Token}
 

@@ -1,18 +1,13 @@
 -- Bytes spell at most one list of values of a dataset, no spelling is a proper front of another, and the
 -- field that may follow good fields is of one kind.
 use Rattle.std.proofs.Common.{◌≡◌, ℕ, List, [], ◌∷◌, ◌++◌, length, ap, ◌∙◌, sym, subst, append_assoc}
+use Rattle.plain_lemmas.proofs.Lists.{cons_first, cons_rest}
 use Rattle.dap_types.specs.Model.{Dataset, Tree}
 use Rattle.dap_model.proofs.Decoding.{all_decoded, split_same}
 use Rattle.dap_model.proofs.FieldKinds.{SameKind, spelled_width, same_width, spelled_same, kinds_back}
 use Rattle.dap_model.specs.Fits.{FitsAll}
 use Rattle.dap_model.specs.Received.{MayFollow}
 use Rattle.dap_model.specs.Xdr.{Field, fields_all, SpellsField, SpellsFields, Spells}
-
-cons_first : {X : Type 0} (x y : X) (xs ys : List X) → x ∷ xs ≡ y ∷ ys → x ≡ y
-cons_first x y xs ys same = cc
-
-cons_rest : {X : Type 0} (x y : X) (xs ys : List X) → x ∷ xs ≡ y ∷ ys → xs ≡ ys
-cons_rest x y xs ys same = cc
 
 -- one spelling is a front of the other
 abbrev Front : Type 0 → List Field → List Field → Type 0

@@ -10,12 +10,13 @@ use Rattle.std.specs.Str.{bytes_eq}
 use Rattle.std.proofs.lemmas.List.{length-map}
 use Rattle.std.proofs.lemmas.Option.{none-some, same_Some, slice_get-map, slice_get_within, get_or_from_slice_get}
 use Rattle.std.proofs.lemmas.Slice.Eq.{bytes_eq-Decides, slice_eq-Decides}
+use Rattle.plain_lemmas.proofs.Lists.{front_get}
 use Rattle.dap_types.specs.Model.{Member, scalar, array, structure, grid, sequence, Members, no_members, member, Dataset, name_of, count}
 use Rattle.dap_types.specs.WellFormed.{IsWellFormed, number_of, part_paths, paths}
 use Rattle.dap_types.specs.Preorder.{preorder, preorder_all}
 use Rattle.dap_types.proofs.Numbering.{length-part_paths}
 use Rattle.dap_types.proofs.Preorder.{length-preorder}
-use Rattle.dap_types.proofs.PreorderPlaces.{back_get, front_get, in_front}
+use Rattle.dap_types.proofs.PreorderPlaces.{back_get, in_front}
 use Rattle.dap_model.proofs.Paths.{paths_differ}
 
 abbrev pub Path : Type 0

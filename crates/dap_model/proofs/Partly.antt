@@ -1,16 +1,13 @@
 -- What may be shown of a body that was refused, or of which no more was read or put.
-use Rattle.std.proofs.Common.{◌≡◌, ℕ, inl, inr, List, [], ◌∷◌, ◌++◌, refl, sym, ap, ◌∙◌, append_assoc, append-nil}
+use Rattle.std.proofs.Common.{ℕ, inl, inr, List, [], ◌++◌, refl, sym, ap, ◌∙◌, append_assoc, append-nil}
+use Rattle.plain_lemmas.proofs.Lists.{none_in_front}
 use Rattle.dap_model.specs.Dds.{dds}
 use Rattle.dap_model.specs.Partly.{MayShowPart, ShowsLines, ShowsPart}
 use Rattle.dap_model.specs.Received.{HasHead, IsPrefix, MayShow}
 
 -- a front of a front
-prefix_of : (xs ys zs : List ℕ) → IsPrefix xs ys → IsPrefix ys zs → IsPrefix xs zs
+pub prefix_of : (xs ys zs : List ℕ) → IsPrefix xs ys → IsPrefix ys zs → IsPrefix xs zs
 prefix_of xs ys zs (r, a) (s, b) = (r ++ s, b ∙ ap (λ l. l ++ s) a ∙ append_assoc xs r s)
-
-none_in_front : (xs ys : List ℕ) → xs ++ ys ≡ [] → xs ≡ []
-none_in_front [] ys e = refl
-none_in_front (x ∷ xs) ys e = cc
 
 part_lines : (good out : List ℕ) → MayShowPart good out → (text : List ℕ) × ShowsLines good text × IsPrefix out text
 part_lines good out p =

@@ -1,9 +1,10 @@
 -- A printed DDS of words is read back, and two datasets with one DDS text are the same.
-use Rattle.std.proofs.Common.{◌≡◌, ℕ, ◌+◌, ◌^◌, ◌<◌, ◌≤◌, inl, append_assoc, length-append, List, [], ◌∷◌, ◌++◌, length, map, All, Bool, true, ◌&&◌, nat_lt, Option, Some, None, codes, refl, ap, ◌∙◌, sym, subst, arith}
+use Rattle.std.proofs.Common.{◌≡◌, ℕ, ◌+◌, ◌^◌, ◌<◌, ◌≤◌, inl, append_assoc, length-append, List, [], ◌∷◌, ◌++◌, length, map, All, Bool, true, nat_lt, Option, Some, None, codes, refl, ap, ◌∙◌, sym, subst, arith}
 use Rattle.std.proofs.lemmas.Bool.Decides.{nat_tests}
 use Rattle.std.proofs.lemmas.List.Elements.{All-cons, All-nil}
 use Rattle.std.specs.Cmp.Lexicographic.{pointwise}
 use Rattle.std.specs.List.{list_all}
+use Rattle.std.proofs.lemmas.Bool.{and_from}
 use Rattle.dap_types.specs.Model.{Member, scalar, array, structure, grid, sequence, Members, no_members, member, Dataset, Tree, name_of, count, sizes}
 use Rattle.dap_types.specs.WellFormed.{Place, place, places, part_places, leaf_places, places_of, elements_of, IsSized, IsWellFormed}
 use Rattle.dap_types.specs.declared.declarations.ArrayDecl.{ArrayDecl}
@@ -70,14 +71,11 @@ small_grid arr maps one two = (tt, (tt, each_append SmallSlot arr (fine (keyword
 some_dims : (a : ArrayDecl) → IsSized (array a) → has_dims a ≡ true
 some_dims a sized = let some = sized.0 in grind (arith, nat_tests)
 
-both : (a b : Bool) → a ≡ true → b ≡ true → (a && b) ≡ true
-both a b first second = rw (first, second)
-
 maps_some : (pd : ℕ) (earlier : List (List ℕ)) (maps : List ArrayDecl) → All Sized (leaf_places pd earlier (map array maps)) → list_all has_dims maps ≡ true
 maps_some pd earlier [] sized = refl
 maps_some pd earlier (m ∷ maps) sized =
     let later = leaf_places pd (m.name ∷ earlier) (map array maps) in
-    both (has_dims m) (list_all has_dims maps) (some_dims m (all_first Sized (place pd earlier (array m)) later sized)) (maps_some pd (m.name ∷ earlier) maps (all_rest Sized (place pd earlier (array m)) later sized))
+    and_from (has_dims m) (list_all has_dims maps) (some_dims m (all_first Sized (place pd earlier (array m)) later sized)) (maps_some pd (m.name ∷ earlier) maps (all_rest Sized (place pd earlier (array m)) later sized))
 
 mutual
   small_member : (m : Member) (sd n pd : ℕ) (before : List (List ℕ)) → IsSized m → All Sized (part_places pd m) → Each SmallSlot (slots sd n before m) × (have_dims m ≡ true)
@@ -93,7 +91,7 @@ mutual
       let maps_slots : List Judged = map_slots (sd + 1) (n + 2) (a.name ∷ []) (sizes a) maps in (
         small_whole (head sd n (codes "Grid")) (fine (keyword (codes "Array")) ∷ colon ∷ arr ++ fine (keyword (codes "Maps")) ∷ colon ∷ maps_slots) (record { slot = sign 125; broken = nat_lt (length maps) (length a.dims) }) (named before own) tt
             (small_grid arr maps_slots (small_array 32 None (head (sd + 1) (n + 1) (type_word a.base)).broken [] a first) (small_maps (sd + 1) (n + 2) pd (a.name ∷ []) (a.name ∷ []) (sizes a) maps rest)) tt tt,
-        both (has_dims a) (list_all has_dims maps) (some_dims a first) (maps_some pd (a.name ∷ []) maps rest),
+        and_from (has_dims a) (list_all has_dims maps) (some_dims a first) (maps_some pd (a.name ∷ []) maps rest),
       )
   small_member (sequence own columns) sd n pd before sized inside =
       (small_whole (head sd n (codes "Sequence")) (column_slots (sd + 1) (n + 1) [] columns) closes (named before own) tt (small_columns (sd + 1) (n + 1) [] columns) tt tt, refl)
@@ -105,7 +103,7 @@ mutual
       let inside = all_rest Sized (place pd earlier m) (part_places (pd + 1) m ++ later) sized in
       let here = small_member m sd n (pd + 1) before (all_first Sized (place pd earlier m) (part_places (pd + 1) m ++ later) sized) (all_front Sized (part_places (pd + 1) m) later inside) in
       let rest = small_members ms sd (n + count m) pd (name_of m ∷ before) (name_of m ∷ earlier) (all_back Sized (part_places (pd + 1) m) later inside) in
-      (each_append SmallSlot (slots sd n before m) (slots_all sd (n + count m) (name_of m ∷ before) ms) here.0 rest.0, both (have_dims m) (all_have_dims ms) here.1 rest.1)
+      (each_append SmallSlot (slots sd n before m) (slots_all sd (n + count m) (name_of m ∷ before) ms) here.0 rest.0, and_from (have_dims m) (all_have_dims ms) here.1 rest.1)
 
 -- a printed DDS stands for its dataset
 pub dds_stands : (d : Dataset) → HasWords d → IsWellFormed d → StandsFor (tokens_of (dds d)) d

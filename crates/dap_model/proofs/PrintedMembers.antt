@@ -3,6 +3,7 @@ use Rattle.std.proofs.Common.{◌≡◌, ℕ, ◌+◌, ◌*◌, ◌≤◌, List,
 use Rattle.std.proofs.lemmas.List.Elements.{All-cons, All-nil}
 use Rattle.std.specs.List.{flat_map, list_all}
 use Rattle.std.specs.Option.{option_map_or}
+use Rattle.plain_lemmas.proofs.Truths.{both_true}
 use Rattle.dap_types.specs.Model.{Member, scalar, array, structure, grid, sequence, Members, no_members, member, Dataset, name_of, count, sizes}
 use Rattle.dap_types.specs.WellFormed.{Place, place, places, part_places, leaf_places, places_of, IsSized, IsWellFormed}
 use Rattle.dap_types.specs.declared.declarations.ArrayDecl.{ArrayDecl}
@@ -10,7 +11,6 @@ use Rattle.dap_types.specs.declared.declarations.Column.{Column}
 use Rattle.dap_types.specs.declared.declarations.Dim.{Dim}
 use Rattle.dap_model.proofs.Printed.{IsFineDim, reads_array, reads_column, reads_end}
 use Rattle.dap_model.proofs.ReadBack.{Reads, reads_append, reads_none, reads_as, reads_line, reads_opening, reads_closing, reads_word_sign}
-use Rattle.dap_model.proofs.Tests.{both_true}
 use Rattle.dap_model.proofs.Told.{all_told, told-append}
 use Rattle.dap_model.proofs.Values.{all_first, all_rest, all_front, all_back}
 use Rattle.dap_model.specs.Dds.{type_word, line, array_text, column_text, closing, member_text, members_text, dds}

@@ -1,11 +1,11 @@
 -- The tokens of a printed DDS are those of its slots.
-use Rattle.std.proofs.Common.{◌≡◌, ℕ, zero, suc, ◌+◌, List, [], ◌∷◌, ◌++◌, length, map, replicate, Bool, true, false, ◌||◌, not, nat_lt, if◌then◌else◌, codes, refl, ap, ◌∙◌, sym, subst, arith, append_assoc, append-nil, length-append}
-use Rattle.std.proofs.lemmas.Bool.{false≢true}
+use Rattle.std.proofs.Common.{◌≡◌, ℕ, zero, suc, ◌+◌, List, [], ◌∷◌, ◌++◌, length, map, replicate, true, false, ◌||◌, not, nat_lt, if◌then◌else◌, codes, refl, ap, ◌∙◌, sym, subst, arith, append_assoc, append-nil, length-append}
+use Rattle.std.proofs.lemmas.Bool.{false≢true, or_right, not-true}
 use Rattle.std.proofs.lemmas.List.{map-append}
 use Rattle.std.specs.List.{list_all}
+use Rattle.plain_lemmas.proofs.Truths.{both_true}
 use Rattle.dap_types.specs.declared.declarations.BaseType.{BaseType}
 use Rattle.dap_types.specs.declared.declarations.BaseType.TheVariants.{Byte, Int16, UInt16, Int32, UInt32, Float32, Float64, Text, Url}
-use Rattle.dap_model.proofs.Tests.{both_true}
 use Rattle.dap_model.specs.Dds.{type_word, line, typed}
 use Rattle.dap_model.specs.Tokens.{Token, Placed, is_white, is_sign, is_plain, is_word, ended, sign_at, tokens_from}
 use Rattle.dap_model.specs.Tokens as token
@@ -31,17 +31,13 @@ reads_append a b front middle left ts us first second at rest =
 pub reads_none : (front : List ℕ) → Reads [] front [] front
 reads_none front at rest = let same : at ≡ at + 0 = omega arith in ap (λ n. tokens (tokens_from front n rest)) same
 
-plain_false : (b : Bool) → not b ≡ true → b ≡ false
-plain_false true is = absurd (false≢true is)
-plain_false false is = refl
-
 pub reads_word : (w front : List ℕ) → list_all is_plain w ≡ true → Reads w front [] (front ++ w)
 reads_word [] front plain at rest =
     let same : at ≡ at + 0 = omega arith in
     ap (λ f. tokens (tokens_from f at rest)) (sym (append-nil front)) ∙ ap (λ n. tokens (tokens_from (front ++ []) n rest)) same
 reads_word (b ∷ w) front plain at rest =
     let both = both_true (is_plain b) (list_all is_plain w) plain in
-    let here : (is_white b || is_sign b) ≡ false = plain_false (is_white b || is_sign b) both.0 in
+    let here : (is_white b || is_sign b) ≡ false = not-true (is_white b || is_sign b) both.0 in
     let later : at + 1 + length w ≡ at + length (b ∷ w) = omega arith in
     rw here (reads_word w (front ++ b ∷ []) both.1 (at + 1) rest
     ∙ ap (λ f. tokens (tokens_from f (at + 1 + length w) rest)) (append_assoc front (b ∷ []) w) ∙ ap (λ n. tokens (tokens_from (front ++ b ∷ w) n rest)) later)
@@ -50,14 +46,10 @@ ended_word : (front : List ℕ) (at : ℕ) (ps qs : List Placed) → tokens ((en
 ended_word [] at ps qs = map-append (λ p. p.token) ps qs
 ended_word (b ∷ bs) at ps qs = ap (λ ts. token.word (b ∷ bs) ∷ ts) (map-append (λ p. p.token) ps qs)
 
-either_true : (a b : Bool) → b ≡ true → (a || b) ≡ true
-either_true true b is = refl
-either_true false b is = is
-
 -- a sign, and a white byte, end the word before them
 pub reads_sign : (s : ℕ) (front : List ℕ) → is_sign s ≡ true → Reads (s ∷ []) front (word_of front ++ token.sign s ∷ []) []
 reads_sign s front signs at rest =
-    let here : (is_white s || is_sign s) ≡ true = either_true (is_white s) (is_sign s) signs in
+    let here : (is_white s || is_sign s) ≡ true = or_right (is_white s) (is_sign s) signs in
     let there : sign_at s at ≡ record { token = token.sign s; place = at } ∷ [] = rw signs in
     ap (λ b. tokens (if b then ended front at ++ sign_at s at ++ tokens_from [] (at + 1) rest else tokens_from (front ++ s ∷ []) (at + 1) rest)) here
     ∙ ended_word front at (sign_at s at) (tokens_from [] (at + 1) rest)

@@ -7,10 +7,8 @@ use Rattle.std.proofs.lemmas.List.{map-id}
 use Rattle.std.proofs.lemmas.List.FromFn.{filter_of_map_range_with_len_more, get_or-map-range_with_len, length-map-range_with_len, map-range_with_len_more}
 use Rattle.std.proofs.lemmas.Nat.{div-add-mod', div-mul-add}
 use Rattle.std.proofs.Math.Nat.{mod-lt, mul-le-mul_right, div-mul-le_self}
+use Rattle.plain_lemmas.proofs.Numbers.{one_more_times}
 use Rattle.dap_model.specs.Cutting.{IsWithin, bracketed, indexes}
-
-one_more_times : (q s : ℕ) → (q + 1) * s ≡ q * s + s
-one_more_times q s = omega arith
 
 -- one step further either stays below the next multiple, or is it
 abbrev Further : ℕ → ℕ → Type 0

@@ -6,6 +6,7 @@ use Rattle.std.specs.Cmp.Lexicographic.{pointwise, as_long}
 use Rattle.std.proofs.lemmas.List.FromFn.{length-map-range_with_len}
 use Rattle.std.specs.List.{AllZip, zip}
 use Rattle.std.specs.Option.{option_map_or}
+use Rattle.plain_lemmas.proofs.Truths.{both_true}
 use Rattle.dap_types.proofs.Faults.{length-places}
 use Rattle.dap_types.proofs.Rules.{Obeys, all_obey_where_well_formed, well_formed_where_all_obey}
 use Rattle.dap_types.specs.Model.{Member, scalar, array, structure, grid, sequence, Members, no_members, member, members_of, Dataset, name_of, count, count_all, sizes}
@@ -14,7 +15,6 @@ use Rattle.dap_types.specs.declared.declarations.ArrayDecl.{ArrayDecl}
 use Rattle.dap_types.specs.declared.declarations.Column.{Column}
 use Rattle.dap_types.specs.declared.declarations.Dim.{Dim}
 use Rattle.dap_types.specs.declared.slabs.Slab.{Slab}
-use Rattle.dap_model.proofs.Tests.{both_true}
 use Rattle.dap_model.proofs.Values.{all_first, all_rest, all_front, all_back}
 use Rattle.dap_model.specs.Cutting.{indexes, counted, IsWithin}
 use Rattle.dap_model.specs.Filter.{Marks, marked, unchanged, slabs_at, has_mark, same_numbers, picks, all_pick, stays_grid, as_grid, filtered, filtered_all, constrained, Suits, SuitEach, SuitsMember, SuitsAll}

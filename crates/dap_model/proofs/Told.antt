@@ -10,8 +10,9 @@ use Rattle.std.specs.Fmt.{decimal}
 use Rattle.std.specs.List.{list_all}
 use Rattle.std.specs.Str.{str_to_ascii_lowercase}
 use Rattle.std.specs.Str.Parse.{digits_value}
+use Rattle.std.proofs.lemmas.Bool.{and_from}
+use Rattle.plain_lemmas.proofs.Truths.{both_true}
 use Rattle.dap_model.proofs.Judging.{Each, Small}
-use Rattle.dap_model.proofs.Tests.{both_true}
 use Rattle.dap_model.specs.Grammar.{Slot, keyword, name, size, sign, spells, Judged}
 use Rattle.dap_model.specs.Tokens.{Token, is_plain, is_word}
 use Rattle.dap_model.specs.Tokens as token
@@ -28,10 +29,6 @@ all_told js = map (λ j. told j.slot) js
 pub told-append : (js ks : List Judged) → all_told (js ++ ks) ≡ all_told js ++ all_told ks
 told-append js ks = map-append (λ j. told j.slot) js ks
 
--- the digits of a number
-and_true : (a b : Bool) → a ≡ true → b ≡ true → (a && b) ≡ true
-and_true a b first second = rw (first, second)
-
 digit_plain : (n : ℕ) → n < 10 → is_plain (48 + n) ≡ true
 digit_plain n lt = grind (arith, nat_tests)
 
@@ -39,18 +36,18 @@ digit_digit : (n : ℕ) → n < 10 → is_ascii_digit (48 + n) ≡ true
 digit_digit n lt = grind (arith, nat_tests)
 
 all_push : (test : ℕ → Bool) (ds : List ℕ) (d : ℕ) → list_all test ds ≡ true → test d ≡ true → list_all test (ds ++ d ∷ []) ≡ true
-all_push test [] d all one = and_true (test d) true one refl
-all_push test (x ∷ ds) d all one = let both = both_true (test x) (list_all test ds) all in and_true (test x) (list_all test (ds ++ d ∷ [])) both.0 (all_push test ds d both.1 one)
+all_push test [] d all one = and_from (test d) true one refl
+all_push test (x ∷ ds) d all one = let both = both_true (test x) (list_all test ds) all in and_from (test x) (list_all test (ds ++ d ∷ [])) both.0 (all_push test ds d both.1 one)
 
 digits_pass : (test : ℕ → Bool) → ((n : ℕ) → n < 10 → test (48 + n) ≡ true) → (n : ℕ) → n < 2 ^ 64 → list_all test (decimal n) ≡ true
 digits_pass test each n lt =
-    decimal_by_steps (λ n ds. list_all test ds ≡ true) (λ n one. and_true (test (48 + n)) true (each n one) refl)
+    decimal_by_steps (λ n ds. list_all test ds ≡ true) (λ n one. and_from (test (48 + n)) true (each n one) refl)
     (λ n ds large all. all_push test ds (48 + n % 10) all (each (n % 10) (omega arith))) n lt
 
 pub decimal_word : (n : ℕ) → n ≤ 2147483647 → is_word (decimal n) ≡ true
 decimal_word n small =
     let some = decimal_nonempty n (omega arith) in
-    let long : nat_lt 0 (length (decimal n)) ≡ true = grind (arith, nat_tests) in and_true (nat_lt 0 (length (decimal n))) (list_all is_plain (decimal n)) long (digits_pass is_plain digit_plain n (omega arith))
+    let long : nat_lt 0 (length (decimal n)) ≡ true = grind (arith, nat_tests) in and_from (nat_lt 0 (length (decimal n))) (list_all is_plain (decimal n)) long (digits_pass is_plain digit_plain n (omega arith))
 
 size_told : (n : ℕ) → n ≤ 2147483647 → spells (size n) (token.word (decimal n)) ≡ true
 size_told n small =
@@ -62,9 +59,9 @@ size_told n small =
     let c : list_all is_ascii_digit w ≡ true = digits_pass is_ascii_digit digit_digit n (omega arith) in
     let d : (digits_value 10 w == n) ≡ true = (Decides-eqb (digits_value 10 w) n).1 (decimal_is_IsNumeral n (omega arith)).1 in
     let e : nat_le n 2147483647 ≡ true = grind (arith, nat_tests) in
-    and_true (nat_le 1 (length w) && nat_le (length w) 10 && list_all is_ascii_digit w && digits_value 10 w == n) (nat_le n 2147483647)
-    (and_true (nat_le 1 (length w) && nat_le (length w) 10 && list_all is_ascii_digit w) (digits_value 10 w == n)
-    (and_true (nat_le 1 (length w) && nat_le (length w) 10) (list_all is_ascii_digit w) (and_true (nat_le 1 (length w)) (nat_le (length w) 10) a b) c) d) e
+    and_from (nat_le 1 (length w) && nat_le (length w) 10 && list_all is_ascii_digit w && digits_value 10 w == n) (nat_le n 2147483647)
+    (and_from (nat_le 1 (length w) && nat_le (length w) 10 && list_all is_ascii_digit w) (digits_value 10 w == n)
+    (and_from (nat_le 1 (length w) && nat_le (length w) 10) (list_all is_ascii_digit w) (and_from (nat_le 1 (length w)) (nat_le (length w) 10) a b) c) d) e
 
 slot_told : (s : Slot) → Small s → spells s (told s) ≡ true
 slot_told (keyword k) small = (bytes_eq-Decides (str_to_ascii_lowercase k) (str_to_ascii_lowercase k)).1 refl
@@ -75,4 +72,4 @@ slot_told (sign b) small = (Decides-eqb b b).1 refl
 -- slots are spelled by what they are printed as
 pub spelled_told : (js : List Judged) → Each (λ j. Small j.slot) js → pointwise spells (map (λ j. j.slot) js) (all_told js) ≡ true
 spelled_told [] each = refl
-spelled_told (j ∷ js) each = and_true (spells j.slot (told j.slot)) (pointwise spells (map (λ k. k.slot) js) (all_told js)) (slot_told j.slot each.0) (spelled_told js each.1)
+spelled_told (j ∷ js) each = and_from (spells j.slot (told j.slot)) (pointwise spells (map (λ k. k.slot) js) (all_told js)) (slot_told j.slot each.0) (spelled_told js each.1)

@@ -1,6 +1,6 @@
 -- A token list of the grammar breaks no rule exactly where its dataset is well formed.
-use Rattle.std.proofs.Common.{◌≡◌, ℕ, suc, ◌+◌, ◌≤◌, List, [], ◌∷◌, ◌++◌, length, map, All, Contains, Bool, true, false, ◌&&◌, ◌||◌, not, ◌==◌, nat_lt, nat_le, Option, Some, None, refl, ap, codes, arith}
-use Rattle.std.proofs.lemmas.Bool.{false≢true}
+use Rattle.std.proofs.Common.{◌≡◌, ℕ, suc, ◌+◌, ◌≤◌, List, [], ◌∷◌, ◌++◌, length, map, All, Contains, true, false, ◌&&◌, ◌||◌, not, ◌==◌, nat_lt, nat_le, Option, Some, None, refl, ap, codes, arith}
+use Rattle.std.proofs.lemmas.Bool.{false≢true, or_parts, or_from}
 use Rattle.std.proofs.lemmas.Bool.Decides.{nat_tests}
 use Rattle.std.proofs.lemmas.List.{length-map}
 use Rattle.std.specs.Char.{is_ascii_digit}
@@ -8,6 +8,8 @@ use Rattle.std.specs.Cmp.Lexicographic.{pointwise}
 use Rattle.std.specs.Str.Parse.{digits_value}
 use Rattle.std.specs.List.{list_all, list_any}
 use Rattle.std.specs.Str.{bytes_eq}
+use Rattle.plain_lemmas.proofs.Numbers.{not_less}
+use Rattle.plain_lemmas.proofs.Truths.{both_true}
 use Rattle.dap_types.proofs.Rules.{Obeys, earlier-Decides, false_from_not, all_obey_where_well_formed, well_formed_where_all_obey}
 use Rattle.dap_types.proofs.Faults.{length-places}
 use Rattle.dap_types.specs.Model.{Member, scalar, array, structure, grid, sequence, Members, no_members, member, Dataset, name_of, count, count_all, sizes}
@@ -15,20 +17,15 @@ use Rattle.dap_types.specs.WellFormed.{Place, place, places, part_places, leaf_p
 use Rattle.dap_types.specs.declared.declarations.ArrayDecl.{ArrayDecl}
 use Rattle.dap_types.specs.declared.declarations.Column.{Column}
 use Rattle.dap_types.specs.declared.declarations.Dim.{Dim}
-use Rattle.dap_model.proofs.Tests.{both_true}
 use Rattle.dap_model.proofs.Values.{all_first, all_rest, all_front, all_back}
 use Rattle.dap_model.specs.Dds.{type_word}
 use Rattle.dap_model.specs.Tokens.{Token}
 use Rattle.dap_model.specs.Tokens as token
 use Rattle.dap_model.specs.Grammar.{StandsFor, spells, Slot, keyword, name, size, sign, Judged, fine, closes, semicolon, colon, head, named, is_other, size_slots, dim_slots, scalar_slots, array_slots, column_slots, map_slots, whole_slots, slots, slots_all, dataset_slots}
-use Rattle.dap_model.proofs.Judging.{Each, each_append, Kept, Small, Good, none_of_two, below_not, MapsOf, with_keywords, whole_kept, kept_all_obey}
-
--- and back: where every member obeys, no slot is broken
-either_false : (a b : Bool) → a ≡ false → b ≡ false → (a || b) ≡ false
-either_false a b first second = rw (first, second)
+use Rattle.dap_model.proofs.Judging.{Each, each_append, Kept, Small, Good, MapsOf, with_keywords, whole_kept, kept_all_obey}
 
 kept_head : (depth n : ℕ) → depth ≤ 16 → n ≤ 1000000 → (nat_lt 16 depth || nat_lt 1000000 n) ≡ false
-kept_head depth n shallow few = either_false (nat_lt 16 depth) (nat_lt 1000000 n) (below_not 16 depth shallow) (below_not 1000000 n few)
+kept_head depth n shallow few = or_from (nat_lt 16 depth) (nat_lt 1000000 n) (not_less 16 depth shallow) (not_less 1000000 n few)
 
 kept_name : (before : List (List ℕ)) (own : List ℕ) → ¬ Contains before own → list_any (bytes_eq own) before ≡ false
 kept_name before own differs = false_from_not (list_any (bytes_eq own) before) (earlier-Decides own before) differs
@@ -40,7 +37,7 @@ kept_size (Some dim) wanted n same = (refl, (refl, (same, (refl, tt))))
 kept_dims : (most k : ℕ) (dims : List Dim) → length dims + k ≤ most + 1 → Each Kept (dim_slots most None k dims)
 kept_dims most k [] few = tt
 kept_dims most k (dim ∷ dims) few = (
-  below_not most k (omega arith),
+  not_less most k (omega arith),
   each_append Kept (size_slots None dim.name dim.size) (dim_slots most None (k + 1) dims) (kept_size dim.name None dim.size refl) (kept_dims most (k + 1) dims (omega arith)),
 )
 
@@ -97,7 +94,7 @@ kept_keywords arr maps one two = (refl, (refl, each_append Kept arr (fine (keywo
 no_map_wanting : (a : ArrayDecl) (maps : List ArrayDecl) → MapsOf maps (sizes a) → nat_lt (length maps) (length a.dims) ≡ false
 no_map_wanting a maps of =
     let long = length_all_zip' maps (sizes a) of in
-    let dims = length-map a.dims (λ dim. dim.size) in below_not (length maps) (length a.dims) (omega arith)
+    let dims = length-map a.dims (λ dim. dim.size) in not_less (length maps) (length a.dims) (omega arith)
   where
     length_all_zip' : (ms : List ArrayDecl) (ns : List ℕ) → MapsOf ms ns → length ms ≡ length ns
     length_all_zip' [] [] of' = refl
@@ -153,11 +150,11 @@ small_slots (j ∷ js) (t ∷ ts) is =
 
 kept_each : (js : List Judged) → list_any (λ j. j.broken) js ≡ false → Each Kept js
 kept_each [] none = tt
-kept_each (j ∷ js) none = let both = none_of_two j.broken (list_any (λ k. k.broken) js) none in (both.0, kept_each js both.1)
+kept_each (j ∷ js) none = let both = or_parts j.broken (list_any (λ k. k.broken) js) none in (both.0, kept_each js both.1)
 
 each_kept : (js : List Judged) → Each Kept js → list_any (λ j. j.broken) js ≡ false
 each_kept [] each = refl
-each_kept (j ∷ js) each = either_false j.broken (list_any (λ k. k.broken) js) each.0 (each_kept js each.1)
+each_kept (j ∷ js) each = or_from j.broken (list_any (λ k. k.broken) js) each.0 (each_kept js each.1)
 
 good_each : (js : List Judged) → Each Kept js → Each (λ j. Small j.slot) js → Each Good js
 good_each [] kept small = tt

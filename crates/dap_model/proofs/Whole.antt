@@ -1,6 +1,6 @@
 -- A constraint that picks everything changes nothing.
 use Rattle.std.proofs.Common.{◌≡◌, ℕ, zero, suc, ◌+◌, ◌*◌, ◌<◌, List, [], ◌∷◌, length, map, filter, drop, get_or, All, Some, true, ◌&&◌, ◌++◌, nat_lt, is_some, Option, ⊎_elim, slice_get, refl, ap, ◌∙◌, sym, arith, add-one, drop-cons}
-use Rattle.std.proofs.lemmas.Bool.{false≢true}
+use Rattle.std.proofs.lemmas.Bool.{false≢true, or_right, or_left}
 use Rattle.std.proofs.lemmas.Cmp.{lists_equiv}
 use Rattle.std.proofs.lemmas.Option.{slice_get-get_or}
 use Rattle.std.proofs.lemmas.List.{drop_all}
@@ -9,6 +9,7 @@ use Rattle.std.specs.Cmp.{nat_eq_equiv}
 use Rattle.std.specs.Cmp.Lexicographic.{pointwise}
 use Rattle.std.specs.List.{AllZip, cons_option, filter_map, range_with_len, zip}
 use Rattle.std.specs.Option.{option_map_or}
+use Rattle.plain_lemmas.proofs.Truths.{both_true}
 use Rattle.dap_types.specs.Model.{Member, scalar, array, structure, grid, sequence, Members, no_members, member, members_of, Tree, one, many, Trees, no_trees, tree, trees_of, items, kids, name_of, count, sizes}
 use Rattle.dap_types.specs.WellFormed.{HasMaps, Place, place, places, part_places}
 use Rattle.dap_types.specs.declared.declarations.ArrayDecl.{ArrayDecl}
@@ -16,7 +17,7 @@ use Rattle.dap_types.specs.declared.declarations.BaseType.{BaseType}
 use Rattle.dap_types.specs.declared.declarations.Column.{Column}
 use Rattle.dap_types.specs.declared.declarations.Dim.{Dim}
 use Rattle.dap_types.specs.declared.slabs.Slab.{Slab}
-use Rattle.dap_model.proofs.Tests.{either_true, or_first, or_second, both_true, when_true}
+use Rattle.dap_model.proofs.Tests.{either_true, when_true}
 use Rattle.dap_model.proofs.Values.{all_first, all_rest, all_front, all_back}
 use Rattle.dap_model.specs.Cutting.{indexes, pick, cut, counted, whole_slabs}
 use Rattle.dap_model.specs.Filter.{Marks, Keeps, slabs_at, picks, all_pick, same_numbers, one_marked, any_has_mark, has_leaf, any_has_leaf, leaves_everywhere, all_leaves_everywhere, marked, unchanged, has_mark, stays_grid, as_grid, filtered, filtered_all, cut_tree, cut_all, WholeEach, ScalarsMarked, MarksWhole, MarksAllWhole}
@@ -105,11 +106,11 @@ marks_some : (o : Option (List Slab)) (slabs : List Slab) → o ≡ Some slabs �
 marks_some o slabs is = rw is
 
 first_marked : (marks : Marks) (n k : ℕ) (slabs : List Slab) → marks n ≡ Some slabs → one_marked marks n (k + 1) ≡ true
-first_marked marks n k slabs is = rw add-one (or_first (is_some (marks n)) (one_marked marks (n + 1) k) (marks_some (marks n) slabs is))
+first_marked marks n k slabs is = rw add-one (or_left (is_some (marks n)) (one_marked marks (n + 1) k) (marks_some (marks n) slabs is))
 
 scalars_marked : (marks : Marks) (n k : ℕ) → nat_lt 0 k ≡ true → ScalarsMarked marks n k → one_marked marks n k ≡ true
 scalars_marked marks n zero some all = absurd (false≢true some)
-scalars_marked marks n (suc k) some all = or_first (is_some (marks n)) (one_marked marks (n + 1) k) (marks_some (marks n) [] all.0)
+scalars_marked marks n (suc k) some all = or_left (is_some (marks n)) (one_marked marks (n + 1) k) (marks_some (marks n) [] all.0)
 
 mutual
   marked_with_leaf : (marks : Marks) (m : Member) (n : ℕ) → has_leaf m ≡ true → MarksWhole marks n m → has_mark marks n m ≡ true
@@ -123,8 +124,8 @@ mutual
   any_marked_with_leaf marks no_members n leaf whole = absurd (false≢true leaf)
   any_marked_with_leaf marks (member m ms) n leaf whole =
       ⊎_elim
-      (λ here. or_first (has_mark marks n m) (any_has_mark marks (n + count m) ms) (marked_with_leaf marks m n here whole.0))
-      (λ later. or_second (has_mark marks n m) (any_has_mark marks (n + count m) ms) (any_marked_with_leaf marks ms (n + count m) later whole.1))
+      (λ here. or_left (has_mark marks n m) (any_has_mark marks (n + count m) ms) (marked_with_leaf marks m n here whole.0))
+      (λ later. or_right (has_mark marks n m) (any_has_mark marks (n + count m) ms) (any_marked_with_leaf marks ms (n + count m) later whole.1))
       (either_true (has_leaf m) (any_has_leaf ms) leaf)
 
 -- a variable with leaves everywhere has one
@@ -139,7 +140,7 @@ parts_leaves : (name : List ℕ) (parts : Members) → leaves_everywhere (struct
 parts_leaves name parts leaves = (both_true (any_has_leaf parts) (all_leaves_everywhere parts) leaves).1
 
 -- the maps of a Grid pick what its array picks
-same_itself : (ns : List ℕ) → same_numbers ns ns ≡ true
+pub same_itself : (ns : List ℕ) → same_numbers ns ns ≡ true
 same_itself ns = (lists_equiv nat_eq_equiv).refl ns
 
 map_picks : (marks : Marks) (n k : ℕ) (m : ArrayDecl) → marks n ≡ Some (whole_slabs (sizes m)) → sizes m ≡ k ∷ []

@@ -1,19 +1,15 @@
 -- Texts that go through a buffer, one after the other.
-use Rattle.std.proofs.Common.{◌≡◌, ℕ, List, [], ◌++◌, Option, Some, None, refl, sym, ap, ◌∙◌, subst, append_assoc, append-nil, Result, Ok, Err, OnErr, OnOk}
-use Rattle.std.proofs.KnownBytes.{Appends-trans}
+use Rattle.std.proofs.Common.{◌≡◌, ℕ, List, [], ◌++◌, Option, refl, sym, ap, ◌∙◌, subst, append_assoc, append-nil, Result, Ok, Err, OnErr, OnOk}
+use Rattle.std.proofs.KnownBytes.{Appends-trans, Appends-nil}
 use Rattle.std.specs.Io.KnownBytes.{Appends}
 use Rattle.std.specs.Prelude.{IsErr}
 use Rattle.dap_outside.proofs.Fronts.{front_of, front_more}
 use Rattle.dap_outside.specs.Streams.{AppendsFront}
 use Rattle.dap_outside.specs.Buffered.{Passes, PassesFront, Puts}
 
-pub appends_none : (w : Option (List ℕ)) → Appends w w []
-appends_none None = tt
-appends_none (Some xs) = sym (append-nil xs)
-
 -- all is kept
 pub passes_kept : (w : Option (List ℕ)) (held left text : List ℕ) → left ≡ held ++ text → Passes w held w left text
-passes_kept w held left text is = record { front = []; sent = appends_none w; rest = sym is }
+passes_kept w held left text is = record { front = []; sent = Appends-nil w; rest = sym is }
 
 -- what was held is sent, and the text is kept
 pub passes_flushed : (a b : Option (List ℕ)) (held none left text : List ℕ) → Appends a b held → none ≡ [] → left ≡ none ++ text → Passes a held b left text

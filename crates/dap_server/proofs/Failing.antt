@@ -1,5 +1,6 @@
 -- How often a shelf failed.
-use Rattle.std.proofs.Common.{◌≡◌, ℕ, ◌+◌, ◌≤◌, Bool, false, true, ◌||◌, ◌∙◌, refl, arith}
+use Rattle.std.proofs.Common.{◌≡◌, ℕ, ◌+◌, ◌≤◌, Bool, false, true, ◌||◌, ◌∙◌, arith}
+use Rattle.plain_lemmas.proofs.Truths.{first_false, second_false}
 use Rattle.dap_outside.specs.Causes.{Rose}
 use Rattle.dap_server.specs.Connections.{FailedBy}
 
@@ -19,19 +20,11 @@ failed-open n maybe f f1 none unsaid later = (omega (arith, none, later), λ _ s
 pub failed-as : (m n : ℕ) (maybe : Bool) (f f1 : ℕ) → m ≡ n → FailedBy m maybe f f1 → FailedBy n maybe f f1
 failed-as m n maybe f f1 same (rose, stays) = (omega (arith, same, rose), λ none. stays (omega (arith, same, none)))
 
-or-left : (a b : Bool) → (a || b) ≡ false → a ≡ false
-or-left true b is = is
-or-left false b is = refl
-
-or-right : (a b : Bool) → (a || b) ≡ false → b ≡ false
-or-right true b is = cc is
-or-right false b is = is
-
 -- one time behind another
 pub failed-more : (m n : ℕ) (u v : Bool) (a b c : ℕ) → FailedBy m u a b → FailedBy n v b c → FailedBy (m + n) (u || v) a c
 failed-more m n u v a b c (rose, stays) (rose', stays') =
-    (omega (arith, rose, rose'), λ none said. stays' (omega (arith, none)) (or-right u v said) ∙ stays (omega (arith, none)) (or-left u v said))
+    (omega (arith, rose, rose'), λ none said. stays' (omega (arith, none)) (second_false u v said) ∙ stays (omega (arith, none)) (first_false u v said))
 
 -- the answer to the last request
 pub failed-said : (m n : ℕ) (maybe : Bool) (f f1 : ℕ) → m ≡ n → FailedBy m maybe f f1 → FailedBy n (maybe || false) f f1
-failed-said m n maybe f f1 same (rose, stays) = (omega (arith, same, rose), λ none said. stays (omega (arith, same, none)) (or-left maybe false said))
+failed-said m n maybe f f1 same (rose, stays) = (omega (arith, same, rose), λ none said. stays (omega (arith, same, none)) (first_false maybe false said))

@@ -28,7 +28,7 @@ use Rattle.dap_server.specs.inner.Opening.{WhereRefused}
 use Rattle.dap_server.specs.inner.Preparing.{asked_as}
 use Rattle.dap_server.specs.declared.no_answer.Stop.{Stop}
 use Rattle.dap_server.specs.declared.no_answer.Stop.TheVariants.{Refused, ShelfFault, Memory}
-use Rattle.dap_server.proofs.OpeningLists.{list_opens, same_contents}
+use Rattle.dap_server.proofs.OpeningLists.{list_opens, same_contents, ok-of, ok-same}
 
 -- ---- The files of the lines.
 
@@ -79,12 +79,6 @@ told_are_bytes content [] (c ∷ contents) fit tells = cc tells
 told_are_bytes content (f ∷ fs) (c ∷ contents) fit tells =
     let (one, rest) = first-same (content f) (Some c) (map content fs) (map Some contents) tells in
     (fit f c one, told_are_bytes content fs contents fit rest)
-
-abbrev ok-of : List Member → Result (List Member) Cause
-ok-of ms = Ok ms
-
-ok-same : (a b : List Member) → ok-of a ≡ ok-of b → a ≡ b
-ok-same a b is = cc is
 
 have-headers : (told : Told) (line : ℕ) (names : List (List ℕ)) (ms : List Member) → Members told line names (Ok ms) → AllBytes (bytes_in ms) → HaveHeaders (contents_in ms) (bytes_in ms)
 have-headers told line [] ms is fit = subst (λ l. HaveHeaders (contents_in l) (bytes_in l)) (sym (ok-same ms [] is)) tt

@@ -2,6 +2,7 @@
 use Rattle.std.proofs.Common.{◌≡◌, ◌≢◌, ℕ, ◌≤◌, Bool, List, Option, Some, None, IsSome, Result, Ok, Err, IfOk, IfErr, IsTrue, true, false, refl, sym, ap, ◌∙◌, inl, inr, subst}
 use Rattle.std.specs.Prelude.{⊤, is_some}
 use Rattle.std.specs.List.{list_all}
+use Rattle.plain_lemmas.proofs.Options.{without_value}
 use Rattle.viable.specs.Prefix.{is_byte}
 use Rattle.dap_errors.specs.declared.cause.Cause.{Cause}
 use Rattle.dap_http.specs.Targets.{Asked}
@@ -49,15 +50,10 @@ stops told name next Memory x = tt
 pub same_asked : (t : Target) (k : Kind) (name query : List ℕ) → t.kind ≡ k → name ≡ t.name → query ≡ t.query → asked_as k name query ≡ asked_of t
 same_asked t k name query is is_name is_query = ap (λ n. asked_as k n query) is_name ∙ ap (asked_as k t.name) is_query ∙ ap (λ kind. asked_as kind t.name t.query) (sym is)
 
--- the name of what is asked does not say how a file is read
-no_some : {V : Type 0} (o : Option V) → is_some o ≡ false → o ≡ None
-no_some None none = refl
-no_some (Some v) none = cc none
-
 pub no_form : (t : Target) (k : Kind) (name : List ℕ) → t.kind ≡ k → name ≡ t.name → is_of_file k ≡ true → asks_shelf (asked_of t) ≡ false → form_of name ≡ None
 no_form t k name is is_name of_file none =
     let asks : asks_shelf (asked_of t) ≡ is_some (form_of name) = rw (is, sym is_name, of_file) refl in
-    no_some (form_of name) (sym asks ∙ none)
+    without_value (form_of name) (sym asks ∙ none)
 
 -- a text is made
 text_made : {F : Type 0} (told : Told) (content : F → Option (List ℕ)) (size_of : F → ℕ) (k : Kind) (name query : List ℕ) (Fault : Type 0) (r : Result (List ℕ) Stop) (p : Prepared F) → p ≡ text_prepared k r

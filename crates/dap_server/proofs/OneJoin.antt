@@ -1,6 +1,7 @@
 -- A list of files has one answer at most, where the files are told.
 use Rattle.std.proofs.Common.{◌≡◌, ℕ, suc, ◌+◌, ◌<◌, ◌≤◌, List, [], ◌∷◌, ◌++◌, All, length, Option, Some, Ok, Err, refl, sym, ap, ◌∙◌, inl, inr, subst, arith}
 use Rattle.std.proofs.lemmas.List.Elements.{All-head, All-tail}
+use Rattle.plain_lemmas.proofs.Lists.{cons_first, cons_rest}
 use Rattle.dap_errors.specs.declared.cause.Cause.{Cause}
 use Rattle.dap_errors.specs.declared.file_cause.FileCause.{FileCause}
 use Rattle.netcdf_source.proofs.OneVerdict.{one_verdict}
@@ -60,19 +61,13 @@ all-middle : {X : Type 0} (P : X → Type 0) (xs : List X) (y : X) (zs : List X)
 all-middle P [] y zs all = All-head P y zs all
 all-middle P (x ∷ xs) y zs all = all-middle P xs y zs (All-tail P x (xs ++ y ∷ zs) all)
 
-cons-head : {X : Type 0} (x y : X) (xs ys : List X) → x ∷ xs ≡ y ∷ ys → x ≡ y
-cons-head x y xs ys is = cc is
-
-cons-tail : {X : Type 0} (x y : X) (xs ys : List X) → x ∷ xs ≡ y ∷ ys → xs ≡ ys
-cons-tail x y xs ys is = cc is
-
 -- the first of which something does not hold has one place
 first-one : {X : Type 0} (P : X → Type 0) (xs : List X) (y : X) (zs xs2 : List X) (y2 : X) (zs2 : List X) → xs ++ y ∷ zs ≡ xs2 ++ y2 ∷ zs2 → All P xs → (P y → ⊥) → All P xs2 → (P y2 → ⊥) → length xs ≡ length xs2
 first-one P [] y zs [] y2 zs2 same all not all2 not2 = refl
-first-one P [] y zs (x2 ∷ xs2) y2 zs2 same all not all2 not2 = absurd (not (subst P (sym (cons-head y x2 zs (xs2 ++ y2 ∷ zs2) same)) (All-head P x2 xs2 all2)))
-first-one P (x ∷ xs) y zs [] y2 zs2 same all not all2 not2 = absurd (not2 (subst P (cons-head x y2 (xs ++ y ∷ zs) zs2 same) (All-head P x xs all)))
+first-one P [] y zs (x2 ∷ xs2) y2 zs2 same all not all2 not2 = absurd (not (subst P (sym (cons_first y x2 zs (xs2 ++ y2 ∷ zs2) same)) (All-head P x2 xs2 all2)))
+first-one P (x ∷ xs) y zs [] y2 zs2 same all not all2 not2 = absurd (not2 (subst P (cons_first x y2 (xs ++ y ∷ zs) zs2 same) (All-head P x xs all)))
 first-one P (x ∷ xs) y zs (x2 ∷ xs2) y2 zs2 same all not all2 not2 =
-    ap suc (first-one P xs y zs xs2 y2 zs2 (cons-tail x x2 (xs ++ y ∷ zs) (xs2 ++ y2 ∷ zs2) same) (All-tail P x xs all) not (All-tail P x2 xs2 all2) not2)
+    ap suc (first-one P xs y zs xs2 y2 zs2 (cons_rest x x2 (xs ++ y ∷ zs) (xs2 ++ y2 ∷ zs2) same) (All-tail P x xs all) not (All-tail P x2 xs2 all2) not2)
 
 differs-one : (cs : List Contents) (line other : ℕ) → FirstToDiffer cs line → FirstToDiffer cs other → line ≡ other
 differs-one cs line other f g =

@@ -144,10 +144,10 @@ opened told told2 name_of content content3 size3 name file names headers fs j fi
 
 -- ---- How many there are.
 
-abbrev ok-of : List Member → Result (List Member) Cause
+abbrev pub ok-of : List Member → Result (List Member) Cause
 ok-of ms = Ok ms
 
-ok-same : (a b : List Member) → ok-of a ≡ ok-of b → a ≡ b
+pub ok-same : (a b : List Member) → ok-of a ≡ ok-of b → a ≡ b
 ok-same a b is = cc is
 
 members_long : (told : Told) (line : ℕ) (names : List (List ℕ)) (ms : List Member) → Members told line names (Ok ms) → length ms ≡ length names

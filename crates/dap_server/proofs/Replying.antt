@@ -3,6 +3,8 @@ use Rattle.std.proofs.Common.{◌≡◌, ◌≢◌, ℕ, ◌+◌, ◌<◌, ◌�
 use Rattle.std.proofs.lemmas.Bool.{true≢false}
 use Rattle.std.specs.Io.KnownBytes.{Appends}
 use Rattle.std.specs.Option.{option_map_or}
+use Rattle.dap_server.proofs.Lying.{some_files}
+use Rattle.plain_lemmas.proofs.Truths.{true_or_false}
 use Rattle.dap_errors.specs.declared.cause.Cause.{Cause}
 use Rattle.dap_errors.specs.declared.cause.Cause.TheVariants.{BadMethod, BadTarget, OutOfMemory, ReadFailed}
 use Rattle.dap_http.proofs.Fronts.{chunked-some}
@@ -15,7 +17,7 @@ use Rattle.dap_http.specs.declared.kind.Kind.TheVariants.{Dds, Das, Dods, Ver}
 use Rattle.dap_outside.specs.Files.{Told}
 use Rattle.dap_server.specs.Connections.{FailedBy, LooksForFile, MayAnswer, has_failed, is_hidden, is_read_late, sends_values}
 use Rattle.dap_server.specs.Costs.{IsCost, asks_shelf}
-use Rattle.dap_server.specs.Files.{Files, MayHave, form_of, is_read_first}
+use Rattle.dap_server.specs.Files.{form_of, is_read_first}
 use Rattle.dap_server.specs.Prepared.{IsOver, MayGive}
 use Rattle.dap_server.specs.Replies.{Request, error_head, head_of, is_head, is_last, reply_of, reply_status}
 use Rattle.dap_server.specs.Results.{ResultsAmong, Text, error_object, result_text}
@@ -155,16 +157,12 @@ pub gives : (told : Told) (q : Request) (a : Asked) (answer : Result Text Cause)
 gives told q a answer served is (files, may, answers) =
     inl (files, may, where_false (is_other q.method) _ (ResultsAmong told q.target files answer) served (inl (a, sym (ap (λ o. found_or o BadTarget) is), answers)))
 
-some-files : (told : Told) → (files : Files) × MayHave told files
-some-files None = ((λ name. None), tt)
-some-files (Some files) = (files, refl)
-
 pub bad-method : (told : Told) (q : Request) → is_other q.method ≡ true → MayAnswer told q (Err BadMethod)
-bad-method told q is = let (files, may) = some-files told in inl (files, may, where_true (is_other q.method) _ (ResultsAmong told q.target files (Err BadMethod)) is refl)
+bad-method told q is = let (files, may) = some_files told in inl (files, may, where_true (is_other q.method) _ (ResultsAmong told q.target files (Err BadMethod)) is refl)
 
 pub bad-target : (told : Told) (q : Request) → is_other q.method ≡ false → target_of q.target ≡ None → MayAnswer told q (Err BadTarget)
 bad-target told q served is =
-    let (files, may) = some-files told in
+    let (files, may) = some_files told in
     inl (files, may, where_false (is_other q.method) _ (ResultsAmong told q.target files (Err BadTarget)) served (inr (BadTarget, sym (ap (λ o. found_or o BadTarget) is), refl)))
 
 pub failed : (told : Told) (q : Request) (a : Asked) → is_other q.method ≡ false → target_of q.target ≡ Some a → IsTrue (asks_shelf a) → MayAnswer told q (Err ReadFailed)
@@ -190,10 +188,6 @@ known-values told q a front text s z result get is served target puts says may r
   costs,
 )
 
-cases-bool : (b : Bool) → (b ≡ true) ⊎ (b ≡ false)
-cases-bool true = inl refl
-cases-bool false = inr refl
-
 pub late : (q : Request) (a : Asked) (text : List ℕ) → is_head q ≡ false → target_of q.target ≡ Some a → is_read_first (form_of a.name) ≡ false → is_hidden None q (Ok (result_text Dods text)) ≡ true
 late q a text get target other =
     ap (λ b. b && is_read_late q.target) (values-out q text get)
@@ -208,7 +202,7 @@ pub values-answer : (told : Told) (q : Request) (a : Asked) (front : List ℕ) (
     → (IsTrue (is_read_first (form_of a.name)) → Alone) → (IsSome told → IsSome content) → ShelfRose result s.faults z.faults
     → ((cost : ℕ) × IsCost told a cost × (z.asked ≤ s.asked + cost)) → AnswersWith (Costs told a) told q s z result
 values-answer None q a front content Alone text_over s z result get is served target puts says (put, appends) over (text, may) alone tells rose costs =
-    elim (cases-bool (is_read_first (form_of a.name))) [
+    elim (true_or_false (is_read_first (form_of a.name))) [
       | inl first ↦ known-values None q a front (text_over []) s z result get is served target (puts [] (inr (alone first))) says (over [] (inr first)) rose costs
       | inr other ↦ (
         Ok (result_text Dods text),

@@ -2,6 +2,7 @@
 use Rattle.std.proofs.Common.{◌≡◌, ◌≢◌, ℕ, ◌+◌, ◌≤◌, Bool, false, true, ◌||◌, ◌==◌, List, [], ◌++◌, Option, Some, None, IsTrue, codes, Ok, Err, refl, sym, ap, ◌∙◌, subst, arith, inl, inr, ◌⊎◌}
 use Rattle.std.specs.Str.{bytes_eq}
 use Rattle.std.specs.Io.KnownBytes.{Appends, Consumes}
+use Rattle.std.proofs.KnownBytes.{Appends-nil}
 use Rattle.httparse.specs.Grammar.{RequestHead}
 use Rattle.dap_errors.specs.declared.cause.Cause.{Cause}
 use Rattle.dap_errors.specs.declared.cause.Cause.TheVariants.{BadRequest, HeadTooLong, OutOfMemory}
@@ -26,7 +27,6 @@ use Rattle.dap_server.specs.inner.Serving.{Answers, PutsLast, PutsRefusal, Serve
 use Rattle.dap_server.proofs.Ends.{answered-head, one-turn, refuses, stopped}
 use Rattle.dap_server.proofs.Failing.{calm}
 use Rattle.dap_server.proofs.Replying.{memory-last, memory-reply}
-use Rattle.dap_server.proofs.Turning.{nothing-put}
 
 abbrev pub stand : Option (List ℕ) → ℕ → ℕ → Stand
 stand written faults asked = record { written = written; faults = faults; asked = asked }
@@ -66,7 +66,7 @@ serve-head n before told kept kept' taken l l1 l2 w w1 w2 f f2 s s2 ended h ends
     (subst (λ o. Answers told (request_in h ends) (stand o f s) (stand w2 f2 s2) result) sw answers))
 
 still : (told : Told) (n : ℕ) (w w1 : Option (List ℕ)) → w1 ≡ w → (put : List ℕ) × Appends w w1 put × IsPutBehind told n nothing put
-still told n w w1 is = ([], subst (λ o. Appends w o []) (sym is) (nothing-put w), refl)
+still told n w w1 is = ([], subst (λ o. Appends w o []) (sym is) (Appends-nil w), refl)
 
 pub serve-gone : (n before : ℕ) (told : Told) (kept taken : List ℕ) (l l1 w w1 : Option (List ℕ)) (f s : ℕ) (ended : Bool)
     → Consumes l l1 taken → w1 ≡ w → IsTrue ended → IsGone (kept ++ taken) → ServesFrom n before told kept l l1 (stand w f s) (stand w1 f s) ended (record { replies = n; status = before; ending = Gone })

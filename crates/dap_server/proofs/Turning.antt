@@ -1,7 +1,6 @@
 -- Requests in turn: one that was answered, and those behind it.
-use Rattle.std.proofs.Common.{◌≡◌, ℕ, ◌+◌, Bool, false, List, [], ◌∷◌, ◌++◌, length, Option, Some, None, MatchBool, refl, sym, ap, subst, arith, append_assoc, append-nil, length-append}
+use Rattle.std.proofs.Common.{◌≡◌, ℕ, ◌+◌, Bool, false, List, ◌∷◌, ◌++◌, length, Option, MatchBool, refl, sym, ap, subst, arith, append_assoc, length-append}
 use Rattle.std.proofs.KnownBytes.{Appends-trans, Consumes-trans}
-use Rattle.std.specs.Io.KnownBytes.{Appends}
 use Rattle.httparse.specs.Grammar.{RequestHead}
 use Rattle.httparse.proofs.GrammarLemmas.{ReadsRequest-append}
 use Rattle.dap_http.specs.Requests.{FirstRequest}
@@ -12,11 +11,6 @@ use Rattle.dap_server.specs.declared.served.Served.{Served}
 use Rattle.dap_server.specs.inner.Serving.{GoesOn, ServesFrom, Stand}
 use Rattle.dap_server.proofs.Choices.{where_false}
 use Rattle.dap_server.proofs.Failing.{failed-as, failed-more}
-
--- nothing was put
-pub nothing-put : (a : Option (List ℕ)) → Appends a a []
-nothing-put None = tt
-nothing-put (Some xs) = sym (append-nil xs)
 
 pub request-stays : (input rest more : List ℕ) (head : RequestHead) → FirstRequest input head rest → FirstRequest (input ++ more) head (rest ++ more)
 request-stays input rest more head first =

@@ -1,14 +1,15 @@
 -- A connection on which no fault came and memory was had answers all requests of its input.
-use Rattle.std.proofs.Common.{◌≡◌, ◌≢◌, ℕ, zero, suc, ◌+◌, ◌≤◌, Bool, false, true, ◌||◌, List, [], ◌∷◌, ◌++◌, length, map, if◌then◌else◌, ◌==◌, Option, Some, MatchBool, IsTrue, Result, Ok, Err, refl, sym, ap, ◌∙◌, subst, arith, append_assoc, append-nil, length-append, inl, inr, ◌⊎◌}
+use Rattle.std.proofs.Common.{◌≡◌, ◌≢◌, ℕ, zero, suc, ◌+◌, Bool, false, true, ◌||◌, List, [], ◌∷◌, ◌++◌, length, map, Option, Some, IsTrue, Result, Ok, Err, refl, sym, ap, ◌∙◌, subst, arith, append-nil, length-append, inl, inr}
 use Rattle.std.proofs.lemmas.Bool.{true≢false}
-use Rattle.std.proofs.lemmas.List.Sums.{sum_by-append}
 use Rattle.std.specs.Io.KnownBytes.{Appends, Consumes, IsAtEnd}
-use Rattle.httparse.specs.Grammar.{NeverHasRequest, RequestHead}
+use Rattle.dap_server.proofs.Ends.{no-bad}
+use Rattle.plain_lemmas.proofs.Truths.{true_or_false, first_false, second_false, match_true, match_false}
+use Rattle.httparse.specs.Grammar.{RequestHead}
 use Rattle.dap_errors.specs.Causes.{http_status}
 use Rattle.dap_errors.specs.declared.cause.Cause.{Cause}
 use Rattle.dap_errors.specs.declared.cause.Cause.TheVariants.{OutOfMemory}
-use Rattle.dap_http.specs.Requests.{FirstRequest, HasNoHead, HasNoRequest, IsBadRequest, IsGone, IsTooLong, NeverHasHead, Requests, ends_connection, feeds}
-use Rattle.dap_http.proofs.HeadReading.{none-now, too-long-still, long-still}
+use Rattle.dap_http.specs.Requests.{FirstRequest, HasNoRequest, IsGone, IsTooLong, Requests, ends_connection}
+use Rattle.dap_http.proofs.HeadReading.{too-long-still, long-still, bad-still}
 use Rattle.dap_outside.specs.Causes.{Rose}
 use Rattle.dap_outside.specs.Files.{Told}
 use Rattle.dap_server.specs.Connections.{AreTurns, Behind, Connection, IsClosed, IsConnectionServed, MayAnswer, RoseBy, RoseFor, Stops, ends_after, failed_turns, failures, is_last_turn, last_status, nothing, part_of_refusal, part_of_reply, put_from, refusal, status_behind}
@@ -23,29 +24,6 @@ use Rattle.dap_server.proofs.Choices.{where_true, where_false}
 use Rattle.dap_server.proofs.Turning.{request-stays}
 
 -- ---- bytes that hold no request, with more behind them
-
-never-still : (bytes more : List ℕ) → NeverHasHead bytes → NeverHasHead (bytes ++ more)
-never-still bytes more never = λ other. subst HasNoHead (sym (append_assoc bytes more other)) (never (more ++ other))
-
-no-request-still : (bytes more : List ℕ) → NeverHasRequest bytes → NeverHasRequest (bytes ++ more)
-no-request-still bytes more never = λ other. subst Rattle.httparse.specs.Grammar.HasNoRequest (sym (append_assoc bytes more other)) (never (more ++ other))
-
-feeds-more : (bytes more : List ℕ) → feeds bytes ≤ feeds (bytes ++ more)
-feeds-more bytes more = let sum : feeds (bytes ++ more) ≡ feeds bytes + feeds more = sum_by-append (λ x. if x == 10 then 1 else 0) bytes more in omega (arith, sum)
-
-pub bad-still : (bytes more : List ℕ) → IsBadRequest bytes → IsBadRequest (bytes ++ more)
-bad-still bytes more bad =
-    let never : NeverHasHead (bytes ++ more) = never-still bytes more bad.never in
-    record {
-      never = never;
-      why = elim bad.why [
-        | inl none ↦ inl (no-request-still bytes more none)
-        | inr (many, none) ↦ inr (omega (arith, many, feeds-more bytes more), none-now (bytes ++ more) never)
-      ];
-    }
-
-no-bad : (bytes : List ℕ) → IsBadRequest bytes → HasNoRequest bytes
-no-bad bytes bad = λ head rest first. none-now bytes bad.never head rest first.0
 
 -- ---- no failure, and no want of memory
 
@@ -63,20 +41,8 @@ or-no : (a b : Bool) → b ≡ false → (a || b) ≡ a
 or-no true b is = refl
 or-no false b is = is
 
-no-left : (a b : Bool) → (a || b) ≡ false → a ≡ false
-no-left true b is = is
-no-left false b is = refl
-
-no-right : (a b : Bool) → (a || b) ≡ false → b ≡ false
-no-right true b is = cc is
-no-right false b is = is
-
-cases-bool : (b : Bool) → (b ≡ true) ⊎ (b ≡ false)
-cases-bool true = inl refl
-cases-bool false = inr refl
-
 no-wants : (answer : Result Text Cause) → reply_status answer ≢ 503 → wants answer ≡ false
-no-wants answer unlike = elim (cases-bool (wants answer)) [
+no-wants answer unlike = elim (true_or_false (wants answer)) [
   | inl is ↦ absurd (unlike (wants-status answer is))
   | inr is ↦ is
 ]
@@ -85,14 +51,6 @@ answered-so : (files : Files) (q : Request) (answer : Result Text Cause) → May
 answered-so files q answer (inl (other, is, answers)) none calm = subst (λ f. IsRequestAnsweredAmong (Some files) f q answer) is answers
 answered-so files q answer (inr (inl (is, served, asks))) none calm = cc (none, ap Rattle.dap_server.specs.Connections.has_failed is)
 answered-so files q answer (inr (inr is)) none calm = cc (calm, ap wants is)
-
-pub of-true : (b : Bool) (P Q : Type 0) → b ≡ true → MatchBool b P Q → P
-of-true true P Q is p = p
-of-true false P Q is p = cc is
-
-of-false : (b : Bool) (P Q : Type 0) → b ≡ false → MatchBool b P Q → Q
-of-false true P Q is q = cc is
-of-false false P Q is q = q
 
 -- ---- all turns
 
@@ -118,17 +76,17 @@ last-one files k bytes rest more t before first may last none calm =
 pub all-turns : (files : Files) (k : ℕ) (bytes left more : List ℕ) (turns : List Turn) (before : ℕ) → AreTurns (Some files) k bytes turns left
     → failed_turns turns ≡ 0 → Calm before k turns → All-turns files k bytes left more turns
 all-turns files k bytes left more [] before is none calm = (tt, λ has. (ap (λ l. l ++ more) is, subst (λ l. HasNoRequest (l ++ more)) is (has refl)))
-all-turns files k bytes left more (t ∷ turns) before (rest, (first, may), behind) none calm = elim (cases-bool (is_last_turn k t)) [
+all-turns files k bytes left more (t ∷ turns) before (rest, (first, may), behind) none calm = elim (true_or_false (is_last_turn k t)) [
   | inl last ↦
-      let (empty, is) = of-true (is_last_turn k t) _ _ last behind in
+      let (empty, is) = match_true (is_last_turn k t) _ _ last behind in
       subst (λ (us : List Turn). All-turns files k bytes left more (t ∷ us)) (sym empty)
       (subst (λ (l : List ℕ). All-turns files k bytes l more (t ∷ [])) (sym is)
       (last-one files k bytes rest more t before first may last (omega (arith, none)) (subst (λ (us : List Turn). Calm before k (t ∷ us)) empty calm)))
   | inr goes ↦
       let same : ends_after (is_last_turn k t) (k + 1) turns ≡ ends_after false (k + 1) turns = ap (λ b. ends_after b (k + 1) turns) goes in
-      let (answered, requests) = all-turns files (k + 1) rest left more turns (reply_status t.answer) (of-false (is_last_turn k t) _ _ goes behind) (omega (arith, none)) (λ ends. calm (same ∙ ends)) in
-      let ends : ends_connection k t.head ≡ false = no-left (ends_connection k t.head) (wants t.answer) goes in
-      let quiet : wants t.answer ≡ false = no-right (ends_connection k t.head) (wants t.answer) goes in (
+      let (answered, requests) = all-turns files (k + 1) rest left more turns (reply_status t.answer) (match_false (is_last_turn k t) _ _ goes behind) (omega (arith, none)) (λ ends. calm (same ∙ ends)) in
+      let ends : ends_connection k t.head ≡ false = first_false (ends_connection k t.head) (wants t.answer) goes in
+      let quiet : wants t.answer ≡ false = second_false (ends_connection k t.head) (wants t.answer) goes in (
         (answered-so files (request k t.head) t.answer may (omega (arith, none)) quiet, answered),
         λ has. (rest ++ more, request-stays bytes rest more t.head first, where_false (ends_connection k t.head) _ _ ends (requests (λ e. has (same ∙ e)))),
       )
@@ -228,15 +186,15 @@ whole-taken : (files : Files) (taken more : List ℕ) (c : Connection) (served :
     → ¬ (Rose a b) → ¬ (Rose d e) → ¬ (Rose f g) → served.status ≢ 503 → AnswersAll (taken ++ more) files (put_from 1 c) served
 whole-taken files taken more c served ended a b d e f g s rose causes at_end no_shelf no_take no_put calm =
     let count : failures c served.ending ≡ 0 = no-failures (failures c served.ending) a b rose no_shelf in
-    elim (cases-bool (ends_after false 1 c.turns)) [
+    elim (true_or_false (ends_after false 1 c.turns)) [
       | inl ends ↦
-          let (closed, empty) = is-closed served.ending c.behind (of-true (ends_after false 1 c.turns) _ _ ends s.ends) in
+          let (closed, empty) = is-closed served.ending c.behind (match_true (ends_after false 1 c.turns) _ _ ends s.ends) in
           let few : served.replies ≡ length c.turns = s.counted ∙ ap (λ b. 0 + length c.turns + Rattle.dap_server.specs.Connections.whole_behind b) empty ∙ omega arith in
           let state : served.status ≡ last_status 0 c.turns = s.status ∙ ap (status_behind (last_status 0 c.turns)) empty in
           closed-whole files taken more c served s.turns (omega (arith, count)) ends empty (served-is served (length c.turns) (last_status 0 c.turns) Closed few state closed) calm
       | inr goes ↦
           let (has, behind) = ends-open files c.left more (0 + 1 + length c.turns) (length c.turns) (last_status 0 c.turns) ended served.ending c.behind served
-          (of-false (ends_after false 1 c.turns) _ _ goes s.ends) at_end (no-read served.ending d e f g causes no_take) (no-write served.ending d e f g causes no_put)
+          (match_false (ends_after false 1 c.turns) _ _ goes s.ends) at_end (no-read served.ending d e f g causes no_take) (no-write served.ending d e f g causes no_put)
           (no-break served.ending (failed_turns c.turns + Rattle.dap_server.specs.Connections.failed_behind c.behind) count)
           (served-is served _ _ _ (s.counted ∙ omega arith) s.status refl) calm in
           open-whole files taken more c served s.turns (omega (arith, count)) goes has behind

@@ -1,8 +1,9 @@
 -- One more byte of a name that is escaped.
-use Rattle.std.proofs.Common.{◌≡◌, ℕ, ◌+◌, ◌-◌, ◌<◌, ◌≤◌, true, false, ◌&&◌, List, [], ◌∷◌, ◌++◌, length, drop, take, get_or, refl, sym, ap, ◌∙◌, append_assoc, append-nil, drop-cons, add-one, arith, ◌==◌, suc, zero}
+use Rattle.std.proofs.Common.{◌≡◌, ℕ, ◌+◌, ◌-◌, ◌<◌, ◌≤◌, true, false, ◌&&◌, List, [], ◌∷◌, ◌++◌, length, drop, take, get_or, refl, sym, ap, ◌∙◌, append_assoc, append-nil, arith, ◌==◌, suc, zero}
 use Rattle.std.proofs.lemmas.List.{drop_all}
 use Rattle.std.proofs.Math.Seq.{take-length}
 use Rattle.std.proofs.Common.{length-drop}
+use Rattle.plain_lemmas.proofs.Lists.{drop_next}
 use Rattle.dap_types.specs.Names.{constraint_id_from, constraint_id, upper_case, escaped_byte, begins_with_digits}
 
 pub digit_step : (out rest : List ℕ) (left b : ℕ) → 0 < left
@@ -20,16 +21,13 @@ plain_step out rest left b l e = rw (l, append_assoc) (rw e refl)
 
 pub ruleset escape_laws = (digit_step, escape_step, plain_step)
 
-next : (bytes : List ℕ) (i : ℕ) → i < length bytes → drop i bytes ≡ get_or bytes i 0 ∷ drop (i + 1) bytes
-next bytes i h = rw add-one (drop-cons bytes i 0 h)
-
 pub name_more : (bytes out out' : List ℕ) (left left' i : ℕ) (rest goal : List ℕ) → out ++ constraint_id_from left (drop i bytes) ≡ goal → i < length bytes
     → rest ≡ drop (i + 1) bytes
     → out' ++ constraint_id_from left' rest ≡ out ++ constraint_id_from left (get_or bytes i 0 ∷ rest)
     → out' ++ constraint_id_from left' (drop (i + 1) bytes) ≡ goal
 name_more bytes out out' left left' i rest goal e h r s =
     ap (λ (x : List ℕ). out' ++ constraint_id_from left' x) (sym r) ∙ s ∙ ap (λ (x : List ℕ). out ++ constraint_id_from left (get_or bytes i 0 ∷ x)) r
-    ∙ ap (λ (x : List ℕ). out ++ constraint_id_from left x) (sym (next bytes i h)) ∙ e
+    ∙ ap (λ (x : List ℕ). out ++ constraint_id_from left x) (sym (drop_next bytes i h)) ∙ e
 
 pub rest_is : (bytes : List ℕ) (i : ℕ) → take (length bytes - i) (drop i bytes) ≡ drop i bytes
 rest_is bytes i = rw (← length-drop i bytes) (take-length (drop i bytes))

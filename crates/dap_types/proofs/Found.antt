@@ -1,12 +1,13 @@
 -- What an index answers once a path is added to it.
-use Rattle.std.proofs.Common.{◌≡◌, ℕ, Bool, true, false, ◌&&◌, List, [], ◌∷◌, Option, Some, None, refl, sym, ap, ◌∙◌}
+use Rattle.std.proofs.Common.{◌≡◌, ℕ, Bool, true, false, List, [], ◌∷◌, Option, Some, None, refl, sym, ap, ◌∙◌}
 use Rattle.std.specs.Prelude.{if◌then◌else◌, cond}
 use Rattle.std.specs.Cmp.{IsEquivalence}
 use Rattle.std.specs.Cmp.Lexicographic.{pointwise}
 use Rattle.std.specs.Map.{AreApart, IsKeyTest, KeepsOthers, lookup}
 use Rattle.std.specs.Option.{is_some, option_or}
 use Rattle.std.specs.Str.{bytes_eq}
-use Rattle.std.proofs.lemmas.Slice.Eq.{bytes_eq-Decides}
+use Rattle.plain_lemmas.proofs.Lists.{same_bytes}
+use Rattle.plain_lemmas.proofs.Truths.{both_true}
 use Rattle.indexmap.specs.IndexMap.{IndexMap, UpdatesBy, get_by}
 
 -- tests that agree find the same
@@ -29,13 +30,6 @@ updates_seen view veq eq laws same m n k w h q = (elim (veq (view k) q) as (λ b
       (λ x t. laws.symm q (view x) ∙ sym (laws.congr (view k) (view x) q (sym (same k x) ∙ t)) ∙ e)
 ]) refl
 
-both_true : (a b : Bool) → (a && b) ≡ true → (a ≡ true) × (b ≡ true)
-both_true true b e = (refl, e)
-both_true false b e = cc
-
-same_bytes : (x y : List ℕ) → bytes_eq x y ≡ true → x ≡ y
-same_bytes x y e = (bytes_eq-Decides x y).0 e
-
 -- paths that pass the test are the same
 pub same_path : (q p : List (List ℕ)) → pointwise bytes_eq q p ≡ true → q ≡ p
 same_path [] [] e = refl
@@ -47,7 +41,7 @@ pub option_or-none : {X : Type 0} (o : Option X) → o ≡ option_or o None
 option_or-none None = refl
 option_or-none (Some x) = refl
 
-option_or-some : {X : Type 0} (o p : Option X) → is_some o ≡ true → o ≡ option_or o p
+pub option_or-some : {X : Type 0} (o p : Option X) → is_some o ≡ true → o ≡ option_or o p
 option_or-some None p e = cc
 option_or-some (Some x) p e = refl
 

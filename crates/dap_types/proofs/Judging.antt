@@ -4,8 +4,9 @@ use Rattle.std.specs.Prelude.{◌⊎◌, ◌||◌}
 use Rattle.std.specs.Str.{bytes_eq}
 use Rattle.std.specs.Option.{option_or}
 use Rattle.std.proofs.lemmas.List.{drop_all}
+use Rattle.plain_lemmas.proofs.Lists.{drop_here}
 use Rattle.dap_types.proofs.Faults.{first_fault-append, length-leaf_places, length-part_places, length-places}
-use Rattle.dap_types.proofs.Views.{drop-here, members-here, members-end as no_members-left, view-Structure}
+use Rattle.dap_types.proofs.Views.{members-here, members-end as no_members-left, view-Structure}
 use Rattle.dap_types.specs.Judged.{Judges, JudgesOne}
 use Rattle.dap_types.specs.NameSet.{AreSameNames, HasAlso}
 use Rattle.dap_types.specs.Model.{Member, Members, no_members, member, name_of, count, count_all}
@@ -104,7 +105,7 @@ level-bad_part depth n earlier later m ms e (is, fine) bad =
 -- a walk over members that have no parts
 module _ {X : Type 0} (as_member : X → Member) (xs : List X) (i depth n : ℕ) (earlier : List (List ℕ)) (x : X) where
   here : i < length xs → x ≡ get_or xs i x → map as_member (drop i xs) ≡ as_member x ∷ map as_member (drop (i + 1) xs)
-  here lt is = ap (map as_member) (drop-here xs i x lt is)
+  here lt is = ap (map as_member) (drop_here xs i x lt is)
 
   pub walk-more : (later : List (List ℕ)) (r : Result ℕ Unfit) → i < length xs → x ≡ get_or xs i x → JudgesOne n depth earlier (as_member x) later (Ok tt)
       → Judges (leaf_places depth later (map as_member (drop (i + 1) xs))) (n + 1) r → Judges (leaf_places depth earlier (map as_member (drop i xs))) n r

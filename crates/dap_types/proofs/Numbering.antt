@@ -6,7 +6,8 @@ use Rattle.std.specs.Cmp.Lexicographic.{pointwise}
 use Rattle.std.specs.Option.{option_or}
 use Rattle.std.specs.Str.{bytes_eq}
 use Rattle.std.proofs.lemmas.List.{drop_all, length-map, map-append}
-use Rattle.dap_types.proofs.Views.{drop-here, members-here, members-end as no_members-left, view-Structure, view-Grid, view-Sequence}
+use Rattle.plain_lemmas.proofs.Lists.{drop_here}
+use Rattle.dap_types.proofs.Views.{members-here, members-end as no_members-left, view-Structure, view-Grid, view-Sequence}
 use Rattle.dap_types.specs.Model.{Member, scalar, array, structure, grid, sequence, Members, no_members, member, name_of, count, count_all}
 use Rattle.dap_types.specs.Numbered.{Adds, Numbers, under}
 use Rattle.dap_types.specs.View.{member_view, members_view}
@@ -21,7 +22,7 @@ or_assoc : {X : Type 0} (o p q : Option X) → option_or (option_or o p) q ≡ o
 or_assoc None p q = refl
 or_assoc (Some e) p q = refl
 
-position_from-append : {X : Type 0} (test : X → Bool) (n : ℕ) (xs ys : List X) → position_from test n (xs ++ ys) ≡ option_or (position_from test n xs) (position_from test (n + length xs) ys)
+pub position_from-append : {X : Type 0} (test : X → Bool) (n : ℕ) (xs ys : List X) → position_from test n (xs ++ ys) ≡ option_or (position_from test n xs) (position_from test (n + length xs) ys)
 position_from-append test n [] ys = ap (λ k. position_from test k ys) (omega arith)
 position_from-append test n (x ∷ xs) ys =
     let same : n + 1 + length xs ≡ n + length (x ∷ xs) = omega arith in
@@ -111,7 +112,7 @@ module _ {X : Type 0} (path : X → List (List ℕ)) (xs : List X) (i n : ℕ) (
   pub walk-adds : (now one new : List (List ℕ) → Option ℕ) (x : X) → i < length xs → x ≡ get_or xs i x → Adds now one n ((whole ++ path x) ∷ [])
       → Adds one new (n + 1) (under whole (map path (drop (i + 1) xs))) → Adds now new n (under whole (map path (drop i xs)))
   walk-adds now one new x lt is own rest =
-      subst (λ l. Adds now new n (under whole (map path l))) (sym (drop-here xs i x lt is))
+      subst (λ l. Adds now new n (under whole (map path l))) (sym (drop_here xs i x lt is))
       (adds-append now one new n ((whole ++ path x) ∷ []) (under whole (map path (drop (i + 1) xs))) own rest)
 
   pub walk-adds-end : (now : List (List ℕ) → Option ℕ) → length xs ≤ i → Adds now now n (under whole (map path (drop i xs)))

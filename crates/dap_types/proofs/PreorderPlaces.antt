@@ -2,6 +2,7 @@
 use Rattle.std.proofs.Common.{◌≡◌, ℕ, zero, suc, ◌+◌, ◌-◌, ◌<◌, ◌≤◌, List, [], ◌∷◌, ◌++◌, length, map, slice_get, Some, refl, ap, ◌∙◌, sym, arith, length-append, ⊎_elim, ◌⊎◌, inl, inr}
 use Rattle.std.proofs.lemmas.Option.{none-some, same_Some}
 use Rattle.std.proofs.lemmas.List.{length-map}
+use Rattle.plain_lemmas.proofs.Lists.{front_get}
 use Rattle.dap_types.specs.Model.{Member, scalar, array, structure, grid, sequence, Members, no_members, member}
 use Rattle.dap_types.specs.Preorder.{preorder, preorder_all}
 
@@ -35,12 +36,6 @@ mutual
       ⊎_elim (λ e. omega (arith, stands m0 k m e, length-append (preorder m0) (preorder_all ms)))
       (λ e. omega (arith, e.0, stand ms (k - length (preorder m0)) m e.1, length-append (preorder m0) (preorder_all ms)))
       (in_front (preorder m0) (preorder_all ms) k m is)
-
--- the one at a place of two lists, one behind the other
-pub front_get : {X : Type 0} (xs ys : List X) (k : ℕ) → k < length xs → slice_get (xs ++ ys) k ≡ slice_get xs k
-front_get [] ys k lt = absurd (omega arith)
-front_get (x ∷ xs) ys zero lt = refl
-front_get (x ∷ xs) ys (suc k) lt = front_get xs ys k (omega arith)
 
 pub back_get : {X : Type 0} (xs ys : List X) (k n : ℕ) → n ≡ length xs + k → slice_get (xs ++ ys) n ≡ slice_get ys k
 back_get [] ys k n is = ap (slice_get ys) (omega arith)

@@ -1,7 +1,7 @@
 -- What each variant stands for.
 use Rattle.std.proofs.Common.{◌≡◌, ℕ, ◌+◌, ◌<◌, ◌≤◌, List, [], ◌∷◌, ◌++◌, map, get_or, drop, length, ap, rules}
 use Rattle.std.proofs.lemmas.List.{drop_all, map-append}
-use Rattle.dap_types.proofs.Views.{drop-here}
+use Rattle.plain_lemmas.proofs.Lists.{drop_here}
 use Rattle.dap_types.specs.declared.bytes.Id.{Id}
 use Rattle.das_text.specs.Model.{attribute, container, entry, no_entries}
 use Rattle.das_text.specs.View.{entry_view, entries_view}
@@ -20,7 +20,7 @@ pub ruleset views = (view-Attr, view-Container)
 
 -- from a place on there are the entry at that place and those after it
 pub entries-here : (entries : List Entry) (i : ℕ) (e : Entry) → i < length entries → e ≡ get_or entries i e → entries_view (drop i entries) ≡ entry (entry_view e) (entries_view (drop (i + 1) entries))
-entries-here entries i e lt is = ap entries_view (drop-here entries i e lt is)
+entries-here entries i e lt is = ap entries_view (drop_here entries i e lt is)
 
 pub entries-end : (entries : List Entry) (i : ℕ) → length entries ≤ i → entries_view (drop i entries) ≡ no_entries
 entries-end entries i le = ap entries_view (drop_all i entries le)

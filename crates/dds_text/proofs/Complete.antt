@@ -3,10 +3,10 @@
 use Rattle.std.proofs.Common.{◌≡◌, ℕ, ◌+◌, List, [], ◌∷◌, ◌++◌, length, drop, true, false, nat_lt, Option, Some, None, refl, sym, ap, ap₂, subst, ◌∙◌, append_assoc, append-nil, codes, arith}
 use Rattle.std.specs.List.{list_all, list_any}
 use Rattle.std.specs.Str.{bytes_eq}
+use Rattle.plain_lemmas.proofs.Truths.{both_true}
 use Rattle.dap_types.specs.Model.{Member, scalar, array, structure, grid, sequence, Members, no_members, member, Dataset, name_of, count, sizes}
 use Rattle.dap_types.specs.declared.declarations.ArrayDecl.{ArrayDecl}
 use Rattle.dap_types.specs.declared.declarations.Column.{Column}
-use Rattle.dap_model.proofs.Tests.{both_true}
 use Rattle.dap_model.specs.Dds.{type_word}
 use Rattle.dap_model.specs.Grammar.{keyword, name, sign, Judged, fine, opens, closes, semicolon, colon, head, named, dim_slots, array_slots, column_slots, map_slots, slots, slots_all, dataset_slots, has_dims, have_dims, all_have_dims, StandsFor}
 use Rattle.dap_model.specs.Tokens.{Token}

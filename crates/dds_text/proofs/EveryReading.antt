@@ -4,8 +4,8 @@ use Rattle.std.proofs.lemmas.Bool.{false≢true, cases_lt}
 use Rattle.std.proofs.lemmas.List.{map-append}
 use Rattle.std.specs.Cmp.Lexicographic.{pointwise}
 use Rattle.std.specs.Option.{option_map_or}
+use Rattle.plain_lemmas.proofs.Truths.{both_true}
 use Rattle.dap_types.specs.Model.{Dataset}
-use Rattle.dap_model.proofs.Tests.{both_true}
 use Rattle.dap_model.specs.Grammar.{Slot, keyword, name, sign, spells, StandsFor}
 use Rattle.dap_model.specs.Tokens.{Token, Placed, is_sign, is_plain, ended as ended_word, sign_at, tokens_from, whole_tokens, tokens_of}
 use Rattle.dap_model.specs.Tokens as token

@@ -1,23 +1,14 @@
 -- Names by which the members of a level are found.
-use Rattle.std.proofs.Common.{◌≡◌, ℕ, Bool, true, false, ◌||◌, List, [], ◌∷◌, ◌++◌, ap, ◌∙◌, sym, refl}
+use Rattle.std.proofs.Common.{◌≡◌, ℕ, Bool, ◌||◌, List, [], ◌∷◌, ◌++◌, ap, ◌∙◌, sym, refl}
 use Rattle.std.specs.List.{list_any}
 use Rattle.std.specs.Str.{bytes_eq}
 use Rattle.std.proofs.lemmas.List.Folds.{list_any-append}
+use Rattle.plain_lemmas.proofs.Truths.{or_false, or_comm}
 use Rattle.dap_types.specs.Model.{Member, name_of}
 use Rattle.dap_types.specs.NameSet.{HasAlso}
 use Rattle.dap_types.specs.declared.declarations.Column.{Column}
 use Rattle.dds_text.specs.inner.Held.{NamesAre}
 use Rattle.dds_text.specs.inner.States.{is_name_of, is_name_of_column}
-
-or_false : (a : Bool) → (a || false) ≡ a
-or_false true = refl
-or_false false = refl
-
-or_comm : (a b : Bool) → (a || b) ≡ (b || a)
-or_comm true true = refl
-or_comm true false = refl
-or_comm false true = refl
-or_comm false false = refl
 
 -- one name more
 grown : (names more : List (List ℕ)) (name : List ℕ) (test : List ℕ → Bool) → HasAlso names name more → NamesAre names test → (n : List ℕ)

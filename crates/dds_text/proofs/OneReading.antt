@@ -2,6 +2,7 @@
 use Rattle.std.proofs.Common.{◌≡◌, ℕ, ◌+◌, ◌<◌, ◌≤◌, inl, inr, ⊎_elim, List, [], ◌∷◌, ◌++◌, length, map, take, drop, slice_get, option_map, refl, sym, ap, subst, ◌∙◌, append_assoc, append-nil, length-take-le, take-append-drop, take-take, take_all, codes, arith}
 use Rattle.std.proofs.lemmas.Bool.{cases_order, cases_lt}
 use Rattle.std.proofs.lemmas.Option.{same_Some}
+use Rattle.plain_lemmas.proofs.Lists.{last_part}
 use Rattle.dap_types.specs.Model.{Dataset}
 use Rattle.dap_model.specs.Grammar.{IsFirstBad}
 use Rattle.dap_model.specs.Tokens.{Token, Placed, ended as ended_word, sign_at, tokens_from, whole_tokens, tokens_of}
@@ -30,12 +31,6 @@ holds_token front at w none =
     from xs ys same =
         let flat : xs ++ ys ++ sign_at 59 (at + length w) ≡ [] = append_assoc xs ys (sign_at 59 (at + length w)) ∙ ap (λ zs. xs ++ zs) (sym (append-nil (ys ++ sign_at 59 (at + length w)))) ∙ same ∙ none_left (tokens_from front at (w ++ 59 ∷ [])) none in
         not_none (xs ++ ys) [] (record { token = Rattle.dap_model.specs.Tokens.sign 59; place = at + length w }) flat
-
--- the last byte of some bytes is that of their last part
-last_part : (xs ys w : List ℕ) (y c : ℕ) → xs ++ y ∷ ys ≡ w ++ c ∷ [] → (v : List ℕ) × (y ∷ ys ≡ v ++ c ∷ [])
-last_part [] ys w y c e = (w, e)
-last_part (x ∷ xs) ys [] y c e = let none : xs ++ y ∷ ys ≡ [] = cc in absurd (not_none xs ys y none)
-last_part (x ∷ xs) ys (z ∷ w) y c e = let rest : xs ++ y ∷ ys ≡ w ++ c ∷ [] = cc in last_part xs ys w y c rest
 
 -- two ends, one not behind the other
 nothing_between : (first u w : List ℕ) (d e : Dataset) → Keeps begun (tokens_of first) (ended d) → Keeps begun (tokens_of (first ++ u)) (ended e) → first ++ u ≡ w ++ codes ";" → (u ≡ []) × (d ≡ e)

@@ -4,7 +4,7 @@ use Rattle.std.proofs.lemmas.Bool.{false≢true, and_from}
 use Rattle.std.proofs.lemmas.List.{map-append}
 use Rattle.std.proofs.lemmas.Option.{none-some, same_Some}
 use Rattle.std.specs.Cmp.Lexicographic.{pointwise}
-use Rattle.dap_model.proofs.Tests.{both_true}
+use Rattle.plain_lemmas.proofs.Truths.{both_true}
 use Rattle.dap_model.specs.Grammar.{Slot, spells, Judged}
 use Rattle.dap_model.specs.Tokens.{Token}
 use Rattle.dds_text.specs.inner.Machine.{moved, step, Steps}

@@ -3,11 +3,11 @@ use Rattle.std.proofs.Common.{◌≡◌, ℕ, ◌+◌, List, [], ◌∷◌, ◌+
 use Rattle.std.proofs.lemmas.Bool.{false≢true, and_from}
 use Rattle.std.proofs.lemmas.Slice.Eq.{bytes_eq-Decides}
 use Rattle.std.specs.Cmp.Lexicographic.{pointwise}
+use Rattle.plain_lemmas.proofs.Truths.{both_true}
 use Rattle.dap_types.specs.Model.{structure, grid, sequence, members_of, Dataset}
 use Rattle.dap_types.specs.declared.declarations.ArrayDecl.{ArrayDecl}
 use Rattle.dap_types.specs.declared.declarations.BaseType.{BaseType}
 use Rattle.dap_types.specs.declared.declarations.Dim.{Dim}
-use Rattle.dap_model.proofs.Tests.{both_true}
 use Rattle.dap_model.specs.Dds.{type_word}
 use Rattle.dap_model.specs.Grammar.{Slot, keyword, name, size, sign, spells, is_other, has_dims, StandsFor}
 use Rattle.dap_model.specs.Tokens.{Token}

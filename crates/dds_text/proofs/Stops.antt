@@ -1,5 +1,5 @@
 -- What the parts of a reader of bytes want.
-use Rattle.std.proofs.Common.{◌≡◌, ℕ, ◌+◌, ◌-◌, ◌<◌, ◌≤◌, Bool, true, false, List, [], ◌∷◌, ◌++◌, length, take, drop, get_or, slice_range, Some, MatchBool, sym, ap, subst, ◌∙◌, append_assoc, append-nil, arith, length-append, length-drop, length-take}
+use Rattle.std.proofs.Common.{◌≡◌, ℕ, ◌+◌, ◌-◌, ◌<◌, ◌≤◌, true, false, List, [], ◌∷◌, ◌++◌, length, take, drop, get_or, slice_range, Some, sym, ap, subst, ◌∙◌, append_assoc, append-nil, arith, length-append, length-drop, length-take}
 use Rattle.std.proofs.lemmas.Grind.{common_steps}
 use Rattle.std.proofs.lemmas.List.{take_more, take_all, get_or-drop}
 use Rattle.dap_types.specs.Model.{Dataset}
@@ -13,14 +13,6 @@ use Rattle.dds_text.proofs.Answered.{held_open}
 use Rattle.dds_text.proofs.Bytes.{after_word-more, run-stop, left-stop, left-plain, tokens-plain}
 
 pub ruleset ends = (after_word-more)
-
-pub match_true : (b : Bool) (P Q : Type 0) → b ≡ true → MatchBool b P Q → P
-match_true true P Q e m = m
-match_true false P Q e m = cc
-
-pub match_false : (b : Bool) (P Q : Type 0) → b ≡ false → MatchBool b P Q → Q
-match_false true P Q e m = cc
-match_false false P Q e m = m
 
 -- what is held is open
 pub holds_open : (p : Parser) (s : State) → Holds p s → IsOpenState s

@@ -1,17 +1,18 @@
 -- What a word is: a type, `Structure`, `Sequence` or `Grid`, or a size.
-use Rattle.std.proofs.Common.{◌≡◌, ℕ, List, length, [], ◌∷◌, Bool, true, false, ◌&&◌, ◌==◌, nat_le, if◌then◌else◌, find, Option, Some, None, refl, ap, ◌∙◌, sym, subst, arith}
+use Rattle.std.proofs.Common.{◌≡◌, ℕ, List, length, [], ◌∷◌, Bool, true, false, ◌&&◌, ◌==◌, nat_le, find, Option, Some, None, refl, ap, ◌∙◌, sym, subst, arith}
 use Rattle.std.proofs.lemmas.Bool.{and_from}
 use Rattle.std.proofs.lemmas.Bool.Decides.{Decides-eqb, nat_tests}
-use Rattle.std.proofs.lemmas.Option.{none-some, same_Some, cond_some}
+use Rattle.std.proofs.lemmas.Option.{cond_some}
 use Rattle.std.proofs.lemmas.Slice.Eq.{bytes_eq-Decides}
 use Rattle.std.specs.Char.{is_ascii_digit}
 use Rattle.std.specs.List.{list_all}
 use Rattle.std.specs.Str.{str_to_ascii_lowercase, str_eq_ignore_ascii_case, bytes_eq}
 use Rattle.std.specs.Str.Parse.{digits_value}
+use Rattle.plain_lemmas.proofs.Lists.{found_passes}
+use Rattle.plain_lemmas.proofs.Truths.{both_true}
 use Rattle.viable.specs.Numerals.{is_numeral}
 use Rattle.dap_types.specs.declared.declarations.BaseType.{BaseType}
 use Rattle.dap_types.specs.declared.declarations.BaseType.TheVariants.{Byte, Int16, UInt16, Int32, UInt32, Float32, Float64, Text, Url}
-use Rattle.dap_model.proofs.Tests.{both_true}
 use Rattle.dap_model.specs.Dds.{type_word}
 use Rattle.dap_model.specs.Grammar.{keyword, size, spells}
 use Rattle.dap_model.specs.Tokens as token
@@ -51,15 +52,6 @@ pub is_kind_word : (kind : Kind) (w : List ℕ) → spells (keyword (kind_word k
 is_kind_word kind w is =
     let lower = sym (lower_of (kind_word kind) w is) in
     (ap base_of_lower lower ∙ (kind_of_its_word kind).0, ap kind_of_lower lower ∙ (kind_of_its_word kind).1)
-
--- what is found passes the test
-found_passes : {X : Type 0} (test : X → Bool) (xs : List X) (x : X) → find test xs ≡ Some x → test x ≡ true
-found_passes test [] x is = absurd (none-some x is)
-found_passes test (y ∷ xs) x is = from (test y) refl is (found_passes test xs x)
-  where
-    from : (b : Bool) → test y ≡ b → (if b then Some y else find test xs) ≡ Some x → (find test xs ≡ Some x → test x ≡ true) → test x ≡ true
-    from true passes found rest = subst (λ z. test z ≡ true) (same_Some y x found) passes
-    from false fails found rest = rest found
 
 pub type_word_is : (base : BaseType) (w : List ℕ) → base_of_word w ≡ Some base → spells (keyword (type_word base)) (token.word w) ≡ true
 type_word_is base w is = found_passes (λ b. str_eq_ignore_ascii_case (type_word b) w) (Byte ∷ Int16 ∷ UInt16 ∷ Int32 ∷ UInt32 ∷ Float32 ∷ Float64 ∷ Text ∷ Url ∷ []) base is

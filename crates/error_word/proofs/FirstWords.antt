@@ -1,7 +1,7 @@
 -- From a front of the first word of a body to one with another byte.
 use Rattle.std.proofs.Common.{◌≡◌, ℕ, zero, suc, ◌+◌, ◌<◌, ◌≤◌, Bool, true, false, not, ◌||◌, if◌then◌else◌, List, [], ◌∷◌, ◌++◌, length, take, map, codes, get_or, nat_eq, bytes_eq, ◌==◌, refl, sym, ap, subst, ◌∙◌, append_assoc, append-nil, drop, arith}
 use Rattle.std.proofs.lemmas.Grind.{common_steps}
-use Rattle.std.proofs.lemmas.Bool.{eqb-true, false≢true}
+use Rattle.std.proofs.lemmas.Bool.{eqb-true, false≢true, not-true}
 use Rattle.std.proofs.lemmas.List.{map-append}
 use Rattle.std.proofs.lemmas.List.Elements.{All-cons, All-nil, All-append}
 use Rattle.std.specs.Char.{to_ascii_lowercase}
@@ -95,10 +95,6 @@ pub some_more : (w : List ℕ) (b : ℕ) → w ++ b ∷ [] ≡ [] → ⊥
 some_more [] b e = cc
 some_more (x ∷ xs) b e = cc
 
-goes : (c : Bool) → not c ≡ true → c ≡ false
-goes true e = cc
-goes false e = refl
-
 -- a word that is `Error` with no more bytes is never first
 never : (w : List ℕ) (at : ℕ) (more : List ℕ) → (w ≡ [] → ⊥) → ((u : List ℕ) → is_error_word (w ++ u) ≡ false) → begins_error (bare (tokens_from w at more)) ≡ false
 never w at [] some other = refl
@@ -110,7 +106,7 @@ never w at (b ∷ more) some other =
         ap (λ ps. begins_error (bare ps)) (tokens_from-stop w at b more stop)
         ∙ first_ended w at (sign_at b at) (tokens_from [] (at + 1) more) false (ap is_error_word (sym (append-nil w)) ∙ other []) some
     by true on later =
-        ap (λ c. begins_error (bare (if c then ended w at ++ sign_at b at ++ tokens_from [] (at + 1) more else tokens_from (w ++ b ∷ []) (at + 1) more))) (goes (is_white b || is_sign b) on) ∙ later
+        ap (λ c. begins_error (bare (if c then ended w at ++ sign_at b at ++ tokens_from [] (at + 1) more else tokens_from (w ++ b ∷ []) (at + 1) more))) (not-true (is_white b || is_sign b) on) ∙ later
 
 -- letters and then a byte that is not the next one
 not_it : (w : List ℕ) (n b : ℕ) (u : List ℕ) → n ≤ 5 → str_to_ascii_lowercase w ≡ take n (codes "error") → (n < 5 → to_ascii_lowercase b ≡ get_or (codes "error") n 0 → ⊥)

@@ -3,7 +3,7 @@ use Rattle.std.proofs.Common.{◌≡◌, ℕ, suc, ◌+◌, ◌-◌, ◌≤◌, 
 use Rattle.std.specs.Cmp.Lexicographic.{pointwise}
 use Rattle.std.specs.List.{list_any}
 use Rattle.std.specs.Option.{option_and_then, option_or}
-use Rattle.std.proofs.lemmas.Bool.{eq-eqb, eqb-true}
+use Rattle.std.proofs.lemmas.Bool.{eq-eqb, eqb-true, or_parts}
 use Rattle.std.proofs.lemmas.Bool.Decides.{nat_tests}
 use Rattle.std.proofs.lemmas.List.Elements.{All-cons, All-nil, All-append}
 use Rattle.std.proofs.lemmas.Option.{none-some, same_Some}
@@ -22,7 +22,6 @@ use Rattle.dap_types.proofs.Preorder.{member_at-get}
 use Rattle.grid_projection.proofs.Within.{at_number}
 use Rattle.grid_projection.specs.Marks.{Row, placed, differ, clash, row_of}
 use Rattle.grid_projection.specs.inner.Settled.{IsSettled, AreSettled}
-use Rattle.grid_projection.proofs.Fits.{neither}
 
 numbers_itself : (xs : List ℕ) → same_numbers xs xs ≡ true
 numbers_itself [] = refl
@@ -71,7 +70,7 @@ clash_at f [] w n s fine is = absurd (nothing (leb w n) is)
     nothing : (b : Bool) → cond b (option_and_then (λ (x : Option (List Slab)). x) (slice_get [] (n - w))) None ≡ Some s → ⊥
     nothing true e = none-some s e
     nothing false e = none-some s e
-clash_at f (o ∷ row) w n s fine is = by (eqb w n) refl (neither (differ (f w) o) (clash f (w + 1) row) fine) (λ le e. clash_at f row (w + 1) n s e (sym (placed_tail w n o row le) ∙ is))
+clash_at f (o ∷ row) w n s fine is = by (eqb w n) refl (or_parts (differ (f w) o) (clash f (w + 1) row) fine) (λ le e. clash_at f row (w + 1) n s e (sym (placed_tail w n o row le) ∙ is))
   where
     by : (b : Bool) → eqb w n ≡ b → (differ (f w) o ≡ false) × (clash f (w + 1) row ≡ false) → (w + 1 ≤ n → clash f (w + 1) row ≡ false → differ (f n) (Some s) ≡ false) → differ (f n) (Some s) ≡ false
     by true e both rest =

@@ -78,7 +78,7 @@ plans_are_within plan slabs sizes steps base size file_len within e each at p lt
 pub batch_holds : BatchHolds
 batch_holds plan b is j lt = (held plan b j is lt, place-in_raw plan b j is lt)
 
-same-ranges : {X : Type 0} (f g : ℕ → X) (a c n : ℕ) → ((j : ℕ) → j < n → f (a + j) ≡ g (c + j)) → map f (range_with_len a n) ≡ map g (range_with_len c n)
+pub same-ranges : {X : Type 0} (f g : ℕ → X) (a c n : ℕ) → ((j : ℕ) → j < n → f (a + j) ≡ g (c + j)) → map f (range_with_len a n) ≡ map g (range_with_len c n)
 same-ranges f g a c zero same = refl
 same-ranges f g a c (suc n) same =
     ap (λ x. x ∷ map f (range_with_len (a + 1) n)) (ap f (sym (add-zero a)) ∙ same 0 (omega arith) ∙ ap g (add-zero c))

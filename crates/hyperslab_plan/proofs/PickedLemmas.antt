@@ -138,7 +138,7 @@ spaced slabs steps base e pos all i d lt two = from (reaches slabs steps i d e p
     from (p, below, reach) = let b : base + starts slabs steps + rel slabs steps p < 2 ^ 63 = below-picked slabs steps base e all p below in omega arith
 
 -- ---- the condition of `new`, from the place of the array's last element
-index-within : (s : Slab) (n k : ℕ) → IsWithin s n → k < s.count → s.start + k * s.stride < n
+pub index-within : (s : Slab) (n k : ℕ) → IsWithin s n → k < s.count → s.start + k * s.stride < n
 index-within s n k within lt =
     let long : length (indexes s) ≡ s.count = length-map-range_with_len (λ k. s.start + k * s.stride) 0 s.count in
     subst (λ i. i < n) (get_or-map-range_with_len (λ k. s.start + k * s.stride) 0 s.count k k 0 lt (zero-add k)) (within.1 k 0 (omega arith))

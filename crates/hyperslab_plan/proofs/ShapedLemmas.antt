@@ -2,15 +2,13 @@
 use Rattle.std.proofs.Common.{if◌then◌else◌, ◌≡◌, ℕ, ◌+◌, ◌-◌, ◌*◌, ◌/◌, ◌%◌, ◌<◌, ◌≤◌, Bool, true, false, cond, ◌&&◌, eqb, ltb, refl, sym, ap, ◌∙◌, subst, arith, zero-add, min}
 use Rattle.std.proofs.Math.Nat.{mod-lt, mod-eq_of_lt, div-eq_of_lt, div-lt_iff_lt-mul, zero-mul, one-mul, min-le_right}
 use Rattle.std.proofs.lemmas.Bool.{and_parts, and_from, eqb-true, ltb-true, eq-eqb, lt-ltb}
+use Rattle.plain_lemmas.proofs.Truths.{true_not_false}
 use Rattle.hyperslab_plan.specs.Along.{starts}
 use Rattle.hyperslab_plan.specs.Batches.{whole_rows, row_part, batch_of, run_of, IsBatch}
 use Rattle.hyperslab_plan.specs.Plans.{place_in}
 use Rattle.hyperslab_plan.specs.declared.batch.Batch.{Batch}
 use Rattle.hyperslab_plan.specs.declared.plan.Plan.{Plan}
 use Rattle.hyperslab_plan.proofs.PositionLemmas.{along-div, along-mod}
-
-true_not_false : true ≡ false → ⊥
-true_not_false e = absurd cc
 
 pub cond_at : (P : Batch → Type 0) (t : Bool) (x y : Batch) → (t ≡ true → P x) → (t ≡ false → P y) → P (cond t x y)
 cond_at P true x y h k = h refl

@@ -1,5 +1,5 @@
 -- One of several files is read, and the others stay as they are.
-use Rattle.std.proofs.Common.{◌≡◌, ℕ, zero, suc, ◌<◌, List, [], ◌∷◌, length, map, get_or, Option, Some, Result, Ok, Err, OnOk, OnErr, IfOk, IfErr, slice_index_or, slice_set, refl, sym, ap, ◌∙◌, subst, arith}
+use Rattle.std.proofs.Common.{◌≡◌, ℕ, zero, suc, ◌<◌, List, [], ◌∷◌, length, map, get_or, Option, Some, Result, Ok, Err, OnOk, OnErr, slice_index_or, slice_set, refl, sym, ap, ◌∙◌, subst, arith}
 use Rattle.std.proofs.lemmas.List.{length-map}
 use Rattle.std.specs.Io.KnownBytes.{Appends}
 use Rattle.hyperslab_plan.specs.declared.plan.Plan.{Plan}
@@ -15,14 +15,6 @@ on_ok-map (Err e) f p = tt
 pub on_err-map : {T E P Q : Type 0} (r : Result T E) → (P → Q) → OnErr r P → OnErr r Q
 on_err-map (Ok x) f p = tt
 on_err-map (Err e) f p = f p
-
-pub if_ok-map : {T E : Type 0} {P Q : T → Type 0} (r : Result T E) → ((x : T) → P x → Q x) → IfOk r P → IfOk r Q
-if_ok-map (Ok x) f p = f x p
-if_ok-map (Err e) f p = tt
-
-pub if_err-map : {T E : Type 0} {P Q : E → Type 0} (r : Result T E) → ((e : E) → P e → Q e) → IfErr r P → IfErr r Q
-if_err-map (Ok x) f p = tt
-if_err-map (Err e) f p = f e p
 
 module _ {A B : Type 0} where
   set-same : (f : A → B) (xs : List A) (i : ℕ) (d x : A) → f x ≡ f (slice_index_or xs i d) → map f (slice_set xs i x) ≡ map f xs

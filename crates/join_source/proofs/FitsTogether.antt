@@ -7,6 +7,7 @@ use Rattle.std.proofs.lemmas.List.Sums.{sum_by-cons}
 use Rattle.std.specs.List.{AllZip, cons_option, filter_map, flat_map}
 use Rattle.std.specs.Option.{option_map_or}
 use Rattle.std.specs.Prelude.{is_some, option_map, option_and_then, slice_get}
+use Rattle.netcdf_source.proofs.Joined.{has_sizes}
 use Rattle.dap_types.proofs.Views.{items-trees_of}
 use Rattle.dap_types.specs.Model.{Tree, array, grid, kids, many, members_of, one, scalar, sizes, trees_of}
 use Rattle.dap_types.specs.Names.{file_id}
@@ -19,7 +20,7 @@ use Rattle.netcdf_source.proofs.GridMaps.{at_front, coordinate_found, grid_array
 use Rattle.netcdf_source.proofs.Placed.{element_record, plain_sizes, record_sizes, turn_positive}
 use Rattle.netcdf_source.proofs.WellFormed.{dims_sizes}
 use Rattle.netcdf_source.specs.Laws.{HasHeader}
-use Rattle.netcdf_source.specs.Layouts.{HasSizes, element_sizes}
+use Rattle.netcdf_source.specs.Layouts.{element_sizes}
 use Rattle.netcdf_source.specs.Mapping.{HaveSameShape, array_of, base_of, column_of, coordinate_at, element_dimensions, has_texts, is_empty, is_grid, is_offered, is_over_records, maps_of, member_of, size_at, with_records}
 use Rattle.netcdf_source.specs.Parts.{inner, lengths}
 use Rattle.netcdf_source.specs.Values.{map_variables, member_tree, tree_of}
@@ -78,9 +79,8 @@ pub header-sound : (c : Contents) (file : List ℕ) → HasHeader c file → IsS
 header-sound c file (bytes, (tree, rest, stands, says, past)) =
     subst IsSound says (stands_sound tree (take 1048576 file) rest (omega (arith, length-take 1048576 file)) stands)
 
-pub has-sizes : (c : Contents) (k : ℕ) (v : Variable) → IsSound c → slice_get c.variables k ≡ Some v → HasSizes c v
 unfolding element_dimensions has_texts
-has-sizes c k v sound at =
+has_sizes c k v sound at =
     let positive = turn_positive c [] c.variables k v sound.variables at in
     record {
       over_records = λ e records. record_sizes (with_records records c) (element_dimensions c v) (element_record c v ∙ e) positive;
@@ -111,7 +111,7 @@ module _ (c : Contents) (n : ℕ) (small : n ≤ 2147483647) (k : ℕ) (v : Vari
       let ns = inner (lengths c.dimensions (element_dimensions c v)) in
       let fits = own-fits d file k w h there (offered-there d w shape few alike) in
       let sizes : element_sizes d w ≡ d.records ∷ ns =
-      sym (own-sizes d w) ∙ (has-sizes d k w (header-sound d file h) there).over_records (sym (same-over c d v w shape alike) ∙ over) d.records
+      sym (own-sizes d w) ∙ (has_sizes d k w (header-sound d file h) there).over_records (sym (same-over c d v w shape alike) ∙ over) d.records
       ∙ ap (λ ls. d.records ∷ inner ls) (sym (same-lengths c d v w shape alike)) in
       let own = kids-fit (base_of v.external_type) d.records ns (tree_of d file w)
       (subst (λ ms. FitsArray (base_of v.external_type) ms (tree_of d file w)) sizes (subst (λ b. FitsArray b (element_sizes d w) (tree_of d file w)) (sym (same-base v w alike)) fits)) in
@@ -141,12 +141,12 @@ chosen-fits : (c : Contents) (cs : List Contents) (f : List ℕ) (files : List (
     → is_offered (with_records (all_records (c ∷ cs)) c) v ≡ true → (b : Bool) → is_over_records c v ≡ b
     → FitsArray (base_of v.external_type) (element_sizes (with_records (all_records (c ∷ cs)) c) v) (cond b (joined_along (trees_at k (c ∷ cs) (f ∷ files))) (first_tree (trees_at k (c ∷ cs) (f ∷ files))))
 chosen-fits c cs f files can have k v at told true over =
-    let sizes = has-sizes c k v (header-sound c f have.0) at in
+    let sizes = has_sizes c k v (header-sound c f have.0) at in
     let all = all-kids c (all_records (c ∷ cs)) can.few k v at told (c ∷ cs) (f ∷ files) over can.same can.few have in
     subst (λ ns. FitsArray (base_of v.external_type) ns (joined_along (trees_at k (c ∷ cs) (f ∷ files)))) (sym (sizes.over_records over (all_records (c ∷ cs))))
     (along-fits (base_of v.external_type) (all_records (c ∷ cs)) (inner (lengths c.dimensions (element_dimensions c v))) (trees_at k (c ∷ cs) (f ∷ files)) all.long all.fit)
 chosen-fits c cs f files can have k v at told false fixed =
-    let sizes = has-sizes c k v (header-sound c f have.0) at in
+    let sizes = has_sizes c k v (header-sound c f have.0) at in
     let sum : all_records (c ∷ cs) ≡ c.records + all_records cs = sum_by-cons (λ x. x.records) c cs in
     let few : c.records ≤ 2147483647 = omega (arith, sum, can.few) in
     let own = own-fits c f k v have.0 at (offered-there c (all_records (c ∷ cs)) can.few k v at told c v (record { dimensions = refl; variables = refl }) few refl) in

@@ -6,6 +6,7 @@ use Rattle.std.proofs.lemmas.List.Sums.{sum_by-cons}
 use Rattle.std.specs.List.{cons_option, filter_map, list_any, range_with_len}
 use Rattle.std.specs.Option.{option_map_or}
 use Rattle.std.specs.Prelude.{is_some, option_and_then, option_map, slice_get}
+use Rattle.netcdf_source.proofs.Joined.{has_sizes}
 use Rattle.dap_types.proofs.Views.{items-trees_of}
 use Rattle.dap_types.specs.Model.{Tree, array, grid, kids, many, members_of, scalar, trees_of}
 use Rattle.dap_types.specs.Names.{file_id}
@@ -24,7 +25,7 @@ use Rattle.netcdf_source.specs.Values.{member_tree, tree_of, value_of}
 use Rattle.netcdf_source.specs.declared.header.Contents.{Contents}
 use Rattle.netcdf_source.specs.declared.header.Variable.{Variable}
 use Rattle.xdr_encode.proofs.Forms.{range-append}
-use Rattle.join_source.proofs.FitsTogether.{has-sizes, header-sound}
+use Rattle.join_source.proofs.FitsTogether.{header-sound}
 use Rattle.join_source.proofs.Leaves.{same-lengths, same-over}
 use Rattle.join_source.proofs.Own.{own-sizes}
 use Rattle.join_source.proofs.Shapes.{bare, coordinate-same, grid-same, offered-same, plain, same-at, same-bare, same-map, same-plain}
@@ -256,7 +257,7 @@ module _ (c one other : Contents) (file first second : List ℕ) (header : HasHe
   over-tree : is_over_records c w ≡ true → joined_along (tree_of one first v ∷ tree_of other second u ∷ []) ≡ tree_of c file w
   unfolding tree_of
   over-tree over =
-      let sizes = has-sizes c k w (header-sound c file header) at in
+      let sizes = has_sizes c k w (header-sound c file header) at in
       let size_one : element_sizes one v ≡ one.records ∷ its_inner = sizes-of c one w v are.first_shape alike ∙ sizes.over_records over one.records in
       let size_other : element_sizes other u ≡ other.records ∷ its_inner = sizes-of c other w u are.second_shape alike_other ∙ sizes.over_records over other.records in
       let size : element_sizes c w ≡ c.records ∷ its_inner = sym (own-sizes c w) ∙ sizes.over_records over c.records in
@@ -269,7 +270,7 @@ module _ (c one other : Contents) (file first second : List ℕ) (header : HasHe
   fixed-tree : is_over_records c w ≡ false → tree_of one first v ≡ tree_of c file w
   unfolding tree_of
   fixed-tree fixed =
-      let sizes = has-sizes c k w (header-sound c file header) at in
+      let sizes = has_sizes c k w (header-sound c file header) at in
       let same : element_sizes one v ≡ element_sizes c w = sizes-of c one w v are.first_shape alike ∙ sizes.fixed fixed one.records ∙ sym (sizes.fixed fixed c.records) ∙ own-sizes c w in
       let slices : whole_slice one first v ≡ whole_slice c file w =
       sym (ap (λ o. option_map_or (whole_slice one first) o []) at_one) ∙ are.fixed k (said false fixed) ∙ ap (λ o. option_map_or (whole_slice c file) o []) at in

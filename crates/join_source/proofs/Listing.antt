@@ -1,7 +1,7 @@
 -- One byte of a list of files after the other.
 use Rattle.std.proofs.Common.{◌≡◌, ◌≢◌, ℕ, ◌+◌, ◌-◌, ◌<◌, ◌≤◌, Bool, true, false, ◌&&◌, cond, nat_lt, IsTrue, List, [], ◌∷◌, ◌++◌, length, take, drop, get_or, Err, ap, ◌∙◌, arith}
 use Rattle.std.proofs.lemmas.Bool.{ne_eqb, eq-eqb}
-use Rattle.std.proofs.lemmas.List.{drop_more, take_more, get_or-drop, length-drop}
+use Rattle.std.proofs.lemmas.List.{take_more, get_or-drop, length-drop}
 use Rattle.join_source.specs.Lists.{lines_from, names_from, without_return}
 use Rattle.join_source.specs.Names.{is_member_name}
 use Rattle.join_source.specs.declared.refusal.ListRefusal.TheVariants.{BadLine}
@@ -32,10 +32,6 @@ none-left line e = ap (λ t. cond t [] (line ∷ [])) (eq-eqb (length line) 0 e)
 pub last-left : (line : List ℕ) → length line ≢ 0 → lines_from line [] ≡ line ∷ []
 unfolding lines_from
 last-left line e = ap (λ t. cond t [] (line ∷ [])) (ne_eqb (length line) 0 e)
-
--- the byte at k
-pub byte-at : (bytes : List ℕ) (k : ℕ) → k < length bytes → drop k bytes ≡ get_or bytes k 0 ∷ drop (k + 1) bytes
-byte-at bytes k lt = drop_more bytes k 0 lt
 
 pub grown : (bytes : List ℕ) (start k : ℕ) → start ≤ k → k < length bytes → take (k + 1 - start) (drop start bytes) ≡ take (k - start) (drop start bytes) ++ get_or bytes k 0 ∷ []
 grown bytes start k le lt =

@@ -6,6 +6,8 @@ use Rattle.std.proofs.lemmas.Grind.{flat_map-append}
 use Rattle.std.proofs.lemmas.List.{map-append}
 use Rattle.std.proofs.lemmas.List.Elements.{filter_map-append}
 use Rattle.std.specs.List.{cons_option, filter_map, flat_map, range_with_len, zip}
+use Rattle.plain_lemmas.proofs.Lists.{front_get}
+use Rattle.plain_lemmas.proofs.Numbers.{one_more_times}
 use Rattle.dap_types.proofs.Views.{items-trees_of}
 use Rattle.dap_types.specs.Model.{Tree, kids}
 use Rattle.dap_types.specs.declared.slabs.Slab.{Slab}
@@ -20,9 +22,6 @@ use Rattle.join_source.specs.Cutting.{behind, count_below, front_of, indexes_of,
 rounded : Slab → ℕ → ℕ
 rounded s n = (n - s.start + (s.stride - 1)) / s.stride
 
-next-mul : (k m : ℕ) → (k + 1) * m ≡ k * m + m
-next-mul k m = omega arith
-
 module _ (s : Slab) (n : ℕ) (strided : 1 ≤ s.stride) where
   pub few-below : count_below s n ≤ s.count
   few-below = min-le_left s.count ((n - s.start + (s.stride - 1)) / s.stride)
@@ -32,7 +31,7 @@ module _ (s : Slab) (n : ℕ) (strided : 1 ≤ s.stride) where
   are-below k lt =
       let up : k + 1 ≤ (n - s.start + (s.stride - 1)) / s.stride = omega (arith, lt, min-le_right s.count ((n - s.start + (s.stride - 1)) / s.stride)) in
       let room : (k + 1) * s.stride ≤ n - s.start + (s.stride - 1) = (le-div_iff_mul-le {k = s.stride} {x = k + 1} {y = n - s.start + (s.stride - 1)} strided).0 up in
-      omega (arith, room, next-mul k s.stride, strided)
+      omega (arith, room, one_more_times k s.stride, strided)
 
   -- and the others are not
   pub not-below : count_below s n < s.count → n ≤ s.start + count_below s n * s.stride
@@ -45,16 +44,11 @@ module _ (s : Slab) (n : ℕ) (strided : 1 ≤ s.stride) where
       go false e = let le : n - s.start ≤ count_below s n * s.stride = ltb-false (count_below s n * s.stride) (n - s.start) e in omega (arith, le)
       go true e =
           let more : count_below s n * s.stride < n - s.start = ltb-true (count_below s n * s.stride) (n - s.start) e in
-          let room : (count_below s n + 1) * s.stride ≤ n - s.start + (s.stride - 1) = omega (arith, more, next-mul (count_below s n) s.stride) in
+          let room : (count_below s n + 1) * s.stride ≤ n - s.start + (s.stride - 1) = omega (arith, more, one_more_times (count_below s n) s.stride) in
           let up : count_below s n + 1 ≤ (n - s.start + (s.stride - 1)) / s.stride = (le-div_iff_mul-le {k = s.stride} {x = count_below s n + 1} {y = n - s.start + (s.stride - 1)} strided).1 room in
           absurd (omega (arith, up, least))
 
 -- ---- what is picked of two lists, one behind the other
-
-got-front : {X : Type 0} (xs ys : List X) (i : ℕ) → i < length xs → slice_get (xs ++ ys) i ≡ slice_get xs i
-got-front [] ys i lt = absurd (omega (arith, lt))
-got-front (x ∷ xs) ys zero lt = refl
-got-front (x ∷ xs) ys (suc i) lt = got-front xs ys i (omega (arith, lt))
 
 got-behind : {X : Type 0} (xs ys : List X) (i : ℕ) → slice_get (xs ++ ys) (length xs + i) ≡ slice_get ys i
 got-behind [] ys i = ap (slice_get ys) (omega arith)
@@ -94,7 +88,7 @@ module _ {X : Type 0} (s : Slab) (xs ys : List X) (strided : 1 ≤ s.stride) whe
   first-part : filter_map (slice_get (xs ++ ys)) (map (λ k. s.start + k * s.stride) (range_with_len 0 (count_below s (length xs)))) ≡ pick (front_of s (length xs)) xs
   first-part =
       same-picked (slice_get (xs ++ ys)) (slice_get xs) (λ k. s.start + k * s.stride) (λ k. s.start + k * s.stride) 0 0 (count_below s (length xs))
-      (λ j lt. got-front xs ys (s.start + (0 + j) * s.stride) (are-below s (length xs) strided (0 + j) (omega (arith, lt))))
+      (λ j lt. front_get xs ys (s.start + (0 + j) * s.stride) (are-below s (length xs) strided (0 + j) (omega (arith, lt))))
 
   place-behind : (j : ℕ) → j < s.count - count_below s (length xs)
       → s.start + (0 + count_below s (length xs) + j) * s.stride ≡ length xs + ((behind s (length xs)).start + (0 + j) * s.stride)

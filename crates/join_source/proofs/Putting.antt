@@ -1,5 +1,6 @@
 -- Pieces that are put one behind the other.
-use Rattle.std.proofs.Common.{◌≡◌, ◌≢◌, ℕ, List, [], ◌∷◌, ◌++◌, length, refl, sym, ap, ◌∙◌, arith, append_assoc}
+use Rattle.std.proofs.Common.{◌≡◌, ◌≢◌, ℕ, List, [], ◌∷◌, ◌++◌, length, refl, sym, ap, ◌∙◌, append_assoc}
+use Rattle.std.proofs.lemmas.List.{nil_from_length}
 use Rattle.dap_types.specs.declared.declarations.BaseType.{BaseType}
 use Rattle.dap_types.specs.declared.slabs.Slab.{Slab}
 use Rattle.hyperslab_plan.specs.Picked.{count_of}
@@ -9,10 +10,6 @@ use Rattle.xdr_encode.specs.Leaves.{counts_of, filler_of, zeros_before}
 use Rattle.join_source.specs.Wanted.{AreFirst, AreOverRecords, AreRecords, IsOwnPlan, whole_pieces}
 use Rattle.join_source.specs.declared.piece.Piece.{Piece}
 use Rattle.join_source.specs.declared.piece.Piece.TheVariants.{Text, Elements}
-
-no-items : {X : Type 0} (xs : List X) → length xs ≡ 0 → xs ≡ []
-no-items [] e = refl
-no-items (x ∷ xs) e = absurd (omega (arith, e))
 
 some-whole : (base : BaseType) (slabs : List Slab) (plan : Plan) → length slabs ≢ 0
     → whole_pieces base slabs plan ≡ Text (counts_of base (count_of slabs)) ∷ Elements 0 plan ∷ Text (filler_of base (count_of slabs)) ∷ []
@@ -24,7 +21,7 @@ pub scalar-put : (old one all : List Piece) (h : FileHeader) (leaf : ℕ) (base 
 scalar-put old one all h leaf base slabs plan text none is text-is first second = (
   Text text ∷ Elements 0 plan ∷ [],
   second ∙ ap (λ ps. ps ++ Elements 0 plan ∷ []) first ∙ append_assoc old (Text text ∷ []) (Elements 0 plan ∷ []),
-  record { plan = plan; is_plan = is; parts = ap (λ t. Text t ∷ Elements 0 plan ∷ []) text-is ∙ sym (ap (λ ss. whole_pieces base ss plan) (no-items slabs none)) },
+  record { plan = plan; is_plan = is; parts = ap (λ t. Text t ∷ Elements 0 plan ∷ []) text-is ∙ sym (ap (λ ss. whole_pieces base ss plan) (nil_from_length slabs none)) },
 )
 
 pub array-put : (old one two all : List Piece) (h : FileHeader) (leaf : ℕ) (base : BaseType) (slabs : List Slab) (plan : Plan) (count : ℕ) (text rest : List ℕ) → length slabs ≢ 0 → IsOwnPlan h leaf slabs plan → count ≡ count_of slabs

@@ -5,6 +5,7 @@ use Rattle.std.proofs.lemmas.List.{drop_more, length-drop}
 use Rattle.std.proofs.lemmas.List.Elements.{All-cons, All-head, All-nil, All-tail}
 use Rattle.std.proofs.lemmas.List.Sums.{sum_by-cons}
 use Rattle.std.specs.List.{flat_map, sum_by, zip, AllZip}
+use Rattle.hyperslab_plan.proofs.PickedLemmas.{index-within}
 use Rattle.dap_types.specs.Model.{kids}
 use Rattle.dap_types.specs.declared.declarations.BaseType.{BaseType}
 use Rattle.dap_types.specs.declared.slabs.Slab.{Slab}
@@ -27,7 +28,7 @@ use Rattle.xdr_encode.specs.Elements.{AreInside, forms_from}
 use Rattle.join_source.proofs.Leaves.{same-over}
 use Rattle.join_source.proofs.Twins.{forms-are, record-kids, same-base, same-size, tree-at, twin, values-are}
 use Rattle.join_source.proofs.Walk.{pieces-cons, pieces-none}
-use Rattle.join_source.proofs.Within.{behind-within, index-below}
+use Rattle.join_source.proofs.Within.{behind-within}
 use Rattle.join_source.proofs.PickParts.{few-below}
 use Rattle.join_source.specs.Costs.{records_each}
 use Rattle.join_source.specs.Cutting.{behind, count_below, front_of, parts_of}
@@ -84,7 +85,7 @@ nothing s within = go s.count refl
   where
     go : (n : ℕ) → s.count ≡ n → n ≡ 0
     go zero e = refl
-    go (suc n) e = let lt : s.start + 0 * s.stride < 0 = index-below s 0 0 within (omega (arith, e)) in absurd (omega (arith, lt))
+    go (suc n) e = let lt : s.start + 0 * s.stride < 0 = index-within s 0 0 within (omega (arith, e)) in absurd (omega (arith, lt))
 
 -- one file more
 record-put : (base : BaseType) (plan : Plan) (pieces : List Piece) (number member : ℕ) (files own : List (List ℕ)) (file : List ℕ) (values others : List Value) (count more all : ℕ) → number ≡ member → AtFront files member [] file own

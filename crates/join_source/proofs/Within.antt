@@ -1,16 +1,12 @@
 -- Hyperslabs within lists that stand one behind the other.
-use Rattle.std.proofs.Common.{◌≡◌, ℕ, ◌+◌, ◌-◌, ◌*◌, ◌<◌, ◌≤◌, Bool, true, false, cond, eqb, length, refl, sym, subst, arith}
+use Rattle.std.proofs.Common.{◌≡◌, ℕ, ◌+◌, ◌-◌, ◌*◌, ◌<◌, ◌≤◌, Bool, true, false, cond, eqb, refl, sym, subst, arith}
 use Rattle.std.proofs.lemmas.Bool.{eqb-true}
 use Rattle.std.proofs.lemmas.List.FromFn.{get_or-map-range_with_len, length-map-range_with_len}
+use Rattle.hyperslab_plan.proofs.PickedLemmas.{index-within}
 use Rattle.dap_types.specs.declared.slabs.Slab.{Slab}
-use Rattle.dap_model.specs.Cutting.{IsWithin, indexes}
+use Rattle.dap_model.specs.Cutting.{IsWithin}
 use Rattle.join_source.proofs.PickParts.{are-below, not-below}
 use Rattle.join_source.specs.Cutting.{behind, count_below, front_of}
-
-pub index-below : (s : Slab) (n k : ℕ) → IsWithin s n → k < s.count → s.start + k * s.stride < n
-index-below s n k within lt =
-    let here : k < length (indexes s) = omega (arith, lt, length-map-range_with_len (λ j. s.start + j * s.stride) 0 s.count) in
-    subst (λ i. i < n) (get_or-map-range_with_len (λ j. s.start + j * s.stride) 0 s.count k k 0 lt (omega arith)) (within.1 k 0 here)
 
 -- and back
 pub all-below : (s : Slab) (n : ℕ) → 1 ≤ s.stride → ((k : ℕ) → k < s.count → s.start + k * s.stride < n) → IsWithin s n
@@ -34,5 +30,5 @@ behind-within s m n within = all-below (behind s n) (m - n) within.0 (λ k lt. g
     go k lt true e = absurd (omega (arith, lt, eqb-true s.count (count_below s n) e))
     go k lt false e =
         let over : n ≤ s.start + count_below s n * s.stride = not-below s n within.0 (omega (arith, lt)) in
-        let inside : s.start + (count_below s n + k) * s.stride < m = index-below s m (count_below s n + k) within (omega (arith, lt)) in
+        let inside : s.start + (count_below s n + k) * s.stride < m = index-within s m (count_below s n + k) within (omega (arith, lt)) in
         omega (arith, over, inside, spread (count_below s n) k s.stride)

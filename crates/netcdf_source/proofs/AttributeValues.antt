@@ -1,11 +1,12 @@
 -- The values of an attribute: whole pieces one after the other, and a text without the zero bytes at
 -- its end.
-use Rattle.std.proofs.Common.{◌≡◌, ◌≢◌, ℕ, suc, ◌+◌, ◌-◌, ◌/◌, ◌<◌, ◌≤◌, false, List, [], ◌∷◌, ◌++◌, ◌==◌, length, map, take, drop, refl, sym, ap, ◌∙◌, arith, add-one, append_assoc, append-nil, get_or, lit<}
+use Rattle.std.proofs.Common.{◌≡◌, ◌≢◌, ℕ, suc, ◌+◌, ◌-◌, ◌/◌, ◌<◌, ◌≤◌, List, [], ◌∷◌, ◌++◌, ◌==◌, length, map, take, drop, refl, sym, ap, ◌∙◌, arith, add-one, append_assoc, append-nil, get_or, lit<}
 use Rattle.std.proofs.Math.Bool.{and-false}
 use Rattle.std.proofs.Math.Nat.{add-div_left, div-eq_of_lt}
 use Rattle.std.proofs.Math.Seq.{take-append_seam, drop-append_seam}
 use Rattle.std.proofs.lemmas.Bool.{ne_eqb}
 use Rattle.std.proofs.lemmas.List.{length-append, take_more}
+use Rattle.plain_lemmas.proofs.Lists.{last_length}
 use Rattle.das_text.specs.declared.entries.Word.{Word}
 use Rattle.netcdf_source.specs.Attributes.{pieces, word_of}
 use Rattle.netcdf_source.specs.Types.{size_of}
@@ -40,13 +41,10 @@ end-zero : (front : List ℕ) → without_zeros (front ++ 0 ∷ []) ≡ without_
 end-zero [] = refl
 end-zero (b ∷ bs) = rw (end-zero bs) refl
 
-some-left : (front : List ℕ) (b : ℕ) → (length (front ++ b ∷ []) == 0) ≡ false
-some-left front b = ne_eqb (length (front ++ b ∷ [])) 0 (λ none. omega (arith, length-append front (b ∷ []), none))
-
 -- any other byte at the end stays, and all before it
 end-other : (front : List ℕ) (b : ℕ) → b ≢ 0 → without_zeros (front ++ b ∷ []) ≡ front ++ b ∷ []
 end-other [] b other = rw (ne_eqb b 0 other) refl
-end-other (c ∷ bs) b other = rw (end-other bs b other, some-left bs b, and-false (c == 0)) refl
+end-other (c ∷ bs) b other = rw (end-other bs b other, last_length bs b, and-false (c == 0)) refl
 
 size-some : (t : ExternalType) → 0 < size_of t
 size-some Byte = lit< tt

@@ -2,11 +2,11 @@
 use Rattle.std.proofs.Common.{◌≡◌, ℕ, List, [], Option, Some, None, refl, ap, ◌∙◌}
 use Rattle.std.specs.Prelude.{option_map, slice_get}
 use Rattle.std.specs.Option.{option_map_or}
+use Rattle.std.proofs.lemmas.Option.{slice_get-map}
 use Rattle.dap_types.specs.Names.{file_id}
 use Rattle.netcdf_source.specs.Mapping.{name_at, dimension_ids}
 use Rattle.netcdf_source.specs.declared.header.Contents.{Contents}
 use Rattle.netcdf_source.specs.declared.header.Dimension.{Dimension}
-use Rattle.netcdf_source.proofs.LeafTable.{slice_get-map}
 
 pub name_found : (c : Contents) (names : List (List ℕ)) (i : ℕ) → names ≡ dimension_ids c → option_map_or (λ name. name) (slice_get names i) [] ≡ file_id (name_at c i)
 unfolding name_at

@@ -4,7 +4,7 @@ use Rattle.std.proofs.lemmas.Bool.Decides.{nat_tests}
 use Rattle.std.proofs.lemmas.Slice.Eq.{bytes_eq-Decides}
 use Rattle.std.specs.List.{list_all}
 use Rattle.std.specs.Str.{bytes_eq}
-use Rattle.dap_model.proofs.Tests.{both_true}
+use Rattle.plain_lemmas.proofs.Truths.{both_true}
 use Rattle.dap_types.specs.Names.{is_kept_byte, hex_digit, escaped_byte, file_id}
 
 digit_differs : (a b : ℕ) → hex_digit a ≡ hex_digit b → a ≡ b

@@ -2,6 +2,7 @@
 use Rattle.std.proofs.Common.{◌≡◌, ℕ, ◌<◌, ◌≤◌, ◌⊎◌, inl, inr, Bool, true, false, not, ◌&&◌, cond, ltb, min, List, [], ◌∷◌, ◌++◌, length, Option, Some, None, Result, Ok, Err, MatchResult, refl, sym, ap, subst, ◌∙◌, append-nil, length-append, arith}
 use Rattle.std.specs.Prelude.{IfOk, IfErr, IfSome, IfNone, IsErrAnd}
 use Rattle.std.proofs.lemmas.Bool.{ltb-true, ltb-false}
+use Rattle.plain_lemmas.proofs.Truths.{true_not_false}
 use Rattle.netcdf_source.specs.Header.{contents_of, magic, HasNoMagic, IsHeader, IsFirst, IsCut}
 use Rattle.netcdf_source.specs.declared.version.Version.{Version}
 use Rattle.netcdf_source.specs.inner.Answering.{AnswersFront}
@@ -19,12 +20,9 @@ Answered b result read =
     ((h : Header) × (read ≡ Ok h) × (result ≡ Ok (Some h)))
     ⊎ ((e : HeaderRefusal) × (read ≡ Err e) × (((b ≡ false) × IsCutCause e × (result ≡ Ok None)) ⊎ ((b ≡ false → IsCutCause e → ⊥) × (result ≡ Err e))))
 
-no_false : true ≡ false → ⊥
-no_false e = cc
-
 answered : (b : Bool) (result : Found) (read : Result Header HeaderRefusal) → AnswersFront b result read → Answered b result read
 answered b result (Ok h) a = inl (h, refl, a)
-answered true result (Err e) a = inr (e, refl, inr (λ q cut. no_false q, a))
+answered true result (Err e) a = inr (e, refl, inr (λ q cut. true_not_false q, a))
 answered false result (Err refusals.HeaderCut) a = inr (refusals.HeaderCut, refl, inl (refl, tt, a))
 answered false result (Err refusals.HeaderTooLong) a = inr (refusals.HeaderTooLong, refl, inl (refl, tt, a))
 answered false result (Err refusals.NotCdf) a = inr (refusals.NotCdf, refl, inr (λ q cut. cut, a))

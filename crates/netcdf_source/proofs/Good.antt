@@ -1,8 +1,8 @@
 -- Fields that all stand without a fault, and what their trees then are.
-use Rattle.std.proofs.Common.{◌≡◌, ◌≢◌, ℕ, ◌+◌, ◌^◌, ◌≤◌, inl, inr, Bool, true, false, not, ◌||◌, ◌&&◌, List, [], ◌∷◌, ◌++◌, length, map, sum_by, eqb, ltb, leb, Option, Some, None, Result, Ok, Err, MatchOption, refl, sym, ap, subst, ◌∙◌, arith}
+use Rattle.std.proofs.Common.{◌≡◌, ◌≢◌, ℕ, ◌+◌, ◌^◌, ◌≤◌, inl, inr, Bool, true, false, not, ◌&&◌, List, [], ◌∷◌, ◌++◌, length, map, sum_by, eqb, ltb, leb, Option, Some, None, Result, Ok, Err, MatchOption, refl, sym, ap, subst, ◌∙◌, arith}
 use Rattle.std.specs.List.{list_any}
 use Rattle.std.proofs.lemmas.Bool.Decides.{nat_tests}
-use Rattle.std.proofs.lemmas.Bool.{ltb-false, leb-false, eqb-false}
+use Rattle.std.proofs.lemmas.Bool.{ltb-false, leb-false, eqb-false, or_parts}
 use Rattle.std.proofs.lemmas.List.Sums.{sum_by-cons}
 use Rattle.netcdf_source.specs.Fields.{Fault, bad_if, failure, Judged, Ends}
 use Rattle.netcdf_source.specs.Grammar.{VariableTree, HeaderTree, attribute, variable, contents, external_type, in_turn, list_fields, dimension_fields, attribute_fields, id_fields, variable_fields, header_fields, repeat_fault, length_fault, rank_fault, dimension_fault, size_fault, part_fault, begin_fault, is_record_dimension}
@@ -56,10 +56,6 @@ pub bad_if-none : (b : Bool) (k : ℕ) → bad_if b k ≡ None → b ≡ false
 bad_if-none true k e = absurd cc
 bad_if-none false k e = refl
 
-pub or_no : (a b : Bool) → (a || b) ≡ false → (a ≡ false) × (b ≡ false)
-or_no true b e = absurd cc
-or_no false b e = (refl, e)
-
 pub and_no : (a b : Bool) → (a && b) ≡ false → a ≡ true → b ≡ false
 and_no true b e h = e
 and_no false b e h = absurd cc
@@ -78,7 +74,7 @@ in_turn_good fields says P item before (t ∷ ts) h = (
 dimension_good : (width : Width) (before : List Dimension) (d : Dimension) → AreGood (dimension_fields width before d) → IsDimension before d
 unfolding dimension_fields repeat_fault length_fault
 dimension_good width before d h =
-    let n = or_no (ltb (largest width) d.length) (eqb d.length 0 && list_any is_record_dimension before) (bad_if-none _ _ h.1.1.0) in
+    let n = or_parts (ltb (largest width) d.length) (eqb d.length 0 && list_any is_record_dimension before) (bad_if-none _ _ h.1.1.0) in
     record {
       is_new = bad_if-none _ _ h.1.0;
       one_record = λ has e. absurd (false_true (sym (and_no (eqb d.length 0) (list_any is_record_dimension before) n.1 (is_zero d.length e)) ∙ has));
@@ -93,7 +89,7 @@ dimension_good width before d h =
 id_good : (width : Width) (dims : List Dimension) (before : List ℕ) (n : ℕ) → AreGood (id_fields width dims before n) → IsId dims before n
 unfolding id_fields dimension_fault
 id_good width dims before n h =
-    let p = or_no (leb (length dims) n) (not (eqb (length before) 0) && eqb (length_at dims n) 0) (bad_if-none _ _ h.0) in
+    let p = or_parts (leb (length dims) n) (not (eqb (length before) 0) && eqb (length_at dims n) 0) (bad_if-none _ _ h.0) in
     record {
       within = leb-false _ _ p.0;
       inner = λ some. eqb-false _ _ (and_no (not (eqb (length before) 0)) (eqb (length_at dims n) 0) p.1 (is_some (length before) some));
@@ -114,7 +110,7 @@ variable_good version dims before v h =
     let kind = external_type v.number in
     let after_ids = good_back ids (rest2 version dims sum v.dimensions v.attributes v.number v.size v.begin) h.1.1.1 in
     let after_attributes = good_back (list_fields width 12 (attribute_fields version) attribute v.attributes) (rest3 version dims sum v.dimensions v.number v.size v.begin) after_ids in
-    let bytes = or_no (ltb (2 ^ 62) (part dims v.dimensions kind)) (is_record dims v.dimensions && ltb (2 ^ 62) (sum + share dims v.dimensions kind)) (bad_if-none _ _ after_attributes.1.0) in
+    let bytes = or_parts (ltb (2 ^ 62) (part dims v.dimensions kind)) (is_record dims v.dimensions && ltb (2 ^ 62) (sum + share dims v.dimensions kind)) (bad_if-none _ _ after_attributes.1.0) in
     record {
       is_new = bad_if-none _ _ h.1.0;
       rank = ltb-false _ _ (bad_if-none _ _ h.1.1.0);

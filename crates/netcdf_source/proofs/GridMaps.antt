@@ -7,7 +7,9 @@ use Rattle.std.specs.Option.{option_map_or}
 use Rattle.std.specs.Str.{bytes_eq}
 use Rattle.std.proofs.lemmas.Bool.Decides.{nat_tests}
 use Rattle.std.proofs.lemmas.Slice.Eq.{bytes_eq-Decides}
-use Rattle.dap_model.proofs.Tests.{both_true}
+use Rattle.std.proofs.lemmas.Bool.{or_parts, not-true}
+use Rattle.plain_lemmas.proofs.Lists.{any-map}
+use Rattle.plain_lemmas.proofs.Truths.{both_true}
 use Rattle.netcdf_source.specs.Mapping.{is_char, has_single_bytes, has_texts, element_dimensions, is_offered, has_dimension_name, own_dimension_in, own_dimension, is_coordinate_of, coordinate_at, differ, is_empty, is_grid, coordinate_variable, array_of, maps_of}
 use Rattle.netcdf_source.specs.Parts.{lengths}
 use Rattle.netcdf_source.specs.inner.Sound.{InTurn, IsVariable}
@@ -15,8 +17,7 @@ use Rattle.netcdf_source.specs.Values.{map_variables}
 use Rattle.netcdf_source.specs.declared.header.Contents.{Contents}
 use Rattle.netcdf_source.specs.declared.header.Dimension.{Dimension}
 use Rattle.netcdf_source.specs.declared.header.Variable.{Variable}
-use Rattle.netcdf_source.proofs.Lists.{list_any-map, list_any-push}
-use Rattle.netcdf_source.proofs.Good.{or_no}
+use Rattle.netcdf_source.proofs.Lists.{list_any-push}
 
 abbrev names : List Variable → List (List ℕ)
 names vs = map (λ v. v.name) vs
@@ -29,8 +30,8 @@ IsNew before v = list_any (bytes_eq v.name) (names before) ≡ false
 
 pub new_before : (before : List Variable) (v w : Variable) → IsNew (before ++ v ∷ []) w → IsNew before w × (bytes_eq w.name v.name ≡ false)
 new_before before v w h =
-    or_no (list_any (bytes_eq w.name) (names before)) (bytes_eq w.name v.name)
-    (ap (λ b. b || bytes_eq w.name v.name) (list_any-map (bytes_eq w.name) (λ x. x.name) before) ∙ sym (list_any-push (λ x. bytes_eq w.name x.name) before v) ∙ sym (list_any-map (bytes_eq w.name) (λ x. x.name) (before ++ v ∷ [])) ∙ h)
+    or_parts (list_any (bytes_eq w.name) (names before)) (bytes_eq w.name v.name)
+    (ap (λ b. b || bytes_eq w.name v.name) (any-map (bytes_eq w.name) (λ x. x.name) before) ∙ sym (list_any-push (λ x. bytes_eq w.name x.name) before v) ∙ sym (any-map (bytes_eq w.name) (λ x. x.name) (before ++ v ∷ [])) ∙ h)
 
 pub later_new : (dims : List Dimension) (before vs : List Variable) (k : ℕ) (v : Variable) → InTurn (IsVariable dims) before vs → slice_get vs k ≡ Some v → IsNew before v
 unfolding InTurn
@@ -136,10 +137,6 @@ pub record GridArray (c : Contents) (v : Variable) : Type 0 where
   pub differ : differ v.dimensions ≡ true
   pub coordinates : list_all (λ i. is_some (coordinate_at c i)) v.dimensions ≡ true
 
-pub no : (b : Bool) → not b ≡ true → b ≡ false
-no true q = absurd cc
-no false q = refl
-
 without_texts : (c : Contents) (v : Variable) → is_char v ≡ false → element_dimensions c v ≡ v.dimensions
 unfolding element_dimensions has_texts
 without_texts c v e = go (is_char v) (has_single_bytes (lengths c.dimensions v.dimensions)) e
@@ -155,13 +152,13 @@ grid_array c v e =
     let three = both_true (not (is_char v) && is_none (own_dimension c v) && not (is_empty v.dimensions)) (differ v.dimensions) four.0 in
     let two = both_true (not (is_char v) && is_none (own_dimension c v)) (not (is_empty v.dimensions)) three.0 in
     let one = both_true (not (is_char v)) (is_none (own_dimension c v)) two.0 in
-    record { whole = without_texts c v (no (is_char v) one.0); own = none (own_dimension c v) one.1; some = no (is_empty v.dimensions) two.1; differ = three.1; coordinates = four.1 }
+    record { whole = without_texts c v (not-true (is_char v) one.0); own = none (own_dimension c v) one.1; some = not-true (is_empty v.dimensions) two.1; differ = three.1; coordinates = four.1 }
   where
     none : (o : Option ℕ) → is_none o ≡ true → o ≡ None
     none None q = refl
     none (Some i) q = absurd cc
 
--- a coordinate variable has its dimension alone, is no text, and is offered
+-- a coordinate variable has its dimension alone, is not-true text, and is offered
 pub record OwnFacts (c : Contents) (w : Variable) (i : ℕ) : Type 0 where
   pub alone : w.dimensions ≡ i ∷ []
   pub plain : is_char w ≡ false
@@ -176,7 +173,7 @@ own_facts c w i e = go w.dimensions refl e
     told j (Some d) q =
         let two = both_true (is_offered c w && not (is_char w)) (bytes_eq w.name d.name) q in
         let one = both_true (is_offered c w) (not (is_char w)) two.0 in
-        (no (is_char w) one.1, one.0)
+        (not-true (is_char w) one.1, one.0)
 
     named : (j : ℕ) (b : Bool) → w.dimensions ≡ j ∷ [] → has_dimension_name c j w ≡ b → cond b (Some j) None ≡ Some i → OwnFacts c w i
     named j true alone is q =

@@ -19,7 +19,7 @@ dataset_is_well_formed c front file_name file_len records short is =
     let sound = subst IsSound is.3 (stands_sound is.0 front is.1 short is.2) in
     (dataset_well_formed c file_name sound, dataset_well_formed (with_records records c) file_name (joined_sound records c sound))
 
-has_sizes : (c : Contents) (k : ℕ) (v : Variable) → IsSound c → slice_get c.variables k ≡ Some v → HasSizes c v
+pub has_sizes : (c : Contents) (k : ℕ) (v : Variable) → IsSound c → slice_get c.variables k ≡ Some v → HasSizes c v
 unfolding element_dimensions has_texts
 has_sizes c k v sound at =
     let positive = turn_positive c [] c.variables k v sound.variables at in

@@ -2,6 +2,7 @@
 use Rattle.std.proofs.Common.{◌≡◌, ℕ, zero, suc, ◌<◌, length, get_or, arith, Bool, true, false, cond, List, [], ◌∷◌, map, Option, Some, None, refl, sym, ap, ◌∙◌}
 use Rattle.std.specs.Prelude.{option_map, option_and_then, slice_get}
 use Rattle.std.specs.Option.{option_map_or}
+use Rattle.std.proofs.lemmas.Option.{slice_get-map}
 use Rattle.dap_types.specs.declared.slabs.Layout.{Layout}
 use Rattle.netcdf_source.specs.Layouts.{layout_of}
 use Rattle.netcdf_source.specs.Mapping.{base_of, is_offered, leaf_in, leaves_from, leaf_variable}
@@ -9,11 +10,6 @@ use Rattle.dap_types.specs.declared.declarations.BaseType.{BaseType}
 use Rattle.netcdf_source.specs.inner.Told.{no_layout, told_layout}
 use Rattle.netcdf_source.specs.declared.header.Contents.{Contents}
 use Rattle.netcdf_source.specs.declared.header.Variable.{Variable}
-
-pub slice_get-map : {X Y : Type 0} (f : X → Y) (xs : List X) (i : ℕ) → slice_get (map f xs) i ≡ option_map f (slice_get xs i)
-slice_get-map f [] i = refl
-slice_get-map f (x ∷ xs) zero = refl
-slice_get-map f (x ∷ xs) (suc i) = slice_get-map f xs i
 
 variable_is : (c : Contents) (leaves : List (Option ℕ)) (leaf : ℕ) (found : Option ℕ) → leaves ≡ leaves_from c 0 c.variables → leaf_in leaves leaf ≡ found → leaf_variable c leaf ≡ option_and_then (slice_get c.variables) found
 unfolding leaf_variable

@@ -4,8 +4,8 @@ use Rattle.std.specs.Prelude.{slice_get, is_some, option_and_then}
 use Rattle.std.specs.Option.{option_map_or}
 use Rattle.std.specs.Str.{bytes_eq}
 use Rattle.std.proofs.lemmas.Slice.Eq.{bytes_eq-Decides}
+use Rattle.plain_lemmas.proofs.Truths.{both_true}
 use Rattle.dap_types.specs.Names.{file_id}
-use Rattle.dap_model.proofs.Tests.{both_true}
 use Rattle.netcdf_source.specs.Mapping.{is_char, is_offered, name_at, dimension_ids, has_dimension_name, own_dimension_in, own_dimension, coordinate_at, coordinate_variable}
 use Rattle.netcdf_source.specs.declared.header.Contents.{Contents}
 use Rattle.netcdf_source.specs.declared.header.Dimension.{Dimension}

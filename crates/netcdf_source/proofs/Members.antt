@@ -5,16 +5,16 @@ use Rattle.std.specs.Prelude.{is_some, option_map, option_and_then, slice_get}
 use Rattle.std.specs.List.{list_all, cons_option, enumerate_from, find}
 use Rattle.std.proofs.lemmas.Bool.Decides.{nat_tests}
 use Rattle.std.proofs.lemmas.List.{map-append}
+use Rattle.std.proofs.lemmas.Option.{slice_get-map}
+use Rattle.plain_lemmas.proofs.Truths.{both_true}
 use Rattle.dap_types.specs.Model.{Dataset, Member, scalar, array, grid, members_of, name_of}
 use Rattle.dap_types.specs.Names.{file_id}
 use Rattle.dap_types.specs.WellFormed.{Place, places, part_places, leaf_places, places_of}
 use Rattle.dap_types.specs.declared.declarations.ArrayDecl.{ArrayDecl}
-use Rattle.dap_model.proofs.Tests.{both_true}
 use Rattle.netcdf_source.specs.Laws.{leaf_of, own_leaf, LeavesAgree}
 use Rattle.netcdf_source.specs.Mapping.{element_dimensions, is_offered, coordinate_at, is_empty, is_grid, column_of, array_of, maps_of, member_of, dataset_of, leaves_of, leaves_from, leaf_in, leaf_variable}
 use Rattle.netcdf_source.specs.declared.header.Contents.{Contents}
 use Rattle.netcdf_source.specs.declared.header.Variable.{Variable}
-use Rattle.netcdf_source.proofs.LeafTable.{slice_get-map}
 use Rattle.netcdf_source.proofs.GridMaps.{coordinate_found, grid_array, own_alone, at_front}
 
 -- the leaf of the variable with that number, none where there is no number

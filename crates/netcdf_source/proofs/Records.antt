@@ -1,10 +1,11 @@
 -- The bytes of a record, and the sizes of the variables of a sound header.
-use Rattle.std.proofs.Common.{◌≡◌, ℕ, suc, ◌+◌, ◌^◌, ◌<◌, ◌≤◌, Bool, true, false, cond, eqb, List, [], ◌∷◌, ◌++◌, length, get_or, drop, sum_by, refl, sym, ap, subst, ◌∙◌, add-one, drop-cons, append_assoc, arith}
+use Rattle.std.proofs.Common.{◌≡◌, ℕ, ◌+◌, ◌^◌, ◌<◌, ◌≤◌, Bool, true, false, cond, eqb, List, [], ◌∷◌, ◌++◌, length, get_or, drop, sum_by, refl, sym, subst, append_assoc, arith}
 use Rattle.std.specs.Prelude.{All}
 use Rattle.std.specs.List.{AllByRecursion}
 use Rattle.std.proofs.lemmas.List.{append-nil, drop_all}
 use Rattle.std.proofs.lemmas.List.Sums.{sum_by-cons}
 use Rattle.std.proofs.lemmas.List.Elements.{All-from_recursion}
+use Rattle.plain_lemmas.proofs.Lists.{drop_here}
 use Rattle.netcdf_source.specs.Parts.{is_record, part, share, shares, bare, mark, record_size}
 use Rattle.netcdf_source.specs.inner.Sound.{InTurn, IsVariable, IsSound, HasSize, HaveSizes}
 use Rattle.netcdf_source.specs.declared.header.Contents.{Contents}
@@ -17,16 +18,13 @@ pub size_at : (dims : List Dimension) (vs : List Variable) → HaveSizes dims vs
 unfolding HaveSizes
 size_at dims vs h = All-from_recursion (HasSize dims) vs h
 
-pub next_is : {X : Type 0} (xs : List X) (i : ℕ) (x : X) → i < length xs → x ≡ get_or xs i x → drop i xs ≡ x ∷ drop (i + 1) xs
-next_is xs i x lt e = drop-cons xs i x lt ∙ ap (λ y. y ∷ drop (suc i) xs) (sym e) ∙ ap (λ (k : ℕ). x ∷ drop k xs) (sym (add-one i))
-
 -- one variable more
 pub sum_next : {X : Type 0} (f : X → ℕ) (xs : List X) (i : ℕ) (x : X) → i < length xs → x ≡ get_or xs i x → sum_by f (drop i xs) ≡ f x + sum_by f (drop (i + 1) xs)
-sum_next f xs i x lt e = rw (next_is xs i x lt e) (sum_by-cons f x (drop (i + 1) xs))
+sum_next f xs i x lt e = rw (drop_here xs i x lt e) (sum_by-cons f x (drop (i + 1) xs))
 
 pub shares_next : (dims : List Dimension) (vs : List Variable) (i : ℕ) (v : Variable) → i < length vs → v ≡ get_or vs i v → shares dims (drop i vs) ≡ share dims v.dimensions v.external_type + shares dims (drop (i + 1) vs)
 unfolding shares
-shares_next dims vs i v lt e = rw (next_is vs i v lt e) refl
+shares_next dims vs i v lt e = rw (drop_here vs i v lt e) refl
 
 one_or_none : (b : Bool) → cond b 1 0 ≤ 1
 one_or_none true = omega arith

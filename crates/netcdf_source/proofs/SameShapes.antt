@@ -2,8 +2,11 @@
 use Rattle.std.proofs.Common.{◌≡◌, ℕ, suc, Bool, true, false, ◌&&◌, eqb, List, [], ◌∷◌, length, map, get_or, refl, sym, ap, ◌∙◌}
 use Rattle.std.specs.Str.{bytes_eq}
 use Rattle.std.proofs.lemmas.Bool.Decides.{Decides-eqb}
-use Rattle.std.proofs.lemmas.Slice.Eq.{bytes_eq-Decides}
-use Rattle.dap_model.proofs.Tests.{both_true}
+use Rattle.std.proofs.lemmas.Bool.{and_from}
+use Rattle.netcdf_source.proofs.Trees.{map-same}
+use Rattle.plain_lemmas.proofs.Lists.{same_bytes, bytes_itself}
+use Rattle.plain_lemmas.proofs.Numbers.{equal_itself}
+use Rattle.plain_lemmas.proofs.Truths.{both_true}
 use Rattle.netcdf_source.specs.Mapping.{VariableShape, shape_of, HaveSameShape}
 use Rattle.netcdf_source.specs.inner.Shapes.{all_same, type_number, same_dimension, same_variable, have_same_shape}
 use Rattle.netcdf_source.specs.declared.external_type.ExternalType.{ExternalType}
@@ -42,15 +45,6 @@ same_type t u e = one_is t u (sym (numbered_is t) ∙ ap numbered e ∙ numbered
 same_number : (m n : ℕ) → eqb m n ≡ true → m ≡ n
 same_number m n e = (Decides-eqb m n).0 e
 
-same_bytes : (xs ys : List ℕ) → bytes_eq xs ys ≡ true → xs ≡ ys
-same_bytes xs ys e = (bytes_eq-Decides xs ys).0 e
-
-eqb_refl : (n : ℕ) → eqb n n ≡ true
-eqb_refl n = (Decides-eqb n n).1 refl
-
-bytes_refl : (xs : List ℕ) → bytes_eq xs xs ≡ true
-bytes_refl xs = (bytes_eq-Decides xs xs).1 refl
-
 dimension_is : (d e : Dimension) → same_dimension d e ≡ true → d ≡ e
 unfolding same_dimension
 dimension_is d e h =
@@ -61,7 +55,7 @@ dimension_is d e h =
 
 dimension_same : (d e : Dimension) → d ≡ e → same_dimension d e ≡ true
 unfolding same_dimension
-dimension_same d e h = rw h (rw (eqb_refl e.length, bytes_refl e.name) refl)
+dimension_same d e h = rw h (rw (equal_itself e.length, bytes_itself e.name) refl)
 
 variable_is : (v w : Variable) → same_variable v w ≡ true → shape_of v ≡ shape_of w
 unfolding same_variable
@@ -79,13 +73,9 @@ variable_same v w h =
     let t : v.external_type ≡ w.external_type = ap (λ (s : VariableShape). s.external_type) h in
     let d : v.dimensions ≡ w.dimensions = ap (λ (s : VariableShape). s.dimensions) h in
     let n : v.name ≡ w.name = ap (λ (s : VariableShape). s.name) h in
-    rw (t, d, n) (rw (eqb_refl (type_number w.external_type), bytes_refl w.dimensions, bytes_refl w.name) refl)
+    rw (t, d, n) (rw (equal_itself (type_number w.external_type), bytes_itself w.dimensions, bytes_itself w.name) refl)
 
 -- ---- lists
-
-both : (a b : Bool) → a ≡ true → b ≡ true → (a && b) ≡ true
-both true b e h = h
-both false b e h = absurd cc
 
 lists_are : {X Y : Type 0} (same : X → X → Bool) (f : X → Y) → ((x y : X) → same x y ≡ true → f x ≡ f y) → (xs ys : List X) → all_same same xs ys ≡ true → map f xs ≡ map f ys
 unfolding all_same
@@ -103,26 +93,22 @@ unfolding all_same
 lists_same same f one [] [] h = refl
 lists_same same f one [] (y ∷ ys) h = absurd cc
 lists_same same f one (x ∷ xs) [] h = absurd cc
-lists_same same f one (x ∷ xs) (y ∷ ys) h = both (same x y) (all_same same xs ys) (one x y cc) (lists_same same f one xs ys cc)
-
-map_id : {X : Type 0} (xs : List X) → map (λ x. x) xs ≡ xs
-map_id [] = refl
-map_id (x ∷ xs) = ap (λ ys. x ∷ ys) (map_id xs)
+lists_same same f one (x ∷ xs) (y ∷ ys) h = and_from (same x y) (all_same same xs ys) (one x y cc) (lists_same same f one xs ys cc)
 
 pub shapes_are : (c d : Contents) → have_same_shape c d ≡ true → HaveSameShape c d
 unfolding have_same_shape
 shapes_are c d h =
     let p = both_true (all_same same_dimension c.dimensions d.dimensions) (all_same same_variable c.variables d.variables) h in
     record {
-      dimensions = sym (map_id c.dimensions) ∙ lists_are same_dimension (λ x. x) dimension_is c.dimensions d.dimensions p.0 ∙ map_id d.dimensions;
+      dimensions = sym (map-same c.dimensions) ∙ lists_are same_dimension (λ x. x) dimension_is c.dimensions d.dimensions p.0 ∙ map-same d.dimensions;
       variables = lists_are same_variable shape_of variable_is c.variables d.variables p.1;
     }
 
 pub shapes_same : (c d : Contents) → HaveSameShape c d → have_same_shape c d ≡ true
 unfolding have_same_shape
 shapes_same c d h =
-    both (all_same same_dimension c.dimensions d.dimensions) (all_same same_variable c.variables d.variables)
-    (lists_same same_dimension (λ x. x) dimension_same c.dimensions d.dimensions (map_id c.dimensions ∙ h.dimensions ∙ sym (map_id d.dimensions)))
+    and_from (all_same same_dimension c.dimensions d.dimensions) (all_same same_variable c.variables d.variables)
+    (lists_same same_dimension (λ x. x) dimension_same c.dimensions d.dimensions (map-same c.dimensions ∙ h.dimensions ∙ sym (map-same d.dimensions)))
     (lists_same same_variable shape_of variable_same c.variables d.variables h.variables)
 
 -- ---- along the lists

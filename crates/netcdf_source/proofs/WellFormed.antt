@@ -1,13 +1,16 @@
 -- The dataset of a sound header is well formed.
-use Rattle.std.proofs.Common.{◌≡◌, ℕ, zero, suc, ◌-◌, ◌≤◌, Bool, true, false, not, ◌||◌, cond, eqb, List, [], ◌∷◌, ◌++◌, length, map, take, filter, All, Contains, sum_by, Option, Some, None, refl, sym, ap, subst, ◌∙◌, append_assoc, arith}
+use Rattle.std.proofs.Common.{◌≡◌, ℕ, zero, suc, ◌-◌, ◌≤◌, Bool, true, false, not, cond, eqb, List, [], ◌∷◌, ◌++◌, length, map, take, filter, All, Contains, sum_by, Option, Some, None, refl, sym, ap, subst, ◌∙◌, append_assoc, arith}
 use Rattle.std.specs.Prelude.{slice_get}
 use Rattle.std.specs.List.{list_any, cons_option, AllZip}
 use Rattle.std.specs.Str.{bytes_eq}
-use Rattle.std.proofs.lemmas.Bool.Decides.{nat_tests, not_from_Decides}
+use Rattle.std.proofs.lemmas.Bool.Decides.{not_from_Decides}
 use Rattle.std.proofs.lemmas.List.{length-map, length-take}
 use Rattle.std.proofs.lemmas.List.Elements.{All-nil, All-cons, All-append, All-map}
 use Rattle.std.proofs.lemmas.List.Sums.{sum_by-cons}
 use Rattle.std.proofs.lemmas.Slice.Eq.{bytes_eq-Decides}
+use Rattle.std.proofs.lemmas.Bool.{or_from, or_right, not-true}
+use Rattle.plain_lemmas.proofs.Numbers.{equal_itself}
+use Rattle.plain_lemmas.proofs.Truths.{both_true}
 use Rattle.dap_types.specs.Model.{Member, scalar, array, grid, members_of, name_of, count, count_all, sizes}
 use Rattle.dap_types.specs.Names.{file_id}
 use Rattle.dap_types.specs.WellFormed.{place, places, part_places, leaf_places, IsSized, HasMaps, IsWellFormed}
@@ -21,9 +24,8 @@ use Rattle.netcdf_source.specs.declared.header.Variable.{Variable}
 use Rattle.netcdf_source.specs.inner.Told.{AreSmall}
 use Rattle.netcdf_source.proofs.Offered.{elements_small}
 use Rattle.netcdf_source.proofs.EscapedNames.{same_names}
-use Rattle.dap_model.proofs.Tests.{both_true}
 use Rattle.netcdf_source.specs.Values.{map_variables}
-use Rattle.netcdf_source.proofs.GridMaps.{no, GridArray, grid_array, own_alone, own_offered, at_front, IsNew, new_before, one_name, IsOwn, own_variables, maps_are}
+use Rattle.netcdf_source.proofs.GridMaps.{GridArray, grid_array, own_alone, own_offered, at_front, IsNew, new_before, one_name, IsOwn, own_variables, maps_are}
 
 -- ---- names of a level
 
@@ -34,9 +36,6 @@ IsFree earlier name = list_any (bytes_eq name) earlier ≡ false
 free_name : (earlier : List (List ℕ)) (name : List ℕ) → IsFree earlier name → ¬ Contains earlier name
 free_name earlier name free = not_from_Decides (list_any (bytes_eq name) earlier) (earlier-Decides name earlier) free
 
-neither : (a b : Bool) → a ≡ false → b ≡ false → (a || b) ≡ false
-neither a b p q = rw (p, q) refl
-
 -- names of a file that were not met are free
 abbrev AreFree : List Variable → List (List ℕ) → Type 0
 AreFree before earlier = (w : Variable) → IsNew before w → IsFree earlier (file_id w.name)
@@ -44,7 +43,7 @@ AreFree before earlier = (w : Variable) → IsNew before w → IsFree earlier (f
 free_next : (before : List Variable) (earlier : List (List ℕ)) (v : Variable) → AreFree before earlier → AreFree (before ++ v ∷ []) (file_id v.name ∷ earlier)
 free_next before earlier v free w new =
     let n = new_before before v w new in
-    neither (bytes_eq (file_id w.name) (file_id v.name)) (list_any (bytes_eq (file_id w.name)) earlier) (same_names w.name v.name ∙ n.1) (free w n.0)
+    or_from (bytes_eq (file_id w.name) (file_id v.name)) (list_any (bytes_eq (file_id w.name)) earlier) (same_names w.name v.name ∙ n.1) (free w n.0)
 
 free_same : (before : List Variable) (earlier : List (List ℕ)) (v : Variable) → AreFree before earlier → AreFree (before ++ v ∷ []) earlier
 free_same before earlier v free w new = free w (new_before before v w new).0
@@ -101,18 +100,11 @@ names_apart c k l v w h at at' apart =
 abbrev AreUnmet : Contents → List ℕ → List (List ℕ) → Type 0
 AreUnmet c ids earlier = (w : Variable) (i : ℕ) → IsOwn c w i → list_any (λ j. eqb j i) ids ≡ true → IsFree earlier (file_id w.name)
 
-either : (a b : Bool) → b ≡ true → (a || b) ≡ true
-either true b e = refl
-either false b e = e
-
-eqb_same : (i : ℕ) → eqb i i ≡ true
-eqb_same i = grind (arith, nat_tests)
-
 unmet_next : (c : Contents) (i : ℕ) (ids : List ℕ) (earlier : List (List ℕ)) (w : Variable) → IsSound c → IsOwn c w i → list_any (λ j. eqb j i) ids ≡ false → AreUnmet c (i ∷ ids) earlier → AreUnmet c ids (file_id w.name ∷ earlier)
 unmet_next c i ids earlier w h is fresh unmet u k own among =
-    neither (bytes_eq (file_id u.name) (file_id w.name)) (list_any (bytes_eq (file_id u.name)) earlier)
+    or_from (bytes_eq (file_id u.name) (file_id w.name)) (list_any (bytes_eq (file_id u.name)) earlier)
     (names_apart c own.0.0 is.0.0 u w h own.0.1 is.0.1 (λ same. apart (some_is k i (sym own.1 ∙ same ∙ is.1))))
-    (unmet u k own (either (eqb i k) (list_any (λ j. eqb j k) ids) among))
+    (unmet u k own (or_right (eqb i k) (list_any (λ j. eqb j k) ids) among))
   where
     some_is : (a b : ℕ) → Path (Option ℕ) (Some a) (Some b) → a ≡ b
     some_is a b q = cc
@@ -130,10 +122,10 @@ maps_obey c [] ids earlier h zip apart unmet = All-nil Obeys
 maps_obey c (w ∷ ws) [] earlier h zip apart unmet = absurd zip
 maps_obey c (w ∷ ws) (i ∷ ids) earlier h zip apart unmet =
     let parts = both_true (not (list_any (λ j. eqb j i) ids)) (differ ids) apart in
-    let here : list_any (λ j. eqb j i) (i ∷ ids) ≡ true = rw (eqb_same i) refl in
+    let here : list_any (λ j. eqb j i) (i ∷ ids) ≡ true = rw (equal_itself i) refl in
     All-cons Obeys (place 2 earlier (array (array_of c w))) (leaf_places 2 (file_id w.name ∷ earlier) (map array (map (array_of c) ws)))
     (record { shallow = omega arith; name_differs = free_name earlier (file_id w.name) (unmet w i zip.0 here); sized = own_sized c w i zip.0; mapped = tt })
-    (maps_obey c ws ids (file_id w.name ∷ earlier) h zip.1 parts.1 (unmet_next c i ids earlier w h zip.0 (no (list_any (λ j. eqb j i) ids) parts.0) unmet))
+    (maps_obey c ws ids (file_id w.name ∷ earlier) h zip.1 parts.1 (unmet_next c i ids earlier w h zip.0 (not-true (list_any (λ j. eqb j i) ids) parts.0) unmet))
 
 maps_fit : (c : Contents) (ws : List Variable) (ids : List ℕ) → AllZip (IsOwn c) ws ids → AllZip (λ m n. sizes m ≡ n ∷ []) (map (array_of c) ws) (map (size_at c) ids)
 maps_fit c [] [] zip = tt
@@ -153,7 +145,7 @@ grid_obeys c v h one told rank g =
     let zip = own_variables c v.dimensions g.coordinates in
     let ns : sizes (array_of c v) ≡ map (size_at c) v.dimensions = dims_sizes c (element_dimensions c v) ∙ ap (map (size_at c)) g.whole in
     let ws = map_variables c v.dimensions in
-    let unmet : AreUnmet c v.dimensions (file_id v.name ∷ []) = λ w i own among. neither (bytes_eq (file_id w.name) (file_id v.name)) false (names_apart c own.0.0 one.0 w v h own.0.1 one.1 (λ same. none_some i (sym own.1 ∙ same ∙ g.own))) refl in (
+    let unmet : AreUnmet c v.dimensions (file_id v.name ∷ []) = λ w i own among. or_from (bytes_eq (file_id w.name) (file_id v.name)) false (names_apart c own.0.0 one.0 w v h own.0.1 one.1 (λ same. none_some i (sym own.1 ∙ same ∙ g.own))) refl in (
       rw (maps_are c v.dimensions, ns) (maps_fit c ws v.dimensions zip),
       subst (λ maps. All Obeys (leaf_places 2 [] (map array (array_of c v ∷ maps)))) (sym (maps_are c v.dimensions))
           (All-cons Obeys (place 2 [] (array (array_of c v))) (leaf_places 2 (file_id v.name ∷ []) (map array (map (array_of c) ws)))

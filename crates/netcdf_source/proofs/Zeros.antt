@@ -1,7 +1,7 @@
 -- A text without the zero bytes at its end.
 use Rattle.std.proofs.Common.{◌≡◌, ℕ, suc, Bool, true, false, ◌&&◌, cond, eqb, List, [], ◌∷◌, ◌++◌, length, replicate, refl, ap, ◌∙◌, arith}
 use Rattle.std.proofs.lemmas.Bool.Decides.{nat_tests}
-use Rattle.dap_model.proofs.Tests.{both_true}
+use Rattle.plain_lemmas.proofs.Truths.{both_true}
 use Rattle.netcdf_source.specs.Laws.{ZerosAreCut}
 use Rattle.netcdf_source.specs.Values.{without_zeros}
 

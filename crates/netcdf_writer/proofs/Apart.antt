@@ -1,20 +1,21 @@
 -- The names of the variables that are stored differ.
 use Rattle.std.proofs.Common.{◌≡◌, ℕ, ◌+◌, Bool, true, false, not, ◌&&◌, ◌||◌, cond, List, [], ◌∷◌, ◌++◌, map, filter, find, All, Option, Some, None, is_some, refl, ap, sym, ◌∙◌, append_assoc, if◌then◌else◌}
 use Rattle.std.specs.Bool.{⊤}
-use Rattle.std.proofs.lemmas.Bool.{true≢false}
+use Rattle.std.proofs.lemmas.Bool.{true≢false, or_parts, or_from, or_right}
 use Rattle.std.proofs.lemmas.List.Folds.{find-append}
 use Rattle.std.proofs.lemmas.Slice.Eq.{bytes_eq-Decides}
 use Rattle.std.specs.Prelude.{Contains}
 use Rattle.std.specs.List.{AllByRecursion, list_any}
 use Rattle.std.specs.Option.{option_map_or, option_or}
 use Rattle.std.specs.Str.{bytes_eq}
+use Rattle.plain_lemmas.proofs.Lists.{same_bytes}
+use Rattle.plain_lemmas.proofs.Truths.{both_true}
 use Rattle.dap_types.proofs.Rules.{earlier-Decides}
 use Rattle.dap_types.specs.Model.{Member, scalar, array, structure, grid, sequence, Members, no_members, member, Dataset, Tree, kids, count, name_of}
 use Rattle.dap_types.specs.WellFormed.{IsWellFormed, Place, leaf_places, part_places, places, places_of}
 use Rattle.dap_types.specs.declared.declarations.ArrayDecl.{ArrayDecl}
 use Rattle.dap_model.proofs.Values.{all_first, all_rest}
 use Rattle.netcdf_writer.proofs.DimsBack.{find_any}
-use Rattle.netcdf_writer.proofs.FileNames.{or_none}
 use Rattle.netcdf_writer.proofs.Fitting.{first_none}
 use Rattle.netcdf_writer.proofs.Planning.{cause_step, maps_one, no_other_kind}
 use Rattle.netcdf_writer.specs.Causes.{clashes, first_cause, has_bad_name, has_bad_zero, is_bad_grid, is_other_kind, is_other_than, lacks_name, map_clashes, why}
@@ -47,35 +48,24 @@ all_kept {X} P p (x ∷ xs) all = chosen (p x) (all_kept P p xs all.1)
     chosen true rest = (all.0, rest)
     chosen false rest = rest
 
-or_yes : (b c : Bool) → c ≡ true → (b || c) ≡ true
-or_yes true c e = refl
-or_yes false c e = e
-
-pub or_both : (b c : Bool) → b ≡ false → c ≡ false → (b || c) ≡ false
-or_both true c e f = cc e
-or_both false c e f = f
-
 any_left : {X : Type 0} (p : X → Bool) (xs ys : List X) → list_any p (xs ++ ys) ≡ false → list_any p xs ≡ false
 any_left p [] ys e = refl
-any_left p (x ∷ xs) ys e = let both = or_none (p x) (list_any p (xs ++ ys)) e in or_both (p x) (list_any p xs) both.0 (any_left p xs ys both.1)
+any_left p (x ∷ xs) ys e = let both = or_parts (p x) (list_any p (xs ++ ys)) e in or_from (p x) (list_any p xs) both.0 (any_left p xs ys both.1)
 
 any_right : {X : Type 0} (p : X → Bool) (xs ys : List X) → list_any p (xs ++ ys) ≡ false → list_any p ys ≡ false
 any_right p [] ys e = e
-any_right p (x ∷ xs) ys e = any_right p xs ys (or_none (p x) (list_any p (xs ++ ys)) e).1
+any_right p (x ∷ xs) ys e = any_right p xs ys (or_parts (p x) (list_any p (xs ++ ys)) e).1
 
 any_join : {X : Type 0} (p : X → Bool) (xs ys : List X) → list_any p xs ≡ false → list_any p ys ≡ false → list_any p (xs ++ ys) ≡ false
 any_join p [] ys a b = b
-any_join p (x ∷ xs) ys a b = let both = or_none (p x) (list_any p xs) a in or_both (p x) (list_any p (xs ++ ys)) both.0 (any_join p xs ys both.1 b)
-
-same_name : (a b : List ℕ) → bytes_eq a b ≡ true → a ≡ b
-same_name a b e = (bytes_eq-Decides a b).0 e
+any_join p (x ∷ xs) ys a b = let both = or_parts (p x) (list_any p xs) a in or_from (p x) (list_any p (xs ++ ys)) both.0 (any_join p xs ys both.1 b)
 
 other_name : (a b : List ℕ) → (a ≡ b → ⊥) → bytes_eq a b ≡ false
 other_name a b apart = chosen (bytes_eq a b) refl
   where
     chosen : (t : Bool) → bytes_eq a b ≡ t → t ≡ false
     chosen false e = refl
-    chosen true e = absurd (apart (same_name a b e))
+    chosen true e = absurd (apart (same_bytes a b e))
 
 turned_name : (a b : List ℕ) → bytes_eq a b ≡ false → bytes_eq b a ≡ false
 turned_name a b e = other_name b a (λ is. true≢false (sym ((bytes_eq-Decides a b).1 (sym is)) ∙ e))
@@ -118,12 +108,12 @@ has_none all earlier top e =
 
 pub no_map_clash : (all earlier : List Top) (top : Top) → HasNone all earlier top → list_any (map_clashes all earlier) (maps_of top) ≡ false
 unfolding clashes
-no_map_clash all earlier top none = (or_none (list_any (map_clashes all earlier) (maps_of top)) _ none.clash).0
+no_map_clash all earlier top none = (or_parts (list_any (map_clashes all earlier) (maps_of top)) _ none.clash).0
 
 -- no top member is of another kind
 kinds : (all earlier tops : List Top) → NoCauses all earlier tops → list_any (λ (top : Top). is_other_kind top.0) tops ≡ false
 kinds all earlier [] none = refl
-kinds all earlier (top ∷ tops) none = or_both (is_other_kind top.0) _ (no_other_kind all earlier top none.0) (kinds all (earlier ++ top ∷ []) tops none.1)
+kinds all earlier (top ∷ tops) none = or_from (is_other_kind top.0) _ (no_other_kind all earlier top none.0) (kinds all (earlier ++ top ∷ []) tops none.1)
 
 -- ---- names of top members and of the parts of a Grid
 
@@ -149,14 +139,14 @@ later_parts : (q : List ℕ) (depth : ℕ) (earlier : List (List ℕ)) (arrays :
     → list_any (λ b. bytes_eq q b.name) arrays ≡ false
 later_parts q depth earlier [] there all = refl
 later_parts q depth earlier (a ∷ arrays) there all =
-    or_both (bytes_eq q a.name) _ (apart_from q a.name earlier there all.0) (later_parts q depth (a.name ∷ earlier) arrays (or_yes (bytes_eq q a.name) (list_any (bytes_eq q) earlier) there) all.1)
+    or_from (bytes_eq q a.name) _ (apart_from q a.name earlier there all.0) (later_parts q depth (a.name ∷ earlier) arrays (or_right (bytes_eq q a.name) (list_any (bytes_eq q) earlier) there) all.1)
 
 later_tops : (q : List ℕ) (depth : ℕ) (earlier : List (List ℕ)) (ms : Members) (ts : List Tree) → list_any (bytes_eq q) earlier ≡ true → AllByRecursion IsNew (places depth earlier ms) → list_any (NamedTop q) (tops_of ms ts) ≡ false
 later_tops q depth earlier no_members ts there all = refl
 later_tops q depth earlier (member m ms) [] there all = refl
 later_tops q depth earlier (member m ms) (t ∷ ts) there all =
-    or_both (bytes_eq q (name_of m)) _ (apart_from q (name_of m) earlier there all.0)
-    (later_tops q depth (name_of m ∷ earlier) ms ts (or_yes (bytes_eq q (name_of m)) (list_any (bytes_eq q) earlier) there) (all_right IsNew (part_places (depth + 1) m) (places depth (name_of m ∷ earlier) ms) all.1))
+    or_from (bytes_eq q (name_of m)) _ (apart_from q (name_of m) earlier there all.0)
+    (later_tops q depth (name_of m ∷ earlier) ms ts (or_right (bytes_eq q (name_of m)) (list_any (bytes_eq q) earlier) there) (all_right IsNew (part_places (depth + 1) m) (places depth (name_of m ∷ earlier) ms) all.1))
 
 own_yes : (q : List ℕ) (earlier : List (List ℕ)) → list_any (bytes_eq q) (q ∷ earlier) ≡ true
 own_yes q earlier = ap (λ b. b || list_any (bytes_eq q) earlier) ((bytes_eq-Decides q q).1 refl)
@@ -172,10 +162,10 @@ apart_join (x ∷ xs) ys a b none = (any_join (has_name x.name) xs ys a.0 none.0
 
 any_kept : (q p : Variable → Bool) (xs : List Variable) → list_any q xs ≡ false → list_any q (filter p xs) ≡ false
 any_kept q p [] e = refl
-any_kept q p (x ∷ xs) e = let both = or_none (q x) (list_any q xs) e in chosen (p x) both.0 (any_kept q p xs both.1)
+any_kept q p (x ∷ xs) e = let both = or_parts (q x) (list_any q xs) e in chosen (p x) both.0 (any_kept q p xs both.1)
   where
     chosen : (b : Bool) → q x ≡ false → list_any q (filter p xs) ≡ false → list_any q (cond b (x ∷ filter p xs) (filter p xs)) ≡ false
-    chosen true e rest = or_both (q x) (list_any q (filter p xs)) e rest
+    chosen true e rest = or_from (q x) (list_any q (filter p xs)) e rest
     chosen false e rest = rest
 
 apart_kept : (p : Variable → Bool) (xs : List Variable) → AreApart xs → AreApart (filter p xs)
@@ -189,7 +179,7 @@ apart_kept p (x ∷ xs) apart = chosen (p x) (apart_kept p xs apart.1)
 named_arrays : (q : List ℕ) (arrays : List ArrayDecl) (ts : List Tree) → list_any (λ b. bytes_eq q b.name) arrays ≡ false → list_any (has_name q) (array_variables arrays ts) ≡ false
 named_arrays q [] ts e = refl
 named_arrays q (a ∷ arrays) [] e = refl
-named_arrays q (a ∷ arrays) (t ∷ ts) e = let both = or_none (bytes_eq q a.name) _ e in or_both (bytes_eq q a.name) _ both.0 (named_arrays q arrays ts both.1)
+named_arrays q (a ∷ arrays) (t ∷ ts) e = let both = or_parts (bytes_eq q a.name) _ e in or_from (bytes_eq q a.name) _ both.0 (named_arrays q arrays ts both.1)
 
 arrays_apart : (depth : ℕ) (earlier : List (List ℕ)) (arrays : List ArrayDecl) (ts : List Tree) → AllByRecursion IsNew (leaf_places depth earlier (map array arrays)) → AreApart (array_variables arrays ts)
 arrays_apart depth earlier [] ts all = tt
@@ -212,12 +202,12 @@ unnot_or false c e = cc e
 
 own_named : (q : List ℕ) (m : Member) (t : Tree) → is_bad_grid m ≡ false → bytes_eq q (name_of m) ≡ false → list_any (has_name q) (own (m, t)) ≡ false
 unfolding own is_bad_grid
-own_named q (scalar c) t good other = or_both (bytes_eq q c.name) false other refl
-own_named q (array a) t good other = or_both (bytes_eq q a.name) false other refl
+own_named q (scalar c) t good other = or_from (bytes_eq q c.name) false other refl
+own_named q (array a) t good other = or_from (bytes_eq q a.name) false other refl
 own_named q (structure name parts) t good other = refl
 own_named q (sequence name columns) t good other = refl
 own_named q (grid name a maps) t good other =
-    named_arrays q (a ∷ []) (kids t) (or_both (bytes_eq q a.name) false (ap (bytes_eq q) (same_name a.name name (unnot_or (bytes_eq a.name name) _ good)) ∙ other) refl)
+    named_arrays q (a ∷ []) (kids t) (or_from (bytes_eq q a.name) false (ap (bytes_eq q) (same_bytes a.name name (unnot_or (bytes_eq a.name name) _ good)) ∙ other) refl)
 
 own_apart : (top : Top) → AreApart (own top)
 unfolding own
@@ -242,7 +232,7 @@ own_names (grid name a maps) t good = one (kids t)
   where
     one : (ts : List Tree) → AllByRecursion (λ (v : Variable). v.name ≡ name) (array_variables (a ∷ []) ts)
     one [] = tt
-    one (t ∷ ts) = (same_name a.name name (unnot_or (bytes_eq a.name name) _ good), tt)
+    one (t ∷ ts) = (same_bytes a.name name (unnot_or (bytes_eq a.name name) _ good), tt)
 
 -- ---- a map that is stored has the name of no top member
 
@@ -255,13 +245,9 @@ no_top_of v (Some (array a, t)) new clash kind = cc new
 no_top_of v (Some (structure name parts, t)) new clash kind = cc kind
 no_top_of v (Some (sequence name columns, t)) new clash kind = cc kind
 
-and_yes : (b c : Bool) → (b && c) ≡ true → (b ≡ true) × (c ≡ true)
-and_yes true c e = (refl, e)
-and_yes false c e = cc e
-
 found_kind : (p : Top → Bool) (tops : List Top) → list_any (λ (top : Top). is_other_kind top.0) tops ≡ false → option_map_or (λ (top : Top). is_other_kind top.0) (find p tops) false ≡ false
 found_kind p [] e = refl
-found_kind p (top ∷ tops) e = let both = or_none (is_other_kind top.0) _ e in chosen (p top) both.0 (found_kind p tops both.1)
+found_kind p (top ∷ tops) e = let both = or_parts (is_other_kind top.0) _ e in chosen (p top) both.0 (found_kind p tops both.1)
   where
     chosen : (b : Bool) → is_other_kind top.0 ≡ false → option_map_or (λ (top : Top). is_other_kind top.0) (find p tops) false ≡ false → option_map_or (λ (top : Top). is_other_kind top.0) (cond b (Some top) (find p tops)) false ≡ false
     chosen true e rest = e
@@ -273,7 +259,7 @@ HaveKinds all = list_any (λ (top : Top). is_other_kind top.0) all ≡ false
 no_top : (all earlier : List Top) (v : Variable) → HaveKinds all → is_new all earlier v ≡ true → map_clashes all earlier v ≡ false → top_named v.name all ≡ None
 unfolding is_new map_clashes
 no_top all earlier v have new clash =
-    no_top_of v (top_named v.name all) (and_yes (not (option_map_or is_array (top_named v.name all) false)) _ new).0 (or_none (option_map_or (is_other_than v) (top_named v.name all) false) _ clash).0
+    no_top_of v (top_named v.name all) (both_true (not (option_map_or is_array (top_named v.name all) false)) _ new).0 (or_parts (option_map_or (is_other_than v) (top_named v.name all) false) _ clash).0
     (found_kind (λ top. bytes_eq v.name (name_of top.0)) all have)
 
 none_tops : (q : List ℕ) (all : List Top) → top_named q all ≡ None → list_any (NamedTop q) all ≡ false
@@ -285,14 +271,14 @@ kept_unnamed : (q : List ℕ) (all earlier : List Top) (maps : List Variable) �
     → list_any (has_name q) (filter (is_new all earlier) maps) ≡ false
 kept_unnamed q all earlier [] have there none = refl
 kept_unnamed q all earlier (m ∷ maps) have there none =
-    let both = or_none (map_clashes all earlier m) _ none in
+    let both = or_parts (map_clashes all earlier m) _ none in
     chosen (is_new all earlier m) refl both.0 (kept_unnamed q all earlier maps have there both.1)
   where
     chosen : (b : Bool) → is_new all earlier m ≡ b → map_clashes all earlier m ≡ false → list_any (has_name q) (filter (is_new all earlier) maps) ≡ false
         → list_any (has_name q) (cond b (m ∷ filter (is_new all earlier) maps) (filter (is_new all earlier) maps)) ≡ false
     chosen false e clash rest = rest
     chosen true e clash rest =
-        or_both (bytes_eq q m.name) _ (other_name q m.name (λ is. true≢false (sym there ∙ ap (λ l. is_some (top_named l all)) is ∙ ap is_some (no_top all earlier m have e clash)))) rest
+        or_from (bytes_eq q m.name) _ (other_name q m.name (λ is. true≢false (sym there ∙ ap (λ l. is_some (top_named l all)) is ∙ ap is_some (no_top all earlier m have e clash)))) rest
 
 top_unstored : (q : List ℕ) (all earlier tops : List Top) → HaveKinds all → is_some (top_named q all) ≡ true → NoCauses all earlier tops → list_any (NamedTop q) tops ≡ false → list_any (has_name q) (stored_from all earlier tops) ≡ false
 unfolding stored_from stored
@@ -300,7 +286,7 @@ top_unstored q all earlier [] have there none other = refl
 top_unstored q all earlier ((m, t) ∷ tops) have there none other =
     let top : Top = (m, t) in
     let facts = has_none all earlier top none.0 in
-    let both = or_none (bytes_eq q (name_of m)) _ other in
+    let both = or_parts (bytes_eq q (name_of m)) _ other in
     any_join (has_name q) (filter (is_new all earlier) (maps_of top) ++ own top) (stored_from all (earlier ++ top ∷ []) tops)
     (any_join (has_name q) (filter (is_new all earlier) (maps_of top)) (own top) (kept_unnamed q all earlier (maps_of top) have there (no_map_clash all earlier top facts)) (own_named q m t facts.bad_grid both.0))
     (top_unstored q all (earlier ++ top ∷ []) tops have there none.1 both.1)
@@ -331,8 +317,8 @@ not_new q all earlier (m ∷ maps) there = chosen (not (option_map_or is_array (
         → list_any (has_name q) (cond b (m ∷ filter (is_new all earlier) maps) (filter (is_new all earlier) maps)) ≡ false
     chosen false e rest = rest
     chosen true e rest =
-        let free = unnot (is_some (find (has_name m.name) (all_maps earlier))) (and_yes (not (option_map_or is_array (top_named m.name all) false)) _ e).1 in
-        or_both (bytes_eq q m.name) _ (other_name q m.name (λ is. true≢false (sym there ∙ ap (λ l. is_some (find (has_name l) (all_maps earlier))) is ∙ free))) rest
+        let free = unnot (is_some (find (has_name m.name) (all_maps earlier))) (both_true (not (option_map_or is_array (top_named m.name all) false)) _ e).1 in
+        or_from (bytes_eq q m.name) _ (other_name q m.name (λ is. true≢false (sym there ∙ ap (λ l. is_some (find (has_name l) (all_maps earlier))) is ∙ free))) rest
 
 map_unstored : (q : List ℕ) (all earlier tops : List Top) → HasMap q earlier → NoCauses all earlier tops → list_any (NamedTop q) tops ≡ false → list_any (has_name q) (stored_from all earlier tops) ≡ false
 unfolding stored_from stored
@@ -340,7 +326,7 @@ map_unstored q all earlier [] there none other = refl
 map_unstored q all earlier ((m, t) ∷ tops) there none other =
     let top : Top = (m, t) in
     let facts = has_none all earlier top none.0 in
-    let both = or_none (bytes_eq q (name_of m)) _ other in
+    let both = or_parts (bytes_eq q (name_of m)) _ other in
     any_join (has_name q) (filter (is_new all earlier) (maps_of top) ++ own top) (stored_from all (earlier ++ top ∷ []) tops)
     (any_join (has_name q) (filter (is_new all earlier) (maps_of top)) (own top) (not_new q all earlier (maps_of top) there) (own_named q m t facts.bad_grid both.0))
     (map_unstored q all (earlier ++ top ∷ []) tops (more_maps q earlier top there) none.1 both.1)
@@ -354,7 +340,7 @@ own_maps earlier top before (m ∷ ms) is = (here, own_maps earlier top (before 
   where
     yes_right : (p : Variable → Bool) (xs : List Variable) (y : Variable) (ys : List Variable) → p y ≡ true → list_any p (xs ++ y ∷ ys) ≡ true
     yes_right p [] y ys e = ap (λ b. b || list_any p ys) e
-    yes_right p (x ∷ xs) y ys e = or_yes (p x) (list_any p (xs ++ y ∷ ys)) (yes_right p xs y ys e)
+    yes_right p (x ∷ xs) y ys e = or_right (p x) (list_any p (xs ++ y ∷ ys)) (yes_right p xs y ys e)
 
     here : HasMap m.name (earlier ++ top ∷ [])
     here =
@@ -371,7 +357,7 @@ kept_maps : (all earlier : List Top) (top : Top) (ms : List Variable) → HaveKi
     → AllByRecursion (IsKept all earlier top) (filter (is_new all earlier) ms)
 kept_maps all earlier top [] have none known = tt
 kept_maps all earlier top (m ∷ ms) have none known =
-    let both = or_none (map_clashes all earlier m) _ none in
+    let both = or_parts (map_clashes all earlier m) _ none in
     chosen (is_new all earlier m) refl both.0 (kept_maps all earlier top ms have both.1 known.1)
   where
     chosen : (b : Bool) → is_new all earlier m ≡ b → map_clashes all earlier m ≡ false → AllByRecursion (IsKept all earlier top) (filter (is_new all earlier) ms)
@@ -411,10 +397,10 @@ stored_apart all earlier names (member m ms) (t ∷ ts) have is none new =
   where
     there : (q : List ℕ) (earlier : List Top) (top : Top) (tops : List Top) → NamedTop q top ≡ true → list_any (NamedTop q) (earlier ++ top ∷ tops) ≡ true
     there q [] top tops e = ap (λ b. b || list_any (NamedTop q) tops) e
-    there q (x ∷ earlier) top tops e = or_yes (NamedTop q x) _ (there q earlier top tops e)
+    there q (x ∷ earlier) top tops e = or_right (NamedTop q x) _ (there q earlier top tops e)
 
     unnamed : (q name : List ℕ) (earlier : List Top) (top : Top) (tops : List Top) → name_of top.0 ≡ name → list_any (NamedTop q) (earlier ++ top ∷ tops) ≡ false → bytes_eq q name ≡ false
-    unnamed q name earlier top tops is e = ap (bytes_eq q) (sym is) ∙ (or_none (NamedTop q top) _ (any_right (NamedTop q) earlier (top ∷ tops) e)).0
+    unnamed q name earlier top tops is e = ap (bytes_eq q) (sym is) ∙ (or_parts (NamedTop q top) _ (any_right (NamedTop q) earlier (top ∷ tops) e)).0
 
 -- the names of the variables of a dataset differ
 pub variables_apart : (d : Dataset) (ts : List Tree) → IsWellFormed d → first_cause (tops_of d.members ts) [] 1 (tops_of d.members ts) ≡ None → AreApart (stored_from (tops_of d.members ts) [] (tops_of d.members ts))
@@ -431,12 +417,12 @@ AreNew earlier (v ∷ vs) = (list_any (has_name v.name) earlier ≡ false) × Ar
 
 new_here : (v : Variable) (vs earlier : List Variable) → AllByRecursion (λ (e : Variable). list_any (has_name e.name) (v ∷ vs) ≡ false) earlier → list_any (has_name v.name) earlier ≡ false
 new_here v vs [] all = refl
-new_here v vs (e ∷ earlier) all = or_both (bytes_eq v.name e.name) _ (turned_name e.name v.name (or_none (bytes_eq e.name v.name) _ all.0).0) (new_here v vs earlier all.1)
+new_here v vs (e ∷ earlier) all = or_from (bytes_eq v.name e.name) _ (turned_name e.name v.name (or_parts (bytes_eq e.name v.name) _ all.0).0) (new_here v vs earlier all.1)
 
 pub are_new : (earlier vs : List Variable) → AreApart vs → AllByRecursion (λ (e : Variable). list_any (has_name e.name) vs ≡ false) earlier → AreNew earlier vs
 are_new earlier [] apart none = tt
 are_new earlier (v ∷ vs) apart none = (
   new_here v vs earlier none,
   are_new (earlier ++ v ∷ []) vs apart.1 (all_join (λ (e : Variable). list_any (has_name e.name) vs ≡ false) earlier (v ∷ [])
-      (map_each (λ (e : Variable). list_any (has_name e.name) (v ∷ vs) ≡ false) (λ (e : Variable). list_any (has_name e.name) vs ≡ false) earlier (λ e f. (or_none (bytes_eq e.name v.name) _ f).1) none) (apart.0, tt)),
+      (map_each (λ (e : Variable). list_any (has_name e.name) (v ∷ vs) ≡ false) (λ (e : Variable). list_any (has_name e.name) vs ≡ false) earlier (λ e f. (or_parts (bytes_eq e.name v.name) _ f).1) none) (apart.0, tt)),
 )

@@ -3,6 +3,7 @@ use Rattle.std.proofs.Common.{Result, Ok, Err, Vec, IsErr, false, true, Bool, le
 use Rattle.std.specs.Io.KnownBytes.{Consumes, IsAtEnd}
 use Rattle.std.specs.Io.KnownBytes.{Appends}
 use Rattle.std.proofs.KnownBytes.{Consumes-trans}
+use Rattle.dap_client.proofs.Told.{some_left}
 use Rattle.dap_types.specs.Limits.{most_written}
 use Rattle.dap_client.proofs.Bodies.{good_is_body}
 use Rattle.dap_client.specs.Outcomes.{OnBadReply, OnComplete, OnLinkFault, OnReadFault, OnServerError, WhereWhole}
@@ -42,16 +43,12 @@ whole_taken (Some rest) body taken so none = sym (so ∙ ap (λ l. taken ++ l) n
 pub of_whole : (before left : Option (List ℕ)) (body : List ℕ) (P : List ℕ → Type 0) → before ≡ Some body → IsAtEnd left → Takes before left P → P body
 of_whole before left body P had none (taken, so, p) = subst P (whole_taken left body taken (subst (λ o. Consumes o left taken) had so) none) p
 
-more_of : (left : Option (List ℕ)) (body taken : List ℕ) → Consumes (Some body) left taken → (more : List ℕ) × (body ≡ taken ++ more)
-more_of None body taken so = absurd so
-more_of (Some rest) body taken so = (rest, so)
-
 -- it is so of all of them, or of those that were taken, whatever follows
 pub of_front : (before left : Option (List ℕ)) (body taken : List ℕ) (P : List ℕ → Type 0) (E : Type 0) → before ≡ Some body → Consumes before left taken
     → ((E × IsAtEnd left × P taken) ⊎ ((more : List ℕ) → P (taken ++ more))) → P body
 of_front before left body taken P E had so either =
     let own : Consumes (Some body) left taken = subst (λ o. Consumes o left taken) had so in
-    let more = more_of left body taken own in
+    let more = some_left left body taken own in
     ⊎_elim (λ ended. subst P (whole_taken left body taken own ended.1) ended.2) (λ lasting. subst P (sym more.1) (lasting more.0)) either
 
 -- ---- what `show` tells

@@ -6,6 +6,8 @@ use Rattle.std.proofs.lemmas.Slice.Eq.{bytes_eq-Decides}
 use Rattle.std.specs.List.{position_from}
 use Rattle.std.specs.Option.{option_map_or, option_or}
 use Rattle.std.specs.Str.{bytes_eq}
+use Rattle.dap_types.proofs.Numbering.{position_from-append}
+use Rattle.dap_types.proofs.Found.{option_or-some, option_or-none}
 use Rattle.dap_types.specs.declared.declarations.Dim.{Dim}
 use Rattle.netcdf_writer.specs.Causes.{dims_clash}
 use Rattle.netcdf_writer.specs.Variables.{first_uses, dim_name, is_named}
@@ -83,20 +85,12 @@ old_there : (o : Option Dim) (n : ℕ) → Some n ≡ option_map (λ d. d.size) 
 old_there None n e = cc
 old_there (Some d) n e = refl
 
-or_some : {X : Type 0} (o p : Option X) → is_some o ≡ true → o ≡ option_or o p
-or_some None p e = cc
-or_some (Some x) p e = refl
-
-or_none : {X : Type 0} (o : Option X) → o ≡ option_or o None
-or_none None = refl
-or_none (Some x) = refl
-
 seen_old : (earlier : List Dim) (d : Dim) (q : List ℕ) → is_some (find (is_named (dim_name d)) earlier) ≡ true → find (is_named q) earlier ≡ find (is_named q) (earlier ++ d ∷ [])
 seen_old earlier d q there = chosen (bytes_eq q (dim_name d)) refl ∙ sym (find-append (is_named q) earlier (d ∷ []))
   where
     chosen : (b : Bool) → bytes_eq q (dim_name d) ≡ b → find (is_named q) earlier ≡ option_or (find (is_named q) earlier) (cond (bytes_eq q (dim_name d)) (Some d) None)
-    chosen true e = or_some (find (is_named q) earlier) (cond (bytes_eq q (dim_name d)) (Some d) None) (ap (λ n. is_some (find (is_named n) earlier)) ((bytes_eq-Decides q (dim_name d)).0 e) ∙ there)
-    chosen false e = or_none (find (is_named q) earlier) ∙ ap (λ b. option_or (find (is_named q) earlier) (cond b (Some d) None)) (sym e)
+    chosen true e = option_or-some (find (is_named q) earlier) (cond (bytes_eq q (dim_name d)) (Some d) None) (ap (λ n. is_some (find (is_named n) earlier)) ((bytes_eq-Decides q (dim_name d)).0 e) ∙ there)
+    chosen false e = option_or-none (find (is_named q) earlier) ∙ ap (λ b. option_or (find (is_named q) earlier) (cond b (Some d) None)) (sym e)
 
 pub added_old : (dims : Dims) (earlier : List Dim) (d : Dim) (k : Known) → AreDims dims earlier → under dims.known (dim_name d) ≡ Some k
     → ((k.size == d.size) ≡ not (dims_clash earlier (d ∷ []))) × ((k.size == d.size) ≡ true → AreDims dims (earlier ++ d ∷ []))
@@ -113,15 +107,6 @@ added_old dims earlier d k so is =
     )
 
 -- ---- a name that is new
-
-position_more : {X : Type 0} (p : X → Bool) (i : ℕ) (xs ys : List X) → position_from p i (xs ++ ys) ≡ option_or (position_from p i xs) (position_from p (i + length xs) ys)
-position_more p i [] ys = ap (λ n. position_from p n ys) (omega arith)
-position_more p i (x ∷ xs) ys = chosen (p x) (position_more p (i + 1) xs ys ∙ ap (λ n. option_or (position_from p (i + 1) xs) (position_from p n ys)) (omega arith))
-  where
-    chosen : (b : Bool) → position_from p (i + 1) (xs ++ ys) ≡ option_or (position_from p (i + 1) xs) (position_from p (i + length (x ∷ xs)) ys)
-        → cond b (Some i) (position_from p (i + 1) (xs ++ ys)) ≡ option_or (cond b (Some i) (position_from p (i + 1) xs)) (position_from p (i + length (x ∷ xs)) ys)
-    chosen true e = refl
-    chosen false e = e
 
 none_there : (o : Option Dim) → Path (Option ℕ) None (option_map (λ d. d.size) o) → o ≡ None
 none_there None e = refl
@@ -142,7 +127,7 @@ added_new old new earlier b so none pushed adds =
             ap (option_map (λ k. k.number)) (adds q) ∙ option_added (λ k. k.number) (under old.known q) (bytes_eq q (dim_name d)) _
             ∙ ap (λ o. option_or o (if bytes_eq q (dim_name d) then Some (length old.list.items) else None)) (so.numbers q)
             ∙ ap (λ n. option_or (position_from (is_named q) 0 (first_uses [] earlier)) (if bytes_eq q (dim_name d) then Some n else None)) count
-            ∙ sym (position_more (is_named q) 0 (first_uses [] earlier) (d ∷ [])) ∙ ap (position_from (is_named q) 0) (sym more);
+            ∙ sym (position_from-append (is_named q) 0 (first_uses [] earlier) (d ∷ [])) ∙ ap (position_from (is_named q) 0) (sym more);
         sizes = λ q.
             ap (option_map (λ k. k.size)) (adds q) ∙ option_added (λ k. k.size) (under old.known q) (bytes_eq q (dim_name d)) _
             ∙ ap (λ o. option_or o (if bytes_eq q (dim_name d) then Some d.size else None)) (so.sizes q)

@@ -2,7 +2,7 @@
 use Rattle.std.proofs.Common.{◌≡◌, ℕ, zero, suc, ◌+◌, ◌<◌, ◌≤◌, ◌^◌, Bool, true, false, not, ◌&&◌, ◌||◌, ◌==◌, cond, List, [], ◌∷◌, ◌++◌, length, map, find, drop, Option, Some, None, is_some, refl, ap, sym, subst, ◌∙◌, append-nil, append_assoc, arith, nat_lt, if◌then◌else◌}
 use Rattle.std.specs.Bool.{⊤}
 use Rattle.std.specs.Prelude.{slice_get}
-use Rattle.std.proofs.lemmas.Bool.{true≢false}
+use Rattle.std.proofs.lemmas.Bool.{true≢false, or_parts}
 use Rattle.std.proofs.lemmas.Bool.Decides.{nat_tests}
 use Rattle.std.proofs.lemmas.List.{map-append}
 use Rattle.std.proofs.lemmas.List.Folds.{find-append}
@@ -10,6 +10,8 @@ use Rattle.std.proofs.lemmas.Slice.Eq.{bytes_eq-Decides}
 use Rattle.std.specs.List.{AllByRecursion, list_any, position_from}
 use Rattle.std.specs.Option.{option_map_or, option_or}
 use Rattle.std.specs.Str.{bytes_eq}
+use Rattle.plain_lemmas.proofs.Lists.{any-map, found_passes, bytes_itself}
+use Rattle.plain_lemmas.proofs.Numbers.{from_zero}
 use Rattle.dap_types.specs.declared.declarations.Dim.{Dim}
 use Rattle.netcdf_source.specs.Fields.{bad_if, judged, run}
 use Rattle.netcdf_source.specs.Grammar.{dimension_fields, is_record_dimension, length_fault, name_fault, new_name_fields, repeat_fault}
@@ -17,8 +19,7 @@ use Rattle.netcdf_source.specs.Versions.{bytes_in, largest, limit_of, number_byt
 use Rattle.netcdf_source.specs.declared.version.Width.{Width}
 use Rattle.netcdf_source.specs.declared.version.Width.TheVariants.{Four, Eight}
 use Rattle.netcdf_writer.proofs.Dimensions.{first_one}
-use Rattle.netcdf_writer.proofs.FileNames.{name_fits, name_good, none_named, or_none}
-use Rattle.netcdf_writer.proofs.Listing.{any_map}
+use Rattle.netcdf_writer.proofs.FileNames.{name_fits, name_good, none_named}
 use Rattle.netcdf_writer.proofs.Prints.{AllTurn, Prints, prints_both, prints_number, prints_run}
 use Rattle.netcdf_writer.proofs.Records.{dims_more}
 use Rattle.netcdf_writer.specs.Causes.{dims_clash, is_inner_record, is_second_record, most_record, records_clash}
@@ -33,9 +34,6 @@ pub record IsGoodDim (d : Dim) : Type 0 where
   pub file : is_file_name (dim_name d) ≡ true
   pub few : d.size ≤ 2147483647
 
-pub own_name : (q : List ℕ) → bytes_eq q q ≡ true
-own_name q = (bytes_eq-Decides q q).1 refl
-
 -- ---- what is found
 
 pub find_any : {X : Type 0} (p : X → Bool) (xs : List X) → is_some (find p xs) ≡ list_any p xs
@@ -45,14 +43,6 @@ find_any p (x ∷ xs) = chosen (p x) (find_any p xs)
     chosen : (b : Bool) → is_some (find p xs) ≡ list_any p xs → is_some (cond b (Some x) (find p xs)) ≡ (b || list_any p xs)
     chosen true e = refl
     chosen false e = e
-
-pub found_passes : {X : Type 0} (p : X → Bool) (xs : List X) (x : X) → find p xs ≡ Some x → p x ≡ true
-found_passes p [] x e = cc e
-found_passes {X} p (y ∷ xs) x e = chosen (p y) refl e (found_passes p xs x)
-  where
-    chosen : (b : Bool) → p y ≡ b → cond b (Some y) (find p xs) ≡ Some x → (find p xs ≡ Some x → p x ≡ true) → p x ≡ true
-    chosen true is f rest = let same : y ≡ x = cc in ap p (sym same) ∙ is
-    chosen false is f rest = rest f
 
 pub found_other : {X : Type 0} (p r : X → Bool) (xs : List X) (x : X) → find p xs ≡ Some x → r x ≡ true → list_any r xs ≡ true
 found_other p r [] x e is = cc e
@@ -90,7 +80,7 @@ none_first : (p : Dim → Bool) (earlier ds : List Dim) → list_any p ds ≡ fa
 unfolding first_uses
 none_first p earlier [] none = refl
 none_first p earlier (d ∷ ds) none =
-    let both = or_none (p d) (list_any p ds) none in
+    let both = or_parts (p d) (list_any p ds) none in
     chosen (is_some (find (is_named (dim_name d)) earlier)) both.0 (none_first p (earlier ++ d ∷ []) ds both.1)
   where
     chosen : (b : Bool) → p d ≡ false → list_any p (first_uses (earlier ++ d ∷ []) ds) ≡ false → list_any p ((if b then [] else d ∷ []) ++ first_uses (earlier ++ d ∷ []) ds) ≡ false
@@ -170,7 +160,7 @@ sized_here earlier ds d none = chosen (find (is_named (dim_name d)) earlier) ref
 
     chosen : (o : Option Dim) → find (is_named (dim_name d)) earlier ≡ o → option_map_or (λ e. not (e.size == d.size)) o false ≡ false → IsSized (earlier ++ d ∷ ds) d
     chosen None is f =
-        (d, find-append (is_named (dim_name d)) earlier (d ∷ ds) ∙ ap (λ o. option_or o (find (is_named (dim_name d)) (d ∷ ds))) is ∙ ap (λ b. cond b (Some d) (find (is_named (dim_name d)) ds)) (own_name (dim_name d)), refl)
+        (d, find-append (is_named (dim_name d)) earlier (d ∷ ds) ∙ ap (λ o. option_or o (find (is_named (dim_name d)) (d ∷ ds))) is ∙ ap (λ b. cond b (Some d) (find (is_named (dim_name d)) ds)) (bytes_itself (dim_name d)), refl)
     chosen (Some e) is f =
         (e, find-append (is_named (dim_name d)) earlier (d ∷ ds) ∙ ap (λ o. option_or o (find (is_named (dim_name d)) (d ∷ ds))) is, same_size e.size d.size f)
 
@@ -178,7 +168,7 @@ sized : (earlier ds : List Dim) → dims_clash earlier ds ≡ false → AllByRec
 unfolding dims_clash
 sized earlier [] none = tt
 sized earlier (d ∷ ds) none =
-    let both = or_none (option_map_or (λ e. not (e.size == d.size)) (find (is_named (dim_name d)) earlier) false) (dims_clash (earlier ++ d ∷ []) ds) none in
+    let both = or_parts (option_map_or (λ e. not (e.size == d.size)) (find (is_named (dim_name d)) earlier) false) (dims_clash (earlier ++ d ∷ []) ds) none in
     (sized_here earlier ds d both.0, subst (λ l. AllByRecursion (IsSized l) ds) (append_assoc earlier (d ∷ []) ds) (sized (earlier ++ d ∷ []) ds both.1))
 
 -- a dimension among those of the file
@@ -188,9 +178,6 @@ pub record IsLocated (ds : List Dim) (d : Dim) : Type 0 where
   pub name : dim_name found ≡ dim_name d
   pub size : found.size ≡ d.size
   pub within : id_of ds d < length ds
-
-pub from_zero : (k : ℕ) → 0 + k ≡ k
-from_zero k = omega arith
 
 located : (all : List Dim) (d : Dim) → IsSized all d → IsLocated (first_uses [] all) d
 located all d (e, is, same) =
@@ -217,7 +204,7 @@ dims_located all none = all_located all all (sized [] all none)
 none_second : (earlier ds : List Dim) → list_any is_empty_dim ds ≡ false → NoSecond earlier ds
 none_second earlier [] none = tt
 none_second earlier (d ∷ ds) none =
-    let both = or_none (d.size == 0) (list_any is_empty_dim ds) none in
+    let both = or_parts (d.size == 0) (list_any is_empty_dim ds) none in
     (λ e _. absurd (true≢false (sym e ∙ both.0)), none_second (earlier ++ d ∷ []) ds both.1)
 
 second_both : (earlier xs ys : List Dim) → NoSecond earlier xs → NoSecond (earlier ++ xs) ys → NoSecond earlier (xs ++ ys)
@@ -243,7 +230,7 @@ second_own : (earlier ds : List Dim) → list_any is_empty_dim (drop 1 ds) ≡ f
     → list_any (λ d. d.size == 0 && option_map_or (λ e. not (bytes_eq (dim_name e) (dim_name d))) (find is_empty_dim earlier) false) ds ≡ false → NoSecond earlier ds
 second_own earlier [] single none = tt
 second_own earlier (d ∷ ds) single none =
-    (second_head earlier d (or_none (d.size == 0 && option_map_or (λ e. not (bytes_eq (dim_name e) (dim_name d))) (find is_empty_dim earlier) false) _ none).0, none_second (earlier ++ d ∷ []) ds single)
+    (second_head earlier d (or_parts (d.size == 0 && option_map_or (λ e. not (bytes_eq (dim_name e) (dim_name d))) (find is_empty_dim earlier) false) _ none).0, none_second (earlier ++ d ∷ []) ds single)
 
 -- what holds of the variables where no record clashes
 pub record IsSingle (earlier : List Variable) (v : Variable) : Type 0 where
@@ -259,9 +246,9 @@ pub single : (earlier vs : List Variable) (v : Variable) → records_clash earli
 unfolding records_clash
 single earlier vs v none =
     let bytes = record_bytes (earlier ++ v ∷ []) in
-    let a = or_none (is_inner_record v || is_second_record (all_dims earlier) v || is_record v && nat_lt most_record bytes) (records_clash (earlier ++ v ∷ []) vs) none in
-    let b = or_none (is_inner_record v || is_second_record (all_dims earlier) v) (is_record v && nat_lt most_record bytes) a.0 in
-    let c = or_none (is_inner_record v) (is_second_record (all_dims earlier) v) b.0 in
+    let a = or_parts (is_inner_record v || is_second_record (all_dims earlier) v || is_record v && nat_lt most_record bytes) (records_clash (earlier ++ v ∷ []) vs) none in
+    let b = or_parts (is_inner_record v || is_second_record (all_dims earlier) v) (is_record v && nat_lt most_record bytes) a.0 in
+    let c = or_parts (is_inner_record v) (is_second_record (all_dims earlier) v) b.0 in
     (record { first = c.0; second = c.1; few = within_record (is_record v) bytes b.1 }, a.1)
 
 pub no_second : (earlier vs : List Variable) → records_clash earlier vs ≡ false → NoSecond (all_dims earlier) (all_dims vs)
@@ -305,8 +292,8 @@ unfolding dimension_fields dimension_bytes
 dimension_prints w earlier d all good new single =
     let name = file_name (dim_name d) in
     let has = list_any is_record_dimension (map dimension earlier) in
-    let has_is : has ≡ list_any is_empty_dim earlier = any_map is_record_dimension dimension earlier in
-    let none = none_named (dim_name d) (map dim_name earlier) good.file (earlier_valid earlier all) (any_map (bytes_eq (dim_name d)) dim_name earlier ∙ new) in
+    let has_is : has ≡ list_any is_empty_dim earlier = any-map is_record_dimension dimension earlier in
+    let none = none_named (dim_name d) (map dim_name earlier) good.file (earlier_valid earlier all) (any-map (bytes_eq (dim_name d)) dim_name earlier ∙ new) in
     prints_both (new_name_fields w (map (λ b. b.name) (map dimension earlier)) name) (judged w (length_fault w has) d.size ∷ []) (name_bytes w name) (number_bytes w d.size)
     (new_name_prints w (map (λ b. b.name) (map dimension earlier)) name (name_good (dim_name d) good.file) (name_fits (dim_name d) good.file).1 (ap (list_any (bytes_eq name)) (earlier_names earlier) ∙ none))
     (prints_number w (length_fault w has) d.size (small_length w d.size has good.few (ap (λ b. d.size == 0 && b) has_is ∙ single)) (fits_width w d.size (let few = good.few in omega (arith, few))))

@@ -1,6 +1,6 @@
 -- The names in a file, and that they differ where those of the variables do.
 use Rattle.std.proofs.Common.{◌≡◌, ℕ, ◌≤◌, Bool, true, false, ◌||◌, ◌==◌, List, [], ◌∷◌, length, map, Option, Some, None, refl, ap, sym, ◌∙◌, arith, nat_lt}
-use Rattle.std.proofs.lemmas.Bool.{true≢false}
+use Rattle.std.proofs.lemmas.Bool.{true≢false, or_parts}
 use Rattle.std.proofs.lemmas.Bool.Decides.{nat_tests}
 use Rattle.std.proofs.lemmas.Slice.Eq.{bytes_eq-Decides}
 use Rattle.std.specs.List.{AllByRecursion, list_any}
@@ -59,13 +59,9 @@ names_differ a b va vb other = chosen (bytes_eq (file_name a) (file_name b)) ref
         let is : a ≡ b = sym (name_back a va) ∙ ap file_id same ∙ name_back b vb in
         absurd (true≢false (sym ((bytes_eq-Decides a b).1 is) ∙ other))
 
-pub or_none : (x y : Bool) → (x || y) ≡ false → (x ≡ false) × (y ≡ false)
-or_none true y e = cc e
-or_none false y e = (refl, e)
-
 -- no name in a list is this one
 pub none_named : (a : List ℕ) (bs : List (List ℕ)) → is_file_name a ≡ true → AllByRecursion (λ b. is_file_name b ≡ true) bs → list_any (bytes_eq a) bs ≡ false → list_any (bytes_eq (file_name a)) (map file_name bs) ≡ false
 none_named a [] va vs none = refl
 none_named a (b ∷ bs) va vs none =
-    let both = or_none (bytes_eq a b) (list_any (bytes_eq a) bs) none in
+    let both = or_parts (bytes_eq a b) (list_any (bytes_eq a) bs) none in
     ap (λ t. t || list_any (bytes_eq (file_name a)) (map file_name bs)) (names_differ a b va vs.0 both.0) ∙ none_named a bs va vs.1 both.1

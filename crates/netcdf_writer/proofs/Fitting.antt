@@ -3,6 +3,7 @@ use Rattle.std.proofs.Common.{◌≡◌, ℕ, ◌+◌, ◌*◌, ◌<◌, ◌≤�
 use Rattle.std.proofs.lemmas.List.Sums.{sum_by-append, sum_by-cons}
 use Rattle.std.specs.List.{AllByRecursion, AllZip, list_any}
 use Rattle.std.specs.Option.{option_or}
+use Rattle.std.proofs.lemmas.Bool.{not-false}
 use Rattle.dap_types.specs.Model.{Member, scalar, array, structure, grid, sequence, Members, no_members, member, Dataset, Tree, one, many, kids, count, count_all, product, sizes}
 use Rattle.dap_types.specs.WellFormed.{IsWellFormed}
 use Rattle.dap_types.specs.declared.declarations.ArrayDecl.{ArrayDecl}
@@ -153,10 +154,6 @@ arrays_held (a ∷ arrays) (t ∷ ts) e fit =
     let le = all.1 in
     (all.0, omega (arith, le, long))
 
-unnot : (b : Bool) → not b ≡ false → b ≡ true
-unnot true e = refl
-unnot false e = cc
-
 held_scalar : (name : List ℕ) (base : BaseType) (t : Tree) → is_number base ≡ true → FitsArray base [] t → Held (record { name = name; base = base; dims = []; tree = t } ∷ []) (length (bytes_of (scalar_fields base t)))
 held_scalar name base (many ts) e fit = absurd fit
 held_scalar name base (one v) e fit =
@@ -169,8 +166,8 @@ held_scalar name base (one v) e fit =
 -- what a top member is stored as, before maps are left out
 top_held : (m : Member) (t : Tree) → is_other_kind m ≡ false → Fits m t → Held (own (m, t) ++ maps_of (m, t)) (length (bytes_of (fields m t)))
 unfolding is_other_kind own maps_of
-top_held (scalar c) t e fit = held_scalar c.name c.base t (unnot (is_number c.base) e) fit
-top_held (array a) t e fit = held_array a t (unnot (is_number a.base) e) fit
+top_held (scalar c) t e fit = held_scalar c.name c.base t (not-false (is_number c.base) e) fit
+top_held (array a) t e fit = held_array a t (not-false (is_number a.base) e) fit
 top_held (structure name parts) t e fit = cc
 top_held (sequence name columns) t e fit = cc
 top_held (grid name a maps) t e fit = arrays_held' (kids t) fit.1

@@ -1,12 +1,11 @@
 -- Lists of variables where they stand, and as contracts see them.
-use Rattle.std.proofs.Common.{◌≡◌, ℕ, ◌+◌, ◌<◌, ◌≤◌, Bool, true, false, ◌||◌, not, List, [], ◌∷◌, ◌++◌, map, filter, drop, take, length, get_or, Option, Some, None, option_map, cond, refl, ap, sym, ◌∙◌, append-nil, append_assoc, subst, sum_by, arith, take-append-drop}
+use Rattle.std.proofs.Common.{◌≡◌, ℕ, ◌+◌, ◌<◌, ◌≤◌, Bool, true, false, not, List, [], ◌∷◌, ◌++◌, filter, drop, take, length, get_or, Option, Some, None, option_map, cond, refl, ap, sym, ◌∙◌, append-nil, append_assoc, subst, sum_by, arith, take-append-drop}
 use Rattle.std.proofs.lemmas.List.{drop_all, map-append, take_more, take_all}
 use Rattle.std.proofs.lemmas.List.Folds.{find-append}
 use Rattle.std.specs.List.{list_any, flat_map}
 use Rattle.std.specs.Option.{option_or}
 use Rattle.std.specs.Prelude.{find, if◌then◌else◌}
 use Rattle.std.specs.Str.{bytes_eq}
-use Rattle.dap_types.proofs.Views.{drop-here}
 use Rattle.netcdf_writer.specs.File.{data_bytes, part_bytes, is_five, is_unsigned}
 use Rattle.netcdf_writer.specs.Variables.{Variable, Top, has_name, is_record, is_fixed}
 use Rattle.netcdf_writer.specs.inner.Parts.{AreFilled, IsFilled, fixed_part}
@@ -16,18 +15,15 @@ use Rattle.netcdf_writer.specs.declared.lent.Lent.{Lent}
 use Rattle.netcdf_writer.specs.declared.table.Table.{Table}
 use Rattle.netcdf_writer.specs.declared.tops.Top as lent_top
 use Rattle.std.proofs.lemmas.List.Sums.{sum_by-append, sum_by-cons, sum_by_push}
+use Rattle.plain_lemmas.proofs.Lists.{drop_here, any-map}
 use Rattle.dap_types.specs.Model.{count, name_of}
-
-pub any_map : {X Y : Type 0} (p : Y → Bool) (f : X → Y) (xs : List X) → list_any p (map f xs) ≡ list_any (λ x. p (f x)) xs
-any_map p f [] = refl
-any_map p f (x ∷ xs) = ap (λ b. p (f x) || b) (any_map p f xs)
 
 pub five_views : (vs : List Lent) → list_any (λ l. is_unsigned l.base) vs ≡ is_five (variable_views vs)
 unfolding is_five
-five_views vs = sym (any_map (λ v. is_unsigned v.base) variable_view vs)
+five_views vs = sym (any-map (λ v. is_unsigned v.base) variable_view vs)
 
 pub views_here : (vs : List Lent) (i : ℕ) (v : Lent) → i < length vs → v ≡ get_or vs i v → variable_views (drop i vs) ≡ variable_view v ∷ variable_views (drop (i + 1) vs)
-views_here vs i v lt is = ap variable_views (drop-here vs i v lt is)
+views_here vs i v lt is = ap variable_views (drop_here vs i v lt is)
 
 -- ---- values
 
@@ -128,10 +124,10 @@ pub tops_all : (table : Table lent_top.Top) (ts : List lent_top.Top) (i : ℕ) �
 tops_all table ts i le are = subst (λ l. AreTops table (top_views l)) (take_all i ts le) are
 
 pub top_views_split : (ts : List lent_top.Top) (i : ℕ) (t : lent_top.Top) → i < length ts → t ≡ get_or ts i t → top_views ts ≡ top_views (take i ts) ++ top_view t ∷ top_views (drop (i + 1) ts)
-top_views_split ts i t lt is = ap top_views (sym (take-append-drop i ts) ∙ ap (λ l. take i ts ++ l) (drop-here ts i t lt is)) ∙ map-append top_view (take i ts) (t ∷ drop (i + 1) ts)
+top_views_split ts i t lt is = ap top_views (sym (take-append-drop i ts) ∙ ap (λ l. take i ts ++ l) (drop_here ts i t lt is)) ∙ map-append top_view (take i ts) (t ∷ drop (i + 1) ts)
 
 pub top_views_here : (ts : List lent_top.Top) (i : ℕ) (t : lent_top.Top) → i < length ts → t ≡ get_or ts i t → top_views (drop i ts) ≡ top_view t ∷ top_views (drop (i + 1) ts)
-top_views_here ts i t lt is = ap top_views (drop-here ts i t lt is)
+top_views_here ts i t lt is = ap top_views (drop_here ts i t lt is)
 
 -- how many members they are
 pub counted : (ts : List lent_top.Top) (i : ℕ) (t : lent_top.Top) → i < length ts → t ≡ get_or ts i t

@@ -2,6 +2,7 @@
 use Rattle.std.proofs.Common.{◌≡◌, ℕ, ◌+◌, ◌/◌, ◌%◌, ◌<◌, ◌≤◌, Bool, true, false, not, ◌&&◌, List, [], ◌∷◌, ◌++◌, All, Option, Some, None, refl, ap, sym, ◌∙◌, arith, subst, ◌==◌, ◌⊎◌, ⊎_elim, nat_lt, if◌then◌else◌}
 use Rattle.std.proofs.lemmas.Bool.Decides.{nat_tests}
 use Rattle.std.proofs.lemmas.List.Elements.{All-cons, All-nil, All-head, All-tail}
+use Rattle.netcdf_writer.proofs.Undoing.{undone_end}
 use Rattle.netcdf_source.proofs.EscapedNames.{no_percent}
 use Rattle.dap_types.specs.Names.{escaped_byte, file_id, hex_digit, is_kept_byte}
 use Rattle.netcdf_writer.specs.Names.{before, byte_of, digit_of, escaped, is_digit, plain, undone}
@@ -55,13 +56,12 @@ undone_escaped : (c d : ℕ) (xs : List ℕ) → undone (37 ∷ c ∷ d ∷ xs) 
 unfolding undone
 undone_escaped c d xs = refl
 
-undone_none : undone [] ≡ Some []
 unfolding undone
-undone_none = refl
+undone_end = refl
 
 -- the escape of bytes is undone to them
 pub escape_undone : (bytes : List ℕ) → All (λ b. b < 256) bytes → undone (file_id bytes) ≡ Some bytes
-escape_undone [] all = undone_none
+escape_undone [] all = undone_end
 escape_undone (b ∷ bytes) all = chosen (is_kept_byte b) refl (escape_undone bytes (All-tail (λ n. n < 256) b bytes all))
   where
     chosen : (t : Bool) → is_kept_byte b ≡ t → undone (file_id bytes) ≡ Some bytes → undone (escaped_byte b ++ file_id bytes) ≡ Some (b ∷ bytes)

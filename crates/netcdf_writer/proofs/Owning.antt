@@ -4,7 +4,8 @@ use Rattle.std.proofs.Common.{Bool, true, false, nat_le, ◌⊎◌, inl, inr}
 use Rattle.std.proofs.lemmas.Bool.Decides.{nat_tests}
 use Rattle.std.specs.Prelude.{min}
 use Rattle.std.proofs.lemmas.List.{drop_all}
-use Rattle.dap_types.proofs.Views.{drop-here, view-Structure, view-Sequence, view-Grid}
+use Rattle.plain_lemmas.proofs.Lists.{drop_here}
+use Rattle.dap_types.proofs.Views.{view-Structure, view-Sequence, view-Grid}
 use Rattle.dap_types.specs.Model.{structure, sequence, grid, member, kids, no_members}
 use Rattle.dap_types.specs.Model as model
 use Rattle.dap_types.specs.View.{member_view, members_view, tree_view}
@@ -60,11 +61,11 @@ own_grid d name a maps t parts first is seen some item = grid_own d name a maps 
 
 pub tops_step : (ds : List Decl) (ts : List Tree) (k : ℕ) (d : Decl) (t : Tree) → k < length ds → k < length ts → d ≡ get_or ds k d → t ≡ get_or ts k t
     → tops_of (members_view (drop k ds)) (map tree_view (drop k ts)) ≡ (member_view d, tree_view t) ∷ tops_of (members_view (drop (k + 1) ds)) (map tree_view (drop (k + 1) ts))
-tops_step ds ts k d t a b is at = rw (drop-here ds k d a is, drop-here ts k t b at) refl
+tops_step ds ts k d t a b is at = rw (drop_here ds k d a is, drop_here ts k t b at) refl
 
 pub arrays_step : (xs : List ArrayDecl) (ts : List Tree) (k : ℕ) (a : ArrayDecl) (t : Tree) → k < length xs → k < length ts → a ≡ get_or xs k a → t ≡ get_or ts k t
     → array_variables (drop k xs) (map tree_view (drop k ts)) ≡ array_variable a (tree_view t) ∷ array_variables (drop (k + 1) xs) (map tree_view (drop (k + 1) ts))
-arrays_step xs ts k a t l m is at = rw (drop-here xs k a l is, drop-here ts k t m at) refl
+arrays_step xs ts k a t l m is at = rw (drop_here xs k a l is, drop_here ts k t m at) refl
 
 pub ruleset steps = (tops_step, arrays_step)
 

@@ -3,6 +3,7 @@ use Rattle.std.proofs.Common.{Result, Ok, Err, IfOk, ◌≡◌, ℕ, ◌+◌, Bo
 use Rattle.std.proofs.lemmas.Grind.{flat_map-append}
 use Rattle.std.specs.List.{list_any}
 use Rattle.std.specs.Option.{option_map_or, option_or}
+use Rattle.plain_lemmas.proofs.Lists.{any-map}
 use Rattle.dap_types.specs.Model.{count}
 use Rattle.dap_types.specs.declared.declarations.Dim.{Dim}
 use Rattle.dap_types.specs.declared.memory.Memory as want
@@ -16,7 +17,6 @@ use Rattle.netcdf_writer.specs.declared.table.Table.{Table}
 use Rattle.netcdf_writer.specs.declared.tops.Top as lent_top
 use Rattle.netcdf_writer.specs.inner.Planned.{AreDims, AreMaps, AreTops, IsPlanned, IsRecord, StepsBeside, StepsTo, clash_in, new_in, why_alone, why_beside}
 use Rattle.netcdf_writer.specs.inner.Tables.{top_view, under, variable_view, variable_views}
-use Rattle.netcdf_writer.proofs.Listing.{any_map}
 
 -- ---- what is stored
 
@@ -80,7 +80,7 @@ own_stored names maps all earlier top of_maps own_ones tops are is so =
 pub maps_clash : (names : Table lent_top.Top) (maps : Table Lent) (all earlier : List Top) (top : Top) (own_maps : List Lent) (b : Bool) → AreTops names all → AreMaps maps (all_maps earlier)
     → variable_views own_maps ≡ maps_of top → b ≡ list_any (λ m. clash_in names maps (variable_view m)) own_maps → list_any (map_clashes all earlier) (maps_of top) ≡ b
 maps_clash names maps all earlier top own_maps b tops are is so =
-    sym (so ∙ sym (any_map (clash_in names maps) variable_view own_maps) ∙ any_same (clash_in names maps) (map_clashes all earlier) (clash_same names maps all earlier tops are) (variable_views own_maps)
+    sym (so ∙ sym (any-map (clash_in names maps) variable_view own_maps) ∙ any_same (clash_in names maps) (map_clashes all earlier) (clash_same names maps all earlier tops are) (variable_views own_maps)
     ∙ ap (list_any (map_clashes all earlier)) is)
 
 -- ---- causes

@@ -32,7 +32,7 @@ use Rattle.netcdf_writer.proofs.Listing.{data_more, data_none}
 use Rattle.netcdf_writer.proofs.Storable.{AllSet, IsSetIn, IsStorable, all_set, storable}
 use Rattle.netcdf_writer.proofs.ValueBytes.{part_parts}
 use Rattle.netcdf_writer.proofs.ValuesBack.{none_read, read_back, slice_is}
-use Rattle.netcdf_writer.proofs.VarsBack.{base_is, begins_is, dims_in, ids_of, kind_of, laid_out, length_is, slice_map}
+use Rattle.netcdf_writer.proofs.VarsBack.{base_is, begins_is, dims_in, ids_of, kind_of, laid_out, length_is}
 use Rattle.netcdf_writer.specs.File.{begin, cdf, data_bytes, dimension, header_length, header_tree, id_of, listed, part_bytes, type_number, values_bytes, variable_tree, variable_trees}
 use Rattle.netcdf_writer.specs.Laws.{IsReadAs, ReadsBack}
 use Rattle.netcdf_writer.specs.Names.{file_name}
@@ -40,6 +40,7 @@ use Rattle.netcdf_writer.specs.Printer.{header_bytes}
 use Rattle.netcdf_writer.specs.Variables.{Variable, dim_name, dims_of, fixed_bytes, is_record, part, record_bytes, room_by_itself, sizes_of, variables}
 use Rattle.netcdf_writer.specs.inner.Parts.{AreFilled, IsFilled, fixed_part}
 use Rattle.std.proofs.lemmas.List.Sums.{sum_by_push}
+use Rattle.std.proofs.lemmas.Option.{slice_get-map}
 
 -- what the header says
 abbrev read_contents : ℕ → List Variable → Contents
@@ -77,7 +78,7 @@ size_back front vs d so = ap (λ n. if n == 0 then 0 else n) (length_is (dims_of
 
 name_read : (front : ℕ) (vs : List Variable) (d : Dim) → IsLocated (dims_of vs) d → name_at (read_contents front vs) (id_of (dims_of vs) d) ≡ file_name (dim_name d)
 unfolding name_at
-name_read front vs d so = ap (λ (o : Option Dimension). option_map_or (λ e. e.name) o []) (slice_map dimension (dims_of vs) (id_of (dims_of vs) d) ∙ ap (option_map dimension) so.get) ∙ ap file_name so.name
+name_read front vs d so = ap (λ (o : Option Dimension). option_map_or (λ e. e.name) o []) (slice_get-map dimension (dims_of vs) (id_of (dims_of vs) d) ∙ ap (option_map dimension) so.get) ∙ ap file_name so.name
 
 dim_back : (front : ℕ) (vs : List Variable) (d : Dim) → IsLocated (dims_of vs) d → IsGoodDim d → dim_of (read_contents front vs) (id_of (dims_of vs) d) ≡ d
 dim_back front vs d so good =

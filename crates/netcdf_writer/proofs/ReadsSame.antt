@@ -1,11 +1,12 @@
 -- A file that can be stored is read back as its own dataset.
 use Rattle.std.proofs.Common.{◌≡◌, ℕ, zero, suc, ◌<◌, ◌≤◌, Bool, true, false, not, ◌&&◌, ◌||◌, ◌==◌, cond, List, [], ◌∷◌, ◌++◌, length, map, filter, find, take, Option, Some, None, is_some, refl, ap, sym, subst, ◌∙◌, arith, length-take, nat_le, nat_lt, if◌then◌else◌}
 use Rattle.std.specs.Prelude.{slice_get}
-use Rattle.std.proofs.lemmas.Bool.{eqb-true, true≢false}
+use Rattle.std.proofs.lemmas.Bool.{eqb-true, true≢false, or_parts, not-false}
 use Rattle.std.proofs.lemmas.Bool.Decides.{nat_tests}
 use Rattle.std.specs.List.{AllByRecursion, AllZip, cons_option, list_all, list_any}
 use Rattle.std.specs.Option.{option_map_or}
 use Rattle.std.specs.Str.{bytes_eq}
+use Rattle.plain_lemmas.proofs.Lists.{bytes_itself}
 use Rattle.dap_types.specs.Limits.{most_elements, most_header, most_piece}
 use Rattle.dap_types.specs.Model.{Member, scalar, array, structure, grid, sequence, Dataset, Tree, many, items, members_of, name_of, trees_of}
 use Rattle.dap_types.specs.Names.{file_id}
@@ -23,11 +24,11 @@ use Rattle.netcdf_source.specs.declared.header.Dimension.{Dimension}
 use Rattle.netcdf_source.specs.declared.header.Variable as source
 use Rattle.netcdf_source.specs.inner.Sound.{InTurn, IsId, IsVariable}
 use Rattle.netcdf_writer.proofs.Apart.{NoCauses, all_kept, has_none, no_causes, no_map_clash}
-use Rattle.netcdf_writer.proofs.DimsBack.{IsGoodDim, find_any, found_other, own_name}
-use Rattle.netcdf_writer.proofs.FileNames.{name_again, or_none}
+use Rattle.netcdf_writer.proofs.DimsBack.{IsGoodDim, find_any, found_other}
+use Rattle.netcdf_writer.proofs.FileNames.{name_again}
 use Rattle.netcdf_writer.proofs.ReadsBack.{all_dimensions, reads_back}
 use Rattle.netcdf_writer.proofs.Seen.{AreClear, IsClear, IsDimOf, array_from, base_plain, column_from, found_all, header_sound, is_grid_among, is_map_at, is_own, map_at, maps_among, member_from, members_same, names_apart, offered_in, seen, seen_as, sound_apart, tree_from, trees_same}
-use Rattle.netcdf_writer.proofs.Storable.{IsGoodVariable, storable, unnot}
+use Rattle.netcdf_writer.proofs.Storable.{IsGoodVariable, storable}
 use Rattle.netcdf_writer.specs.Causes.{has_bad_name, is_misnamed, is_other_kind, is_other_than, map_clashes, unsavable}
 use Rattle.netcdf_writer.specs.File.{cdf}
 use Rattle.netcdf_writer.specs.Laws.{IsReadAs, ReadsSame}
@@ -69,8 +70,8 @@ dims_clear : (c : Contents) (ids : List ℕ) → AllByRecursion (λ i. i < lengt
 dims_clear c [] within valid = tt
 dims_clear c (i ∷ ids) within valid =
     let (d, get) = get_within c.dimensions i within.0 in
-    let both = or_none (not (is_file_name (file_id (name_at c i)))) (list_any has_bad_dim (map (dim_of c) ids)) valid in
-    let file : is_file_name (file_id d.name) ≡ true = ap (λ n. is_file_name (file_id n)) (sym (name_got c i d get)) ∙ unnot (is_file_name (file_id (name_at c i))) both.0 in
+    let both = or_parts (not (is_file_name (file_id (name_at c i)))) (list_any has_bad_dim (map (dim_of c) ids)) valid in
+    let file : is_file_name (file_id d.name) ≡ true = ap (λ n. is_file_name (file_id n)) (sym (name_got c i d get)) ∙ not-false (is_file_name (file_id (name_at c i))) both.0 in
     (record { found = d; get = get; back = name_again d.name file }, dims_clear c ids within.1 both.1)
 
 -- what a member that can be stored says of its variable
@@ -84,19 +85,19 @@ fit_by : (c : Contents) (v : source.Variable) (e g : Bool) → is_empty (element
     → has_bad_name (if e then scalar (column_of v) else if g then grid (file_id v.name) (array_of c v) (maps_there c v.dimensions) else array (array_of c v)) ≡ false → IsFit c v
 unfolding is_other_kind has_bad_name is_misnamed
 fit_by c v true g is kind names = record {
-  number = unnot (is_number (base_of v.external_type)) kind;
-  file = unnot (is_file_name (file_id v.name)) names;
+  number = not-false (is_number (base_of v.external_type)) kind;
+  file = not-false (is_file_name (file_id v.name)) names;
   dims = ap (λ ids. list_any has_bad_dim (map (dim_of c) ids)) (none_left (element_dimensions c v) is);
 }
 fit_by c v false true is kind names =
-    let k = or_none (not (is_number (base_of v.external_type))) _ kind in
-    let n = or_none (is_misnamed (array_of c v)) _ names in
-    let m = or_none (not (is_file_name (file_id v.name))) (list_any has_bad_dim (map (dim_of c) (element_dimensions c v))) n.0 in
-    record { number = unnot (is_number (base_of v.external_type)) k.0; file = unnot (is_file_name (file_id v.name)) m.0; dims = m.1 }
+    let k = or_parts (not (is_number (base_of v.external_type))) _ kind in
+    let n = or_parts (is_misnamed (array_of c v)) _ names in
+    let m = or_parts (not (is_file_name (file_id v.name))) (list_any has_bad_dim (map (dim_of c) (element_dimensions c v))) n.0 in
+    record { number = not-false (is_number (base_of v.external_type)) k.0; file = not-false (is_file_name (file_id v.name)) m.0; dims = m.1 }
 fit_by c v false false is kind names =
-    let n = or_none (is_misnamed (array_of c v)) false names in
-    let m = or_none (not (is_file_name (file_id v.name))) (list_any has_bad_dim (map (dim_of c) (element_dimensions c v))) n.0 in
-    record { number = unnot (is_number (base_of v.external_type)) kind; file = unnot (is_file_name (file_id v.name)) m.0; dims = m.1 }
+    let n = or_parts (is_misnamed (array_of c v)) false names in
+    let m = or_parts (not (is_file_name (file_id v.name))) (list_any has_bad_dim (map (dim_of c) (element_dimensions c v))) n.0 in
+    record { number = not-false (is_number (base_of v.external_type)) kind; file = not-false (is_file_name (file_id v.name)) m.0; dims = m.1 }
 
 fit_of : (c : Contents) (v : source.Variable) → is_other_kind (member_of c v) ≡ false → has_bad_name (member_of c v) ≡ false → IsFit c v
 unfolding member_of
@@ -181,7 +182,7 @@ array_there m (sequence name columns, t) kind other = cc kind
 
 unclashed : (all earlier : List Top) (m : Variable) → map_clashes all earlier m ≡ false → option_map_or (is_other_than m) (top_named m.name all) false ≡ false
 unfolding map_clashes
-unclashed all earlier m none = (or_none (option_map_or (is_other_than m) (top_named m.name all) false) _ none).0
+unclashed all earlier m none = (or_parts (option_map_or (is_other_than m) (top_named m.name all) false) _ none).0
 
 abbrev HaveKinds : List Top → Type 0
 HaveKinds tops = AllByRecursion (λ (t : Top). is_other_kind t.0 ≡ false) tops
@@ -200,7 +201,7 @@ not_new all earlier m is = ap (λ b. not b && not (is_some (find (has_name m.nam
 
 there_named : (vs : List Variable) (d : Dim) (m : Variable) → map_at vs d ≡ Some m → is_some (top_named m.name (map (top_from vs) vs)) ≡ true
 there_named vs d m e =
-    find_any (λ (t : Top). bytes_eq m.name (name_of t.0)) (map (top_from vs) vs) ∙ names_from m.name vs vs ∙ found_other (is_map_at (dim_name d)) (has_name m.name) vs m e (own_name m.name)
+    find_any (λ (t : Top). bytes_eq m.name (name_of t.0)) (map (top_from vs) vs) ∙ names_from m.name vs vs ∙ found_other (is_map_at (dim_name d)) (has_name m.name) vs m e (bytes_itself m.name)
 
 none_kept : (vs : List Variable) (all earlier : List Top) (dims : List Dim) → all ≡ map (top_from vs) vs → HaveKinds all → list_any (map_clashes all earlier) (maps_among vs dims) ≡ false → filter (is_new all earlier) (maps_among vs dims) ≡ []
 none_kept vs all earlier [] is kinds none = refl
@@ -210,7 +211,7 @@ none_kept vs all earlier (d ∷ dims) is kinds none = by (map_at vs d) refl none
         → (list_any (map_clashes all earlier) (maps_among vs dims) ≡ false → filter (is_new all earlier) (maps_among vs dims) ≡ []) → filter (is_new all earlier) (cons_option o (maps_among vs dims)) ≡ []
     by None e free rest = rest free
     by (Some m) e free rest =
-        let both = or_none (map_clashes all earlier m) (list_any (map_clashes all earlier) (maps_among vs dims)) free in
+        let both = or_parts (map_clashes all earlier m) (list_any (map_clashes all earlier) (maps_among vs dims)) free in
         let there : is_some (top_named m.name all) ≡ true = ap (λ l. is_some (top_named m.name l)) is ∙ there_named vs d m e in
         let old = not_new all earlier m (is_top_array all m kinds there (unclashed all earlier m both.0)) in
         ap (λ b. cond b (m ∷ filter (is_new all earlier) (maps_among vs dims)) (filter (is_new all earlier) (maps_among vs dims))) old ∙ rest both.1

@@ -5,15 +5,11 @@ use Rattle.std.proofs.lemmas.Grind.{flat_map-append}
 use Rattle.std.proofs.lemmas.List.Folds.{find-append}
 use Rattle.std.proofs.lemmas.List.Sums.{sum_by_push}
 use Rattle.std.specs.Option.{option_or}
-use Rattle.dap_model.proofs.Clauses.{or_false}
+use Rattle.plain_lemmas.proofs.Truths.{or_false}
 use Rattle.netcdf_writer.specs.Causes.{records_clash, most_record, is_inner_record, is_second_record}
 use Rattle.netcdf_writer.specs.Variables.{Variable, all_dims, is_empty_dim, is_record, room_in_record, record_bytes}
 use Rattle.netcdf_writer.specs.inner.Planned.{IsRecord, is_second}
 use Rattle.netcdf_writer.specs.declared.plan.Record.{Record}
-
-pub or_true : (b : Bool) → (b || true) ≡ true
-or_true true = refl
-or_true false = refl
 
 pub dims_more : (vs : List Variable) (v : Variable) → all_dims (vs ++ v ∷ []) ≡ all_dims vs ++ v.dims
 dims_more vs v = flat_map-append (λ w. w.dims) vs (v ∷ []) ∙ ap (λ l. all_dims vs ++ l) (append-nil v.dims)

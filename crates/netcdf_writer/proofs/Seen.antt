@@ -1,7 +1,7 @@
 -- What a header makes of the variables that it offers, said by their names, types, dimensions and values alone.
 use Rattle.std.proofs.Common.{◌≡◌, ℕ, zero, suc, ◌+◌, ◌≤◌, Bool, true, false, not, ◌&&◌, ◌||◌, ◌==◌, cond, List, [], ◌∷◌, ◌++◌, length, map, filter, find, Option, Some, None, option_map, is_some, refl, ap, sym, subst, ◌∙◌, arith, if◌then◌else◌}
 use Rattle.std.specs.Prelude.{filter_map, is_none, option_and_then, slice_get}
-use Rattle.std.proofs.lemmas.Bool.{eqb-true, true≢false}
+use Rattle.std.proofs.lemmas.Bool.{eqb-true, true≢false, or_parts, or_from}
 use Rattle.std.proofs.lemmas.Bool.Decides.{nat_tests}
 use Rattle.std.proofs.lemmas.List.{length-map, map-append}
 use Rattle.std.proofs.lemmas.Option.{same_Some}
@@ -9,7 +9,7 @@ use Rattle.std.proofs.lemmas.Slice.Eq.{bytes_eq-Decides}
 use Rattle.std.specs.List.{AllByRecursion, cons_option, list_all, list_any, position_from}
 use Rattle.std.specs.Option.{option_map_or}
 use Rattle.std.specs.Str.{bytes_eq}
-use Rattle.netcdf_writer.proofs.Apart.{or_both}
+use Rattle.plain_lemmas.proofs.Numbers.{from_zero}
 use Rattle.dap_types.specs.Model.{Member, scalar, array, grid, Tree, many, trees_of}
 use Rattle.dap_types.specs.Names.{file_id}
 use Rattle.dap_types.specs.declared.declarations.ArrayDecl.{ArrayDecl}
@@ -28,8 +28,7 @@ use Rattle.netcdf_source.specs.declared.header.Contents.{Contents}
 use Rattle.netcdf_source.specs.declared.header.Dimension.{Dimension}
 use Rattle.netcdf_source.specs.declared.header.Variable as source
 use Rattle.netcdf_source.specs.inner.Sound.{InTurn, IsDimension, IsSound}
-use Rattle.netcdf_writer.proofs.DimsBack.{from_zero, place_of}
-use Rattle.netcdf_writer.proofs.FileNames.{or_none}
+use Rattle.netcdf_writer.proofs.DimsBack.{place_of}
 use Rattle.netcdf_writer.proofs.ReadsBack.{all_dimensions}
 use Rattle.netcdf_writer.specs.Names.{undone}
 use Rattle.netcdf_writer.specs.Variables.{Variable, dim_name}
@@ -113,11 +112,11 @@ some_dim : (d e : Dimension) → Path (Option Dimension) (Some d) (Some e) → d
 some_dim d e is = cc
 
 any_push : {X : Type 0} (p : X → Bool) (xs : List X) (y : X) → list_any p (xs ++ y ∷ []) ≡ false → (list_any p xs ≡ false) × (p y ≡ false)
-any_push p [] y e = (refl, (or_none (p y) false e).0)
+any_push p [] y e = (refl, (or_parts (p y) false e).0)
 any_push p (x ∷ xs) y e =
-    let both = or_none (p x) (list_any p (xs ++ y ∷ [])) e in
+    let both = or_parts (p x) (list_any p (xs ++ y ∷ [])) e in
     let rest = any_push p xs y both.1 in
-    (or_both (p x) (list_any p xs) both.0 rest.0, rest.1)
+    (or_from (p x) (list_any p xs) both.0 rest.0, rest.1)
 
 abbrev named : List Dimension → List (List ℕ)
 named ds = map (λ (d : Dimension). d.name) ds

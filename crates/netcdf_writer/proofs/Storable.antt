@@ -6,6 +6,7 @@ use Rattle.std.proofs.lemmas.Grind.{flat_map-append}
 use Rattle.std.proofs.lemmas.List.Sums.{sum_by-append, sum_by_push}
 use Rattle.std.specs.List.{AllByRecursion, AllZip, list_any}
 use Rattle.std.specs.Option.{option_map_or}
+use Rattle.std.proofs.lemmas.Bool.{or_parts, or_from, not-false}
 use Rattle.dap_types.specs.Model.{Member, scalar, array, structure, grid, sequence, Members, no_members, member, Dataset, Tree, kids, name_of, sizes}
 use Rattle.dap_types.specs.WellFormed.{IsSized, Place, leaf_places, part_places, places, places_of}
 use Rattle.dap_types.specs.declared.declarations.ArrayDecl.{ArrayDecl}
@@ -13,10 +14,9 @@ use Rattle.dap_types.specs.declared.declarations.Dim.{Dim}
 use Rattle.dap_model.proofs.Values.{all_first, all_rest}
 use Rattle.dap_model.specs.Fits.{Fits, FitsAll, FitsArray}
 use Rattle.dap_model.specs.Laws.{is_number}
-use Rattle.netcdf_writer.proofs.Apart.{AreNew, NoCauses, all_join, all_kept, all_left, all_of, all_right, are_new, has_none, no_causes, or_both, variables_apart}
+use Rattle.netcdf_writer.proofs.Apart.{AreNew, NoCauses, all_join, all_kept, all_left, all_of, all_right, are_new, has_none, no_causes, variables_apart}
 use Rattle.netcdf_writer.proofs.DimsBack.{IsGoodDim, IsLocated, IsSingle, dims_located, single}
 use Rattle.netcdf_writer.proofs.Dimensions.{dims_clash_more}
-use Rattle.netcdf_writer.proofs.FileNames.{or_none}
 use Rattle.netcdf_writer.proofs.Fitting.{stored_filled}
 use Rattle.netcdf_writer.proofs.Headers.{room_within}
 use Rattle.netcdf_writer.proofs.Planning.{stored_none, stored_one}
@@ -36,10 +36,6 @@ pub record IsGoodVariable (v : Variable) : Type 0 where
   pub rank : length v.dims ≤ 32
   pub fits : FitsArray v.base (sizes_of v) v.tree
 
-pub unnot : (b : Bool) → not b ≡ false → b ≡ true
-unnot true e = refl
-unnot false e = cc e
-
 named_is : (o : Option (List ℕ)) → is_none o ≡ false → o ≡ Some (option_map_or (λ n. n) o [])
 named_is None e = cc e
 named_is (Some n) e = refl
@@ -47,17 +43,17 @@ named_is (Some n) e = refl
 good_dims : (dims : List Dim) → list_any (λ d. is_none d.name) dims ≡ false → list_any (λ d. not (is_file_name (dim_name d))) dims ≡ false → All (λ n. n ≤ 2147483647) (map (λ d. d.size) dims) → AllByRecursion IsGoodDim dims
 good_dims [] named valid few = tt
 good_dims (d ∷ dims) named valid few =
-    let n = or_none (is_none d.name) _ named in
-    let v = or_none (not (is_file_name (dim_name d))) _ valid in (
-      record { named = named_is d.name n.0; file = unnot (is_file_name (dim_name d)) v.0; few = all_first (λ k. k ≤ 2147483647) d.size (map (λ e. e.size) dims) few },
+    let n = or_parts (is_none d.name) _ named in
+    let v = or_parts (not (is_file_name (dim_name d))) _ valid in (
+      record { named = named_is d.name n.0; file = not-false (is_file_name (dim_name d)) v.0; few = all_first (λ k. k ≤ 2147483647) d.size (map (λ e. e.size) dims) few },
       good_dims dims n.1 v.1 (all_rest (λ k. k ≤ 2147483647) d.size (map (λ e. e.size) dims) few),
     )
 
 good_array : (a : ArrayDecl) (t : Tree) → is_number a.base ≡ true → list_any (λ d. is_none d.name) a.dims ≡ false → is_misnamed a ≡ false → IsSized (array a) → FitsArray a.base (sizes a) t → IsGoodVariable (array_variable a t)
 unfolding is_misnamed
 good_array a t number named valid sized fit =
-    let v = or_none (not (is_file_name a.name)) _ valid in
-    record { number = number; file = unnot (is_file_name a.name) v.0; dims = good_dims a.dims named v.1 sized.2; rank = sized.1; fits = fit }
+    let v = or_parts (not (is_file_name a.name)) _ valid in
+    record { number = number; file = not-false (is_file_name a.name) v.0; dims = good_dims a.dims named v.1 sized.2; rank = sized.1; fits = fit }
 
 abbrev SizedArray : ArrayDecl → Type 0
 SizedArray a = IsSized (array a)
@@ -67,10 +63,10 @@ good_arrays : (arrays : List ArrayDecl) (ts : List Tree) → list_any (λ b. not
 good_arrays [] ts number named valid sized fit = tt
 good_arrays (a ∷ arrays) [] number named valid sized fit = absurd fit
 good_arrays (a ∷ arrays) (t ∷ ts) number named valid sized fit =
-    let k = or_none (not (is_number a.base)) _ number in
-    let n = or_none (list_any (λ d. is_none d.name) a.dims) _ named in
-    let v = or_none (is_misnamed a) _ valid in
-    (good_array a t (unnot (is_number a.base) k.0) n.0 v.0 sized.0 fit.0, good_arrays arrays ts k.1 n.1 v.1 sized.1 fit.1)
+    let k = or_parts (not (is_number a.base)) _ number in
+    let n = or_parts (list_any (λ d. is_none d.name) a.dims) _ named in
+    let v = or_parts (is_misnamed a) _ valid in
+    (good_array a t (not-false (is_number a.base) k.0) n.0 v.0 sized.0 fit.0, good_arrays arrays ts k.1 n.1 v.1 sized.1 fit.1)
 
 abbrev IsSizedPlace : Place → Type 0
 IsSizedPlace p = IsSized p.variable
@@ -83,9 +79,9 @@ top_good : (depth : ℕ) (m : Member) (t : Tree) → is_other_kind m ≡ false �
     → AllByRecursion IsGoodVariable (own (m, t)) × AllByRecursion IsGoodVariable (maps_of (m, t))
 unfolding is_other_kind lacks_name has_bad_name own maps_of
 top_good depth (scalar c) t number named valid sized parts fit =
-    ((record { number = unnot (is_number c.base) number; file = unnot (is_file_name c.name) valid; dims = tt; rank = omega arith; fits = fit }, tt), tt)
+    ((record { number = not-false (is_number c.base) number; file = not-false (is_file_name c.name) valid; dims = tt; rank = omega arith; fits = fit }, tt), tt)
 top_good depth (array a) t number named valid sized parts fit =
-    ((good_array a t (unnot (is_number a.base) number) (or_none (list_any (λ d. is_none d.name) a.dims) _ named).0 (or_none (is_misnamed a) _ valid).0 sized fit, tt), tt)
+    ((good_array a t (not-false (is_number a.base) number) (or_parts (list_any (λ d. is_none d.name) a.dims) _ named).0 (or_parts (is_misnamed a) _ valid).0 sized fit, tt), tt)
 top_good depth (structure name _) t number named valid sized parts fit = cc number
 top_good depth (sequence name columns) t number named valid sized parts fit = cc number
 top_good depth (grid name a maps) t number named valid sized parts fit = of_kids (kids t) fit.1
@@ -110,7 +106,7 @@ tops_good all earlier names (member m ms) (t ∷ ts) none sized fit =
 
 no_dims_clash_in : (all earlier : List Top) (top : Top) → clashes all earlier top ≡ false → dims_clash (all_dims (stored_from all [] earlier)) (all_dims (stored all earlier top)) ≡ false
 unfolding clashes
-no_dims_clash_in all earlier top none = (or_none _ (dims_clash (all_dims (stored_from all [] earlier)) (all_dims (stored all earlier top))) none).1
+no_dims_clash_in all earlier top none = (or_parts _ (dims_clash (all_dims (stored_from all [] earlier)) (all_dims (stored all earlier top))) none).1
 
 no_records_clash_in : (all earlier : List Top) (top : Top) → has_bad_zero all earlier top ≡ false → records_clash (stored_from all [] earlier) (stored all earlier top) ≡ false
 unfolding has_bad_zero
@@ -125,7 +121,7 @@ unclashed all earlier (top ∷ tops) none so =
     let parts : all_dims (stored_from all [] (earlier ++ top ∷ [])) ≡ all_dims before ++ all_dims own_ones = ap all_dims (stored_one all earlier top) ∙ flat_map-append (λ w. w.dims) before own_ones in
     ap (λ l. dims_clash [] (all_dims (stored_from all [] l))) (sym (append_assoc earlier (top ∷ []) tops))
     ∙ unclashed all (earlier ++ top ∷ []) tops none.1
-    (ap (dims_clash []) parts ∙ dims_clash_more [] (all_dims before) (all_dims own_ones) ∙ or_both (dims_clash [] (all_dims before)) (dims_clash (all_dims before) (all_dims own_ones)) so (no_dims_clash_in all earlier top facts.clash))
+    (ap (dims_clash []) parts ∙ dims_clash_more [] (all_dims before) (all_dims own_ones) ∙ or_from (dims_clash [] (all_dims before)) (dims_clash (all_dims before) (all_dims own_ones)) so (no_dims_clash_in all earlier top facts.clash))
 
 unmixed : (all earlier tops : List Top) → NoCauses all earlier tops → records_clash [] (stored_from all [] earlier) ≡ false → records_clash [] (stored_from all [] (earlier ++ tops)) ≡ false
 unmixed all earlier [] none so = ap (λ l. records_clash [] (stored_from all [] l)) (append-nil earlier) ∙ so
@@ -135,7 +131,7 @@ unmixed all earlier (top ∷ tops) none so =
     let facts = has_none all earlier top none.0 in
     ap (λ l. records_clash [] (stored_from all [] l)) (sym (append_assoc earlier (top ∷ []) tops))
     ∙ unmixed all (earlier ++ top ∷ []) tops none.1
-    (ap (records_clash []) (stored_one all earlier top) ∙ clash_more [] before own_ones ∙ or_both (records_clash [] before) (records_clash before own_ones) so (no_records_clash_in all earlier top facts.zero))
+    (ap (records_clash []) (stored_one all earlier top) ∙ clash_more [] before own_ones ∙ or_from (records_clash [] before) (records_clash before own_ones) so (no_records_clash_in all earlier top facts.zero))
 
 no_dims : (all : List Top) → dims_clash [] (all_dims (stored_from all [] [])) ≡ false
 unfolding dims_clash

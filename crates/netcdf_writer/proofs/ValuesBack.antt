@@ -6,6 +6,7 @@ use Rattle.std.proofs.lemmas.Nat.{from_be_bytes-to_be_bytes_4, from_be_bytes-to_
 use Rattle.std.proofs.Math.Nat.{mul-div_cancel_left}
 use Rattle.std.specs.Int.{to_be_bytes, from_be_bytes, cast_signed, cast_unsigned, w8, w16, w32, w64}
 use Rattle.std.specs.List.{range_with_len}
+use Rattle.dap_model.proofs.Whole.{trees_of-items}
 use mir.Val.{SFits}
 use Rattle.dap_types.specs.Model.{Tree, one, many, Trees, no_trees, tree, items, product, trees_of}
 use Rattle.dap_types.specs.declared.declarations.BaseType.{BaseType}
@@ -114,10 +115,6 @@ rows base ns n width bytes read e wide each (tree t us) k front fits begin count
     ap (λ x. x ∷ map (row base ns n bytes) (range_with_len (k + 1) (length (items us)))) (read t (piece n k bytes) fit here)
     ∙ ap (λ l. t ∷ l) (rows base ns n width bytes read e wide each us (k + 1) (front ++ own) (all_rest (FitsArray base ns) t (items us) fits) next (omega (arith, count)) (parts ∙ sym (append_assoc front own (values_bytes base (values_in_all us)))))
 
-trees_back : (ts : Trees) → trees_of (items ts) ≡ ts
-trees_back no_trees = refl
-trees_back (tree t ts) = ap (tree t) (trees_back ts)
-
 map_map : {X Y Z : Type 0} (g : Y → Z) (f : X → Y) (xs : List X) → map g (map f xs) ≡ map (λ x. g (f x)) xs
 map_map g f [] = refl
 map_map g f (x ∷ xs) = ap (λ l. g (f x) ∷ l) (map_map g f xs)
@@ -138,7 +135,7 @@ read_back base (n ∷ ns) e (many ts) bytes fit is =
     let width = product ns * width_of base in
     let total : length bytes ≡ n * width = ap length is ∙ tree_length base (n ∷ ns) (many ts) e fit ∙ regroup n (product ns) (width_of base) in
     many_is base n ns bytes ∙ ap (λ k. many (trees_of (map (row base ns n bytes) (range_with_len 0 k)))) (sym fit.0)
-    ∙ ap (λ l. many (trees_of l)) (rows base ns n width bytes (read_back base ns e) e refl (λ some. ap (λ k. k / n) total ∙ mul-div_cancel_left width some) ts 0 [] fit.1 (omega arith) (let few = fit.0 in omega (arith, few)) is) ∙ ap many (trees_back ts)
+    ∙ ap (λ l. many (trees_of l)) (rows base ns n width bytes (read_back base ns e) e refl (λ some. ap (λ k. k / n) total ∙ mul-div_cancel_left width some) ts 0 [] fit.1 (omega arith) (let few = fit.0 in omega (arith, few)) is) ∙ ap many (trees_of-items ts)
   where
     regroup : (n p w : ℕ) → n * p * w ≡ n * (p * w)
     regroup n p w = omega arith

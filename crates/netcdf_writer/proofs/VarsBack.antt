@@ -1,13 +1,14 @@
 -- The variables of a file: their fields in the header, none of which has a fault.
-use Rattle.std.proofs.Common.{◌≡◌, ℕ, zero, suc, ◌+◌, ◌*◌, ◌<◌, ◌≤◌, ◌^◌, Bool, true, false, not, ◌&&◌, ◌||◌, ◌==◌, List, [], ◌∷◌, ◌++◌, length, map, drop, flat_map, Option, None, option_map, refl, ap, sym, subst, ◌∙◌, append-nil, append_assoc, arith, nat_lt, nat_le, if◌then◌else◌}
-use Rattle.std.specs.Prelude.{slice_get}
+use Rattle.std.proofs.Common.{◌≡◌, ℕ, ◌+◌, ◌*◌, ◌<◌, ◌≤◌, ◌^◌, Bool, true, false, not, ◌&&◌, ◌||◌, ◌==◌, List, [], ◌∷◌, ◌++◌, length, map, drop, flat_map, Option, None, option_map, refl, ap, sym, subst, ◌∙◌, append-nil, append_assoc, arith, nat_lt, nat_le, if◌then◌else◌}
 use Rattle.std.proofs.lemmas.Bool.Decides.{nat_tests}
 use Rattle.std.proofs.lemmas.List.{length-map, map-append}
 use Rattle.std.proofs.lemmas.List.Sums.{sum_by_push}
 use Rattle.std.specs.List.{AllByRecursion, list_any}
 use Rattle.std.specs.Option.{option_map_or}
 use Rattle.std.specs.Str.{bytes_eq}
-use Rattle.netcdf_writer.proofs.Apart.{or_both}
+use Rattle.std.proofs.lemmas.Bool.{or_parts, or_from, and_right}
+use Rattle.std.proofs.lemmas.Option.{slice_get-map}
+use Rattle.plain_lemmas.proofs.Lists.{any-map}
 use Rattle.dap_types.specs.Limits.{most_dimensions}
 use Rattle.dap_types.specs.Model.{product}
 use Rattle.dap_types.specs.declared.declarations.BaseType.{BaseType}
@@ -29,8 +30,7 @@ use Rattle.netcdf_source.specs.declared.version.Version.{Version}
 use Rattle.netcdf_source.specs.declared.version.Width.{Width}
 use Rattle.netcdf_source.specs.declared.version.Width.TheVariants.{Four}
 use Rattle.netcdf_writer.proofs.DimsBack.{IsLocated, fits_width, new_name_prints}
-use Rattle.netcdf_writer.proofs.FileNames.{name_fits, name_good, none_named, or_none}
-use Rattle.netcdf_writer.proofs.Listing.{any_map}
+use Rattle.netcdf_writer.proofs.FileNames.{name_fits, name_good, none_named}
 use Rattle.netcdf_writer.proofs.Prints.{AllTurn, Prints, prints_both, prints_list, prints_none, prints_number, prints_turn}
 use Rattle.netcdf_writer.proofs.Storable.{AllSet, IsSetIn, room_few}
 use Rattle.netcdf_writer.specs.Causes.{is_inner_record, most_record}
@@ -48,20 +48,11 @@ dims_in all = map dimension (dims_of all)
 abbrev pub kind_of : Variable → ExternalType
 kind_of v = external_type (type_number v.base)
 
-and_none : (b c : Bool) → c ≡ false → (b && c) ≡ false
-and_none true c e = e
-and_none false c e = refl
-
 -- ---- what a variable says of itself there
-
-pub slice_map : {X Y : Type 0} (f : X → Y) (xs : List X) (i : ℕ) → slice_get (map f xs) i ≡ option_map f (slice_get xs i)
-slice_map f [] i = refl
-slice_map f (x ∷ xs) zero = refl
-slice_map f (x ∷ xs) (suc i) = slice_map f xs i
 
 pub length_is : (ds : List Dim) (d : Dim) → IsLocated ds d → length_at (map dimension ds) (id_of ds d) ≡ d.size
 unfolding length_at
-length_is ds d so = ap (λ (o : Option Dimension). option_map_or (λ e. e.length) o 1) (slice_map dimension ds (id_of ds d) ∙ ap (option_map dimension) so.get) ∙ so.size
+length_is ds d so = ap (λ (o : Option Dimension). option_map_or (λ e. e.length) o 1) (slice_get-map dimension ds (id_of ds d) ∙ ap (option_map dimension) so.get) ∙ so.size
 
 lengths_from : (ds dims : List Dim) → AllByRecursion (IsLocated ds) dims → lengths (map dimension ds) (map (id_of ds) dims) ≡ map (λ d. d.size) dims
 lengths_from ds [] all = refl
@@ -192,13 +183,13 @@ unfolding id_fields
 ids_turn w ds before [] many all single later = tt
 ids_turn w ds before (d ∷ dims) many all single later =
     let few = all.0.within in (
-      prints_number w (dimension_fault (map dimension ds) (length before == 0)) (id_of ds d) (id_good ds d (length before == 0) all.0 (λ e. (or_none (d.size == 0) _ (later e)).0)) (fits_width w (id_of ds d) (omega (arith, few, many))),
+      prints_number w (dimension_fault (map dimension ds) (length before == 0)) (id_of ds d) (id_good ds d (length before == 0) all.0 (λ e. (or_parts (d.size == 0) _ (later e)).0)) (fits_width w (id_of ds d) (omega (arith, few, many))),
       ids_turn w ds (before ++ id_of ds d ∷ []) dims many all.1 (tail_single dims single) (λ _. single),
     )
   where
     tail_single : (ds : List Dim) → list_any is_empty_dim ds ≡ false → list_any is_empty_dim (drop 1 ds) ≡ false
     tail_single [] e = refl
-    tail_single (x ∷ ds) e = (or_none (x.size == 0) _ e).1
+    tail_single (x ∷ ds) e = (or_parts (x.size == 0) _ e).1
 
 ids_print : (w : Width) (all : List Variable) (v : Variable) → length (dims_of all) < 2 ^ 32 → AllByRecursion (IsLocated (dims_of all)) v.dims → is_inner_record v ≡ false → length v.dims ≤ 32
     → Prints (judged w rank_fault (length (ids_of all v)) ∷ in_turn (id_fields w (dims_in all)) (λ n. n) [] (ids_of all v)) (ids_bytes w (ids_of all v))
@@ -223,9 +214,9 @@ none_print version =
 size_good : (dims : List Dimension) (sum : ℕ) (ids : List ℕ) (kind : ExternalType) (n p s : ℕ) → part_in dims ids kind ≡ p → share dims ids kind ≡ s → p < 2 ^ 32 → sum + s < 2 ^ 33 → size_fault dims sum ids kind n ≡ None
 unfolding size_fault part_fault
 size_good dims sum ids kind n p s own shared few all =
-    ap (λ b. bad_if b 0) (or_both (nat_lt (2 ^ 62) (part_in dims ids kind)) (is_record_in dims ids && nat_lt (2 ^ 62) (sum + share dims ids kind))
+    ap (λ b. bad_if b 0) (or_from (nat_lt (2 ^ 62) (part_in dims ids kind)) (is_record_in dims ids && nat_lt (2 ^ 62) (sum + share dims ids kind))
     (ap (nat_lt (2 ^ 62)) own ∙ low p (omega (arith, few)))
-    (and_none (is_record_in dims ids) (nat_lt (2 ^ 62) (sum + share dims ids kind)) (ap (λ k. nat_lt (2 ^ 62) (sum + k)) shared ∙ low (sum + s) (omega (arith, all)))))
+    (and_right (is_record_in dims ids) (nat_lt (2 ^ 62) (sum + share dims ids kind)) (ap (λ k. nat_lt (2 ^ 62) (sum + k)) shared ∙ low (sum + s) (omega (arith, all)))))
   where
     low : (k : ℕ) → k < 2 ^ 62 → nat_lt (2 ^ 62) k ≡ false
     low k few = grind (arith, nat_tests, few)
@@ -278,7 +269,7 @@ variable_prints front all earlier vs v before is so behind many few short =
     let behind_few = behind.records in
     let sum_few : shares (dims_in all) before + room_in_record v < 2 ^ 33 = let s = behind.bytes in omega (arith, s, behind_few, record_is, room_is) in
     let start = begin_few front all earlier v short few behind.fixed behind.records in
-    let none = none_named v.name (map (λ (u : Variable). u.name) earlier) so.good.file behind.valid (any_map (bytes_eq v.name) (λ (u : Variable). u.name) earlier ∙ so.new) in
+    let none = none_named v.name (map (λ (u : Variable). u.name) earlier) so.good.file behind.valid (any-map (bytes_eq v.name) (λ (u : Variable). u.name) earlier ∙ so.new) in
     let six =
     prints_both (new_name_fields w (map (λ b. b.name) before) name) _ (name_bytes w name) _
     (new_name_prints w (map (λ b. b.name) before) name (name_good v.name so.good.file) (name_fits v.name so.good.file).1 (ap (list_any (bytes_eq name)) behind.names ∙ none))

@@ -1,7 +1,7 @@
 -- What clashes with what stands before it, one after the other.
 use Rattle.std.proofs.Common.{◌≡◌, ℕ, ◌+◌, ◌<◌, Bool, true, false, not, ◌||◌, List, ◌∷◌, ◌++◌, take, drop, length, get_or, refl, ap, sym, ◌∙◌, take-append-drop}
 use Rattle.std.proofs.lemmas.List.{map-append}
-use Rattle.dap_types.proofs.Views.{drop-here}
+use Rattle.plain_lemmas.proofs.Lists.{drop_here}
 use Rattle.netcdf_writer.specs.inner.Tables.{variable_view, variable_views}
 use Rattle.netcdf_writer.specs.declared.lent.Lent.{Lent}
 
@@ -16,7 +16,7 @@ module _ {X : Type 0} (clash : List X → List X → Bool) (more : (earlier us v
       ap (clash earlier) is ∙ more earlier front mid ∙ ap (λ b. b || clash (earlier ++ front) mid) none ∙ free
 
 pub split : {X : Type 0} (xs : List X) (i : ℕ) (x : X) → i < length xs → x ≡ get_or xs i x → xs ≡ take i xs ++ x ∷ drop (i + 1) xs
-split xs i x lt is = sym (take-append-drop i xs) ∙ ap (λ l. take i xs ++ l) (drop-here xs i x lt is)
+split xs i x lt is = sym (take-append-drop i xs) ∙ ap (λ l. take i xs ++ l) (drop_here xs i x lt is)
 
 pub views_split : (xs : List Lent) (i : ℕ) (x : Lent) → i < length xs → x ≡ get_or xs i x → variable_views xs ≡ variable_views (take i xs) ++ variable_view x ∷ variable_views (drop (i + 1) xs)
 views_split xs i x lt is = ap variable_views (split xs i x lt is) ∙ map-append variable_view (take i xs) (x ∷ drop (i + 1) xs)

@@ -1,8 +1,10 @@
 -- Arrays in the bytes of a response: their counts, their elements and what fills them up.
-use Rattle.std.proofs.Common.{◌≡◌, ℕ, zero, suc, ◌+◌, ◌*◌, ◌<◌, ◌≤◌, ◌^◌, List, [], ◌∷◌, ◌++◌, length, map, refl, sym, ap, ◌∙◌, subst, arith, append_assoc, append-nil}
+use Rattle.std.proofs.Common.{◌≡◌, ℕ, ◌+◌, ◌*◌, ◌<◌, ◌≤◌, ◌^◌, List, [], ◌∷◌, ◌++◌, length, map, refl, sym, ap, ◌∙◌, subst, arith, append_assoc, append-nil}
 use Rattle.std.specs.List.{zip}
-use Rattle.std.proofs.Math.Nat.{mul-le-mul_left}
 use Rattle.std.proofs.lemmas.Nat.{mul-le}
+use Rattle.dap_model.proofs.Counts.{few_picked}
+use Rattle.xdr_encode.proofs.ArrayParts.{last}
+use Rattle.xdr_decode.proofs.Arrays.{fields_of_bytes}
 use Rattle.dap_types.specs.Model.{Tree, product, sizes}
 use Rattle.dap_types.specs.declared.declarations.ArrayDecl.{ArrayDecl}
 use Rattle.dap_types.specs.declared.declarations.BaseType.{BaseType}
@@ -12,20 +14,15 @@ use Rattle.dap_types.specs.declared.values.Value.{Value}
 use Rattle.dap_types.specs.declared.declarations.Dim.{Dim}
 use Rattle.dap_model.proofs.Filtering.{length-values_in-cut}
 use Rattle.dap_model.proofs.Values.{bytes_of-append, length-values_in, values_of_fit}
-use Rattle.dap_model.specs.Cutting.{AreWithin, IsWithin, cut}
+use Rattle.dap_model.specs.Cutting.{AreWithin, cut}
 use Rattle.dap_model.specs.Fits.{FitsArray, values_in}
 use Rattle.dap_model.specs.Xdr.{Field, count, packed, filler, array_fields, bytes_of, field_bytes, word, zeros, SpellsFields}
 use Rattle.hyperslab_plan.specs.Picked.{count_of}
 use Rattle.xdr_decode.specs.inner.Taken.{elements_fields}
 use Rattle.xdr_encode.specs.Leaves.{counts_of, filler_of}
-use Rattle.saved_source.proofs.Cutting.{in_range, run}
+use Rattle.saved_source.proofs.Cutting.{run}
 use Rattle.saved_source.proofs.Exact.{AllSingle, elements_single, fields_exact, single-append}
 use Rattle.saved_source.specs.Walked.{StandElements, StandsArray}
-
--- ---- the bytes of an array in three parts
-all_packed : (vs : List Value) → map packed vs ≡ elements_fields Byte vs
-all_packed [] = refl
-all_packed (v ∷ vs) = ap (λ fs. packed v ∷ fs) (all_packed vs)
 
 two_counts : (n : ℕ) (fs : List Field) → bytes_of (count n ∷ count n ∷ fs) ≡ (word n ++ word n) ++ bytes_of fs
 unfolding bytes_of field_bytes
@@ -35,9 +32,8 @@ one_count : (n : ℕ) (fs : List Field) → bytes_of (count n ∷ fs) ≡ word n
 unfolding bytes_of field_bytes
 one_count n fs = refl
 
-last_filler : (n : ℕ) → bytes_of (filler n ∷ []) ≡ zeros n
 unfolding bytes_of field_bytes
-last_filler n = append-nil (zeros n)
+last n = append-nil (zeros n)
 
 plain : (n : ℕ) (fs : List Field) → bytes_of (count n ∷ count n ∷ fs) ≡ (word n ++ word n) ++ (bytes_of fs ++ [])
 plain n fs = two_counts n fs ∙ ap (λ l. (word n ++ word n) ++ l) (sym (append-nil (bytes_of fs)))
@@ -49,7 +45,7 @@ bytes : (vs : List Value) → bytes_of (array_fields Byte vs) ≡ (word (length 
 bytes vs =
     two_counts (length vs) (map packed vs ++ filler (length vs) ∷ [])
     ∙ ap (λ l. (word (length vs) ++ word (length vs)) ++ l)
-    (bytes_of-append (map packed vs) (filler (length vs) ∷ []) ∙ ap (λ l. bytes_of (map packed vs) ++ l) (last_filler (length vs)) ∙ ap (λ fs. bytes_of fs ++ zeros (length vs)) (all_packed vs))
+    (bytes_of-append (map packed vs) (filler (length vs) ∷ []) ∙ ap (λ l. bytes_of (map packed vs) ++ l) (last (length vs)) ∙ ap (λ fs. bytes_of fs ++ zeros (length vs)) (fields_of_bytes vs))
 
 pub three_parts : (base : BaseType) (vs : List Value) → bytes_of (array_fields base vs) ≡ counts_of base (length vs) ++ (run base vs ++ filler_of base (length vs))
 unfolding filler_of counts_of
@@ -65,7 +61,7 @@ three_parts Url vs = strings (length vs) (elements_fields Url vs)
 
 -- ---- it has one spelling, and few elements
 pub array_single : (base : BaseType) (vs : List Value) → AllSingle (array_fields base vs)
-array_single Byte vs = (tt, (tt, single-append (map packed vs) (filler (length vs) ∷ []) (subst AllSingle (sym (all_packed vs)) (elements_single Byte vs)) (tt, tt)))
+array_single Byte vs = (tt, (tt, single-append (map packed vs) (filler (length vs) ∷ []) (subst AllSingle (sym (fields_of_bytes vs)) (elements_single Byte vs)) (tt, tt)))
 array_single Int16 vs = (tt, (tt, elements_single Int16 vs))
 array_single UInt16 vs = (tt, (tt, elements_single UInt16 vs))
 array_single Int32 vs = (tt, (tt, elements_single Int32 vs))
@@ -123,22 +119,11 @@ counts_long Float64 m n = refl
 counts_long Text m n = refl
 counts_long Url m n = refl
 
--- ---- how many elements hyperslabs pick
-picked_few : (s : Slab) (n : ℕ) → IsWithin s n → s.count ≤ n
-picked_few s n w = go s.count refl
-  where
-    go : (c : ℕ) → s.count ≡ c → s.count ≤ n
-    go zero is = omega arith
-    go (suc c) is =
-        let below : s.start + c * s.stride < n = in_range s n c w (omega arith) in
-        let grows : c * 1 ≤ c * s.stride = mul-le-mul_left c w.0 in
-        omega (arith, below, grows)
-
 pub count_few : (slabs : List Slab) (ns : List ℕ) → AreWithin slabs ns → count_of slabs ≤ product ns
 count_few [] [] w = omega arith
 count_few [] (n ∷ ns) w = absurd w
 count_few (s ∷ slabs) [] w = absurd w
-count_few (s ∷ slabs) (n ∷ ns) w = mul-le s.count (count_of slabs) n (product ns) (picked_few s n w.0) (count_few slabs ns w.1)
+count_few (s ∷ slabs) (n ∷ ns) w = mul-le s.count (count_of slabs) n (product ns) (few_picked s n w.0) (count_few slabs ns w.1)
 
 pub counts_product : (dims : List Dim) (slabs : List Slab) → AreWithin slabs (map (λ dim. dim.size) dims) → product (map (λ d. d.size) (map (λ (p : Dim × Slab). record p.0 { size = p.1.count }) (zip dims slabs))) ≡ count_of slabs
 counts_product [] [] w = refl

@@ -5,16 +5,16 @@ use Rattle.std.specs.List.{cons_option, filter_map, flat_map, range_with_len}
 use Rattle.std.proofs.lemmas.Grind.{flat_map-append}
 use Rattle.std.proofs.lemmas.List.{take-append-drop, drop-drop}
 use Rattle.std.proofs.lemmas.List.Elements.{All-append, All-nil}
-use Rattle.std.proofs.lemmas.List.FromFn.{get_or-map-range_with_len, length-map-range_with_len}
 use Rattle.std.proofs.Math.Nat.{mul-le-mul_right}
 use Rattle.std.proofs.lemmas.Option.{slice_get-get_or}
+use Rattle.hyperslab_plan.proofs.PickedLemmas.{index-within}
 use Rattle.dap_types.specs.Model.{Tree, one, many, Trees, no_trees, tree, items, kids, product}
 use Rattle.dap_types.specs.declared.declarations.BaseType.{BaseType}
 use Rattle.dap_types.specs.declared.slabs.Slab.{Slab}
 use Rattle.dap_types.specs.declared.values.Value.{Value}
 use Rattle.dap_model.proofs.Cuts.{values_in-cut}
 use Rattle.dap_model.proofs.Values.{all_first, all_rest, all_front, all_back, bytes_of-append, length-values_in, values_of_fit}
-use Rattle.dap_model.specs.Cutting.{IsWithin, AreWithin, cut, indexes}
+use Rattle.dap_model.specs.Cutting.{IsWithin, AreWithin, cut}
 use Rattle.dap_model.specs.Fits.{FitsArray, IsMany, IsOf, values_in, values_in_all}
 use Rattle.dap_model.specs.Xdr.{bytes_of}
 use Rattle.xdr_decode.specs.inner.Taken.{element_fields, elements_fields}
@@ -69,14 +69,6 @@ first_stand base ns us i bytes rest all is = record {
   parts = is ∙ ap (λ l. l ++ rest) (run_parts base us i) ∙ append_assoc (run base (values_of (take i us))) (run base (values_of (drop i us))) rest;
 }
 
--- ---- the indexes of a hyperslab
-pub in_range : (s : Slab) (n k : ℕ) → IsWithin s n → k < s.count → s.start + k * s.stride < n
-in_range s n k w lt =
-    let at : get_or (indexes s) k 0 ≡ s.start + k * s.stride = get_or-map-range_with_len (λ k. s.start + k * s.stride) 0 s.count k k 0 lt (omega arith) in
-    let many : length (indexes s) ≡ s.count = length-map-range_with_len (λ k. s.start + k * s.stride) 0 s.count in
-    let below : get_or (indexes s) k 0 < n = w.1 k 0 (omega (arith, many, lt)) in
-    omega (arith, at, below)
-
 -- what it picks from its k-th index on, m items
 abbrev pub picks_from : {X : Type 0} → Slab → List X → ℕ → ℕ → List X
 picks_from s us k m = filter_map (slice_get us) (map (λ k. s.start + k * s.stride) (range_with_len k m))
@@ -96,7 +88,7 @@ pub picked_next : (base : BaseType) (n : ℕ) (s : Slab) (slabs : List Slab) (t 
     → cut_run base slabs (picks_from s (kids t) k (s.count - k)) ≡ run base (values_in (cut slabs (kid_at s t k))) ++ cut_run base slabs (picks_from s (kids t) (k + 1) (s.count - (k + 1)))
 picked_next base n s slabs t k w is lt =
     let m : s.count - k ≡ suc (s.count - (k + 1)) = omega arith in
-    let inside : s.start + k * s.stride < length (kids t) = omega (arith, in_range s n k w lt, is) in
+    let inside : s.start + k * s.stride < length (kids t) = omega (arith, index-within s n k w lt, is) in
     ap (λ j. cut_run base slabs (picks_from s (kids t) k j)) m
     ∙ ap (cut_run base slabs) (picks_next s (kids t) k (s.count - (k + 1)) t inside)
     ∙ run-append base (values_in (cut slabs (kid_at s t k))) (flat_map (λ u. values_in (cut slabs u)) (picks_from s (kids t) (k + 1) (s.count - (k + 1))))
@@ -150,7 +142,7 @@ step_small m n p le few = let small : m * p ≤ n * p = mul-le-mul_right p le in
 pub at_first : (base : BaseType) (n : ℕ) (ns : List ℕ) (s : Slab) (slabs : List Slab) (t : Tree) (bytes rest left : List ℕ) (inner count : ℕ) → IsNested base n ns s slabs t bytes rest
     → inner ≡ min (product ns) 4294967296 → count ≡ s.start * inner → StepsOver base count bytes left → IsAt base s t rest 0 left
 at_first base n ns s slabs t bytes rest left inner count st inner_is count_is step = λ lt.
-    let inside : s.start + 0 * s.stride < n = in_range s n 0 st.within lt in
+    let inside : s.start + 0 * s.stride < n = index-within s n 0 st.within lt in
     let same : inner ≡ product ns = inner_small n (product ns) inner st.few (omega arith) inner_is in
     let at : s.start + 0 * s.stride ≡ s.start = omega arith in
     let below : s.start ≤ length (kids t) = omega (arith, st.kids_long, inside) in
@@ -166,7 +158,7 @@ pub at_next : (base : BaseType) (n : ℕ) (ns : List ℕ) (s : Slab) (slabs : Li
 at_next base n ns s slabs t bytes rest left next inner count k st inner_is count_is before step = λ lt.
     let i : ℕ = s.start + k * s.stride in
     let us : List Tree = drop i (kids t) in
-    let inside : s.start + (k + 1) * s.stride < n = in_range s n (k + 1) st.within lt in
+    let inside : s.start + (k + 1) * s.stride < n = index-within s n (k + 1) st.within lt in
     let at : i + s.stride ≡ s.start + (k + 1) * s.stride = omega arith in
     let same : inner ≡ product ns = inner_small n (product ns) inner st.few (omega arith) inner_is in
     let below : s.stride ≤ length us = omega (arith, st.kids_long, inside, at, length-drop i (kids t)) in
@@ -182,7 +174,7 @@ pub kid_stands : (base : BaseType) (n : ℕ) (ns : List ℕ) (s : Slab) (slabs :
     → StandsNested base ns slabs (kid_at s t k) left (run base (values_of (drop (suc (s.start + k * s.stride)) (kids t))) ++ rest)
 kid_stands base n ns s slabs t bytes rest left k st at lt =
     let i : ℕ = s.start + k * s.stride in
-    let inside : i < length (kids t) = omega (arith, in_range s n k st.within lt, st.kids_long) in
+    let inside : i < length (kids t) = omega (arith, index-within s n k st.within lt, st.kids_long) in
     record {
       fit = st.kids_fit i t inside;
       within = st.others;

@@ -1,5 +1,6 @@
 -- The arrays of a Grid in the bytes of a response, and what goes out of them.
 use Rattle.std.proofs.Common.{◌≡◌, ℕ, ◌+◌, List, [], ◌∷◌, ◌++◌, Option, refl, sym, subst}
+use Rattle.saved_source.proofs.Putting.{no_bytes}
 use Rattle.dap_types.specs.Model.{Tree}
 use Rattle.dap_types.specs.declared.declarations.ArrayDecl.{ArrayDecl}
 use Rattle.dap_model.proofs.Values.{bytes_of-append}
@@ -73,12 +74,11 @@ none_more : (marks : Marks) (n : ℕ) (ts : List Tree) (left rest : List ℕ) �
 none_more marks n [] left rest st = spelt_none left rest st.spelt
 none_more marks n (t ∷ ts) left rest st = absurd st.fit
 
-empty : bytes_of [] ≡ []
 unfolding bytes_of
-empty = refl
+no_bytes = refl
 
 nothing : (marks : Marks) (n : ℕ) (ts : List Tree) → bytes_of (arrays_sent marks n [] ts) ≡ []
-nothing marks n ts = empty
+nothing marks n ts = no_bytes
 
 pub arrays_end : (a b : Option (List ℕ)) (held after : List ℕ) (marks : Marks) (n : ℕ) (arrays : List ArrayDecl) (left rest text : List ℕ) → arrays ≡ [] → ArraysWay a held b after marks n arrays left rest text
     → Passes a held b after text × (left ≡ rest)

@@ -7,18 +7,18 @@ use Rattle.std.proofs.lemmas.Bool.Decides.{nat_tests}
 use Rattle.std.proofs.lemmas.List.Elements.{All-append, All-cons, All-head, All-map, All-nil, All-tail}
 use Rattle.std.proofs.lemmas.List.Folds.{list_all-append}
 use Rattle.std.proofs.lemmas.Slice.Eq.{bytes_eq-Decides}
+use Rattle.std.proofs.lemmas.Bool.{and_from}
+use Rattle.plain_lemmas.proofs.Truths.{both_true}
 use Rattle.dap_types.specs.Model.{Member, scalar, array, structure, grid, sequence, Members, no_members, member, Dataset, count, name_of, sizes}
 use Rattle.dap_types.specs.declared.bytes.Id.{Id}
 use Rattle.dap_types.specs.declared.declarations.ArrayDecl.{ArrayDecl}
 use Rattle.dap_types.specs.declared.declarations.Column.{Column}
 use Rattle.dap_types.specs.declared.declarations.Dim.{Dim}
-use Rattle.dap_model.proofs.Tests.{both_true}
 use Rattle.dap_model.specs.Dds.{type_word}
 use Rattle.dap_model.specs.Grammar.{DdsOf, Judged, Slot, array_slots, closes, colon, column_slots, dataset_slots, dim_slots, fine, head, keyword, map_slots, name, named, scalar_slots, semicolon, sign, size, size_slots, slots, slots_all, spells, whole_slots}
 use Rattle.dap_model.specs.Tokens.{Placed, Token, ended, is_plain, is_sign, is_white, is_word, sign_at, tokens_from, tokens_of, whole_tokens}
 use Rattle.dap_model.specs.Tokens as token
 use Rattle.file_names.proofs.Words.{AreBytes, IsByte}
-use Rattle.dap_model.proofs.FilteredWords.{both}
 
 -- a word, of bytes
 abbrev pub OfWord : List ℕ → Type 0
@@ -44,7 +44,7 @@ some b bs = grind (arith, nat_tests, length_cons b bs)
 ended_good : (front : List ℕ) (at : ℕ) → list_all is_plain front ≡ true → AreBytes front → All GoodPlaced (ended front at)
 ended_good [] at plain bytes = All-nil GoodPlaced
 ended_good (b ∷ bs) at plain bytes =
-    let word : is_word (b ∷ bs) ≡ true = both (nat_lt 0 (length (b ∷ bs))) (list_all is_plain (b ∷ bs)) (some b bs) plain in
+    let word : is_word (b ∷ bs) ≡ true = and_from (nat_lt 0 (length (b ∷ bs))) (list_all is_plain (b ∷ bs)) (some b bs) plain in
     All-cons GoodPlaced (record { token = token.word (b ∷ bs); place = at - length (b ∷ bs) }) [] (word, bytes) (All-nil GoodPlaced)
 
 sign_good : (b at : ℕ) → All GoodPlaced (sign_at b at)
@@ -60,7 +60,7 @@ tokens_good front at (b ∷ bs) plain bytes more =
     by (is_white b || is_sign b) refl (tokens_good [] (at + 1) bs refl (All-nil IsByte) (All-tail IsByte b bs more)) (λ is. tokens_good (front ++ b ∷ []) (at + 1) bs (longer is) (All-append IsByte front (b ∷ []) bytes (All-cons IsByte b [] (All-head IsByte b bs more) (All-nil IsByte))) (All-tail IsByte b bs more))
   where
     longer : (is_white b || is_sign b) ≡ false → list_all is_plain (front ++ b ∷ []) ≡ true
-    longer is = list_all-append is_plain front (b ∷ []) ∙ both (list_all is_plain front) (is_plain b && true) plain (both (is_plain b) true (plain_of b is) refl)
+    longer is = list_all-append is_plain front (b ∷ []) ∙ and_from (list_all is_plain front) (is_plain b && true) plain (and_from (is_plain b) true (plain_of b is) refl)
 
     by : (c : Bool) → (is_white b || is_sign b) ≡ c → All GoodPlaced (tokens_from [] (at + 1) bs) → ((is_white b || is_sign b) ≡ false → All GoodPlaced (tokens_from (front ++ b ∷ []) (at + 1) bs))
         → All GoodPlaced (cond c (ended front at ++ sign_at b at ++ tokens_from [] (at + 1) bs) (tokens_from (front ++ b ∷ []) (at + 1) bs))

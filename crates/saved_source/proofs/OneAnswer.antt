@@ -2,6 +2,7 @@
 use Rattle.std.proofs.Common.{◌≡◌, ◌≢◌, ℕ, List, Option, Some, None, Result, Ok, Err, IfOk, IfErr, inl, inr, refl, sym, ap, subst, ◌∙◌, arith}
 use Rattle.std.specs.Prelude.{MatchResult, ◌⊎◌}
 use Rattle.std.proofs.lemmas.Bool.{false≢true}
+use Rattle.dap_model.proofs.OneBody.{one_body}
 use Rattle.dap_types.specs.Model.{Dataset, Tree}
 use Rattle.dap_model.specs.Body.{IsBody}
 use Rattle.dap_errors.proofs.Single.{bad_no_cut, object_no_bad, object_no_cut, one_place}
@@ -14,10 +15,6 @@ use Rattle.saved_source.specs.Responses.{Holds, IsSaved, dataset_in, first_repea
 use Rattle.saved_source.specs.declared.refusal.SavedRefusal.{SavedRefusal}
 use Rattle.saved_source.specs.declared.refusal.SavedRefusal.TheVariants.{TooLong, BadBody, RepeatedName, Memory}
 use Rattle.saved_source.specs.declared.saved.Saved.{Saved}
-
--- ---- the response
-same_response : (bytes : List ℕ) (d e : Dataset) (ts us : List Tree) → IsBody bytes d ts → IsBody bytes e us → (d ≡ e) × (ts ≡ us)
-same_response bytes d e ts us a b = let one : good d ts ≡ good e us = one_verdict bytes (good d ts) (good e us) a b in (cc, cc)
 
 wrong_good : (d : Dataset) (ts : List Tree) (kind : Bad) (place : ℕ) → good d ts ≡ wrong kind place → ⊥
 wrong_good d ts kind place e = cc
@@ -50,7 +47,7 @@ body_not_bad bytes d ts place a (inr (s, (kind, b))) = wrong_good d ts kind plac
 -- ---- a file
 pub one_saved : (bytes name : List ℕ) (d e : Dataset) (ts us : List Tree) → IsSaved bytes name d ts → IsSaved bytes name e us → (d ≡ e) × (ts ≡ us)
 one_saved bytes name d e ts us a b =
-    let (same, trees) = same_response bytes a.response b.response ts us a.is_body b.is_body in
+    let (same, trees) = one_body bytes a.response b.response ts us a.is_body b.is_body in
     (a.is_dataset ∙ ap (saved_dataset name) same ∙ sym b.is_dataset, trees)
 
 some_none : (n : ℕ) (o : Option ℕ) → o ≡ Some n → o ≡ None → ⊥
@@ -58,7 +55,7 @@ some_none n o a b = let both : Some n ≡ None = sym a ∙ b in cc
 
 saved_not_repeated : (bytes name : List ℕ) (d : Dataset) (ts : List Tree) (n : ℕ) → IsSaved bytes name d ts → HasRepeated bytes name n → ⊥
 saved_not_repeated bytes name d ts n a h =
-    let (same, trees) = same_response bytes a.response h.response ts h.values a.is_body h.is_body in
+    let (same, trees) = one_body bytes a.response h.response ts h.values a.is_body h.is_body in
     some_none n (first_repeated (saved_dataset name h.response)) h.is_first (ap (λ r. first_repeated (saved_dataset name r)) (sym same) ∙ ap first_repeated (sym a.is_dataset) ∙ a.names_differ)
 
 pub saved_not_refused : (bytes name : List ℕ) (d : Dataset) (ts : List Tree) (why : SavedRefusal) → why ≢ Memory → IsSaved bytes name d ts → IsRefusal bytes name why → ⊥
@@ -69,7 +66,7 @@ saved_not_refused bytes name d ts Memory some a r = some refl
 
 same_first : (bytes name : List ℕ) (n m : ℕ) → HasRepeated bytes name n → HasRepeated bytes name m → n ≡ m
 same_first bytes name n m a b =
-    let (same, trees) = same_response bytes a.response b.response a.values b.values a.is_body b.is_body in
+    let (same, trees) = one_body bytes a.response b.response a.values b.values a.is_body b.is_body in
     let one : Some n ≡ Some m = sym a.is_first ∙ ap (λ r. first_repeated (saved_dataset name r)) same ∙ b.is_first in
     cc
 

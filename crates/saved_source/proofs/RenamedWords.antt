@@ -1,12 +1,13 @@
 -- The names that a saved response is served under are words: a word of bytes is one too where a constraint
 -- spells it.
-use Rattle.std.proofs.Common.{◌≡◌, ℕ, zero, suc, ◌<◌, Bool, true, false, ◌&&◌, ◌==◌, cond, ltb, List, [], ◌∷◌, ◌++◌, length, map, All, Option, Some, None, IsTrue, inl, inr, refl, sym, ap, subst, ◌∙◌, arith, length-append, append-nil}
+use Rattle.std.proofs.Common.{◌≡◌, ℕ, zero, suc, ◌<◌, Bool, true, false, ◌&&◌, ◌==◌, cond, ltb, List, [], ◌∷◌, ◌++◌, length, map, All, Option, Some, None, IsTrue, refl, sym, ap, subst, ◌∙◌, arith, length-append, append-nil}
 use Rattle.std.specs.List.{list_all}
 use Rattle.std.specs.Option.{option_map_or}
-use Rattle.std.proofs.lemmas.Bool.{cases_lt}
+use Rattle.std.proofs.lemmas.Bool.{and_from}
 use Rattle.std.proofs.lemmas.Bool.Decides.{nat_tests}
 use Rattle.std.proofs.lemmas.List.Elements.{All-append, All-cons, All-head, All-nil, All-tail}
 use Rattle.std.proofs.lemmas.List.Folds.{list_all-append}
+use Rattle.plain_lemmas.proofs.Truths.{both_true}
 use Rattle.dap_types.proofs.Preorder.{preorder-places}
 use Rattle.dap_types.specs.Model.{Member, scalar, array, structure, grid, sequence, Members, no_members, member, Dataset}
 use Rattle.dap_types.specs.Names.{begins_with_digits, constraint_id, constraint_id_from, escaped_byte, upper_case}
@@ -16,23 +17,13 @@ use Rattle.dap_types.specs.declared.bytes.Id.{Id}
 use Rattle.dap_types.specs.declared.declarations.ArrayDecl.{ArrayDecl}
 use Rattle.dap_types.specs.declared.declarations.Column.{Column}
 use Rattle.dap_types.specs.declared.declarations.Dim.{Dim}
-use Rattle.dap_model.proofs.Tests.{both_true}
 use Rattle.dap_model.proofs.Values.{all_first, all_rest}
 use Rattle.dap_model.specs.Grammar.{are_words}
 use Rattle.dap_model.specs.Tokens.{is_plain, is_word}
-use Rattle.file_names.proofs.Words.{AreBytes, IsByte, file_word, all_below}
+use Rattle.file_names.proofs.Words.{AreBytes, IsByte, file_word, below}
 use Rattle.saved_source.proofs.NamesOfText.{AllNamed, Named, NamedArray, NamedArrays, NamedColumns, NamedDim, NamedDims, OfWord}
 use Rattle.saved_source.specs.Responses.{renamed, renamed_all, renamed_array, renamed_column, saved_dataset}
-use Rattle.dap_model.proofs.FilteredWords.{IsOfWords, both, has_word}
-
-below : (test : ℕ → Bool) (n b : ℕ) → all_below test n ≡ true → b < n → test b ≡ true
-below test zero b all lt = absurd (omega arith)
-below test (suc n) b all lt =
-    let p = both_true (test n) (all_below test n) all in
-    elim (cases_lt b n) [
-      | inl less ↦ below test n b p.1 less
-      | inr more ↦ let same : n ≡ b = omega arith in ap test (sym same) ∙ p.0
-    ]
+use Rattle.dap_model.proofs.FilteredWords.{IsOfWords, has_word}
 
 -- a plain byte stays plain in upper case
 abbrev stays_plain : ℕ → Bool
@@ -51,7 +42,7 @@ spelled_plain : (left : ℕ) (bytes : List ℕ) → list_all is_plain bytes ≡ 
 spelled_plain left [] plain are = refl
 spelled_plain (suc left) (b ∷ bytes) plain are =
     let parts = both_true (is_plain b) (list_all is_plain bytes) plain in
-    both (is_plain (upper_case b)) (list_all is_plain (constraint_id_from left bytes)) (upper_plain b (All-head IsByte b bytes are) parts.0) (spelled_plain left bytes parts.1 (All-tail IsByte b bytes are))
+    and_from (is_plain (upper_case b)) (list_all is_plain (constraint_id_from left bytes)) (upper_plain b (All-head IsByte b bytes are) parts.0) (spelled_plain left bytes parts.1 (All-tail IsByte b bytes are))
 spelled_plain zero (b ∷ bytes) plain are =
     let parts = both_true (is_plain b) (list_all is_plain bytes) plain in
     by ((b == 37) && begins_with_digits bytes) (λ left. spelled_plain left bytes parts.1 (All-tail IsByte b bytes are))
@@ -60,7 +51,7 @@ spelled_plain zero (b ∷ bytes) plain are =
     by true rest = rest 2
     by false rest =
         list_all-append is_plain (escaped_byte b) (constraint_id_from 0 bytes)
-        ∙ both (list_all is_plain (escaped_byte b)) (list_all is_plain (constraint_id_from 0 bytes)) (escaped_plain b (All-head IsByte b bytes are)).0 (rest 0)
+        ∙ and_from (list_all is_plain (escaped_byte b)) (list_all is_plain (constraint_id_from 0 bytes)) (escaped_plain b (All-head IsByte b bytes are)).0 (rest 0)
 
 spelled_some : (bytes : List ℕ) → 0 < length bytes → AreBytes bytes → 0 < length (constraint_id_from 0 bytes)
 spelled_some [] some are = absurd (omega (arith, some))
@@ -76,18 +67,18 @@ word_spelled w (word, are) =
     let parts = both_true (ltb 0 (length w)) (list_all is_plain w) word in
     let some : 0 < length w = grind (arith, nat_tests, parts.0) in
     let out : 0 < length (constraint_id_from 0 w) = spelled_some w some are in
-    both (ltb 0 (length (constraint_id_from 0 w))) (list_all is_plain (constraint_id_from 0 w)) (grind (arith, nat_tests, out)) (spelled_plain 0 w parts.1 are)
+    and_from (ltb 0 (length (constraint_id_from 0 w))) (list_all is_plain (constraint_id_from 0 w)) (grind (arith, nat_tests, out)) (spelled_plain 0 w parts.1 are)
 
 dims_words : (dims : List Dim) → NamedDims dims → list_all has_word dims ≡ true
 dims_words [] named = refl
-dims_words (d ∷ dims) named = both (has_word d) (list_all has_word dims) (own d.name named.0) (dims_words dims named.1)
+dims_words (d ∷ dims) named = and_from (has_word d) (list_all has_word dims) (own d.name named.0) (dims_words dims named.1)
   where
     own : (o : Option Id) → NamedDim o → option_map_or is_word o true ≡ true
     own None named = refl
     own (Some n) named = named.0
 
 array_words : (a : ArrayDecl) → NamedArray a → IsOfWords (array (renamed_array a))
-array_words a named = both (is_word (constraint_id a.name)) (list_all has_word a.dims) (word_spelled a.name named.0) (dims_words a.dims named.1)
+array_words a named = and_from (is_word (constraint_id a.name)) (list_all has_word a.dims) (word_spelled a.name named.0) (dims_words a.dims named.1)
 
 arrays_words : (arrays : List ArrayDecl) → NamedArrays arrays → All IsOfWords (map array (map renamed_array arrays))
 arrays_words [] named = All-nil IsOfWords

@@ -6,6 +6,7 @@ use Rattle.std.proofs.lemmas.Bool.Decides.{nat_tests}
 use Rattle.std.proofs.lemmas.List.{map-append, take_all, take_more}
 use Rattle.std.proofs.lemmas.List.Folds.{list_all-append}
 use Rattle.std.proofs.lemmas.Slice.Zip.{AllZip-long}
+use Rattle.std.proofs.lemmas.Option.{slice_get_past}
 use Rattle.dap_model.specs.Fits.{FitsScalar}
 use Rattle.dap_model.specs.Rows.{Selection, cell_at, holds, kept}
 use Rattle.dap_model.specs.Xdr.{cell_fields, scalar_fields}
@@ -68,18 +69,13 @@ none_there n cells s is = rw is refl
 pub before_columns : (n : ℕ) (cells : List Tree) (s : Selection) → s.column ≤ n → kept (s ∷ []) n (many (trees_of cells)) ≡ true
 before_columns n cells s le = let outside : nat_lt n s.column ≡ false = grind (arith, nat_tests) in rw outside refl
 
-past : {X : Type 0} (xs : List X) (i : ℕ) → length xs ≤ i → slice_get xs i ≡ None
-past [] i le = refl
-past (x ∷ xs) zero le = absurd (omega arith)
-past (x ∷ xs) (suc i) le = past xs i (omega arith)
-
 pub behind_columns : (n : ℕ) (columns : List Column) (cells : List Tree) (bytes rest : List ℕ) (s : Selection) (at : ℕ) → StandCells columns cells bytes rest → n < s.column → at ≡ s.column - n - 1 → length columns ≤ at
     → kept (s ∷ []) n (many (trees_of cells)) ≡ true
 behind_columns n columns cells bytes rest s at st lt at_is le =
     let inside : nat_lt n s.column ≡ true = grind (arith, nat_tests) in
     let place : s.column - (n + 1) ≡ at = omega arith in
     let long = AllZip-long (λ c t. FitsScalar c.base t) columns cells st.fit in
-    none_there n cells s (rw (inside, place, items-trees_of cells) (past cells at (omega (arith, long))))
+    none_there n cells s (rw (inside, place, items-trees_of cells) (slice_get_past cells at (omega (arith, long))))
 
 pub one_clause : (n : ℕ) (cells : List Tree) (s : Selection) (at : ℕ) (v : Value) → n < s.column → at ≡ s.column - n - 1 → slice_get cells at ≡ Some (one v) → kept (s ∷ []) n (many (trees_of cells)) ≡ holds s v
 one_clause n cells s at v lt at_is is =

@@ -3,6 +3,8 @@ use Rattle.std.proofs.Common.{◌≡◌, ℕ, ◌+◌, Bool, true, false, cond, 
 use Rattle.std.specs.Prelude.{◌==◌}
 use Rattle.std.specs.List.{flat_map}
 use Rattle.std.specs.Option.{option_map_or}
+use Rattle.saved_source.proofs.Putting.{no_bytes}
+use Rattle.xdr_encode.proofs.RowSteps.{end-bytes}
 use Rattle.dap_types.proofs.Views.{items-trees_of}
 use Rattle.dap_types.specs.Model.{Tree, one, many, trees_of, items, kids}
 use Rattle.dap_types.specs.declared.declarations.Column.{Column}
@@ -106,9 +108,8 @@ module _ (a b d : Option (List ℕ)) (held mid after : List ℕ) (marks : Marks)
       let f = cell_first c columns v.cells left rest v.stand in
       way_failed a b d held mid _ _ _ text (sent_parts v.cells f) v.way (puts f.value f.mid f.first)
 
-empty : bytes_of [] ≡ []
 unfolding bytes_of
-empty = refl
+no_bytes = refl
 
 pub cells_end : (a b : Option (List ℕ)) (held after : List ℕ) (marks : Marks) (n : ℕ) (columns : List Column) (left rest text : List ℕ) → columns ≡ [] → CellsWay a held b after marks n columns left rest text → Passes a held b after text
 cells_end a b held after marks n columns left rest text none w = way_ends a b held after _ text (nothing w.cells) w.way
@@ -118,7 +119,7 @@ cells_end a b held after marks n columns left rest text none w = way_ends a b he
     no_field (t ∷ ts) = refl
 
     nothing : (cells : List Tree) → bytes_of (cells_sent marks n columns cells) ≡ []
-    nothing cells = ap (λ cs. bytes_of (cells_sent marks n cs cells)) none ∙ ap bytes_of (no_field (marked unchanged marks n cells)) ∙ empty
+    nothing cells = ap (λ cs. bytes_of (cells_sent marks n cs cells)) none ∙ ap bytes_of (no_field (marked unchanged marks n cells)) ∙ no_bytes
 
 -- ---- rows
 pub record RowFirst (columns : List Column) (rows : List Tree) (left rest : List ℕ) : Type 0 where
@@ -234,13 +235,12 @@ module _ (a b d : Option (List ℕ)) (held mid after : List ℕ) (marks : Marks)
       let f = is_first columns w.rows left rest is tells is_yes w.stand in
       way_failed a b d held mid _ _ _ text (sent_here w.rows f) w.way (puts (kids f.row) f.mid (cells_here w.rows f))
 
-last_mark : bytes_of (mark 0xa5 ∷ []) ≡ 0xa5 ∷ 0 ∷ 0 ∷ 0 ∷ []
 unfolding bytes_of field_bytes
-last_mark = refl
+end-bytes = refl
 
 module _ (a b d : Option (List ℕ)) (held mid after : List ℕ) (marks : Marks) (keeps : Keeps) (n : ℕ) (columns : List Column) (left rest text : List ℕ) (is : Bool) (tells : TellsRow left is) (is_no : is ≡ false) where
   ends_with : (rows : List Tree) → StandRows columns rows left rest → bytes_of (rows_sent marks keeps n columns rows) ≡ (0xa5 ∷ 0 ∷ 0 ∷ 0 ∷ []) ++ []
-  ends_with rows st = ap (λ rs. bytes_of (rows_sent marks keeps n columns rs)) (is_last columns rows left rest is tells is_no st).0 ∙ last_mark
+  ends_with rows st = ap (λ rs. bytes_of (rows_sent marks keeps n columns rs)) (is_last columns rows left rest is tells is_no st).0 ∙ end-bytes
 
   pub rows_end : RowsWay a held b mid marks keeps n columns left rest text → Passes b mid d after (0xa5 ∷ 0 ∷ 0 ∷ 0 ∷ []) → Passes a held d after text
   rows_end w put = way_ends a d held after [] text refl (way_more a b d held mid after _ (0xa5 ∷ 0 ∷ 0 ∷ 0 ∷ []) [] text (ends_with w.rows w.stand) w.way put)
@@ -250,7 +250,7 @@ module _ (a b d : Option (List ℕ)) (held mid after : List ℕ) (marks : Marks)
 
 -- ---- a row that goes out, and one that does not
 pub row_out : (marks : Marks) (keeps : Keeps) (n : ℕ) (columns : List Column) (cells : List Tree) → keeps n (many (trees_of cells)) ≡ false → bytes_of (row_if_kept marks keeps n columns cells) ≡ []
-row_out marks keeps n columns cells is = ap (λ b. bytes_of (cond b (row_sent marks n columns (many (trees_of cells))) [])) is ∙ empty
+row_out marks keeps n columns cells is = ap (λ b. bytes_of (cond b (row_sent marks n columns (many (trees_of cells))) [])) is ∙ no_bytes
 
 mark_first : (b : ℕ) (fs : List Field) → bytes_of (mark b ∷ fs) ≡ (b ∷ 0 ∷ 0 ∷ 0 ∷ []) ++ bytes_of fs
 unfolding bytes_of field_bytes
@@ -269,7 +269,7 @@ pub rows_in : (b : Bool) (fs : List Field) → b ≡ true → bytes_of fs ≡ by
 rows_in b fs is = ap (λ c. bytes_of (cond c fs [])) (sym is)
 
 pub rows_out : (b : Bool) (fs : List Field) → b ≡ false → bytes_of (cond b fs []) ≡ []
-rows_out b fs is = ap (λ c. bytes_of (cond c fs [])) is ∙ empty
+rows_out b fs is = ap (λ c. bytes_of (cond c fs [])) is ∙ no_bytes
 
 -- what stands behind the rows
 pub rows_way_end : (before now : Option (List ℕ)) (held kept : List ℕ) (marks : Marks) (keeps : Keeps) (n : ℕ) (columns : List Column) (left rest text behind : List ℕ) (is : Bool) → TellsRow left is → is ≡ false

@@ -3,6 +3,7 @@ use Rattle.std.proofs.Common.{◌≡◌, ℕ, zero, suc, ◌+◌, ◌-◌, ◌*�
 use Rattle.std.specs.Prelude.{min}
 use Rattle.std.specs.List.{flat_map}
 use Rattle.std.proofs.lemmas.List.Elements.{All-nil}
+use Rattle.hyperslab_plan.proofs.PickedLemmas.{index-within}
 use Rattle.dap_types.specs.Model.{Tree, kids, product}
 use Rattle.dap_types.specs.declared.declarations.BaseType.{BaseType}
 use Rattle.dap_types.specs.declared.slabs.Slab.{Slab}
@@ -11,7 +12,7 @@ use Rattle.dap_model.proofs.Values.{all_first, all_rest}
 use Rattle.dap_model.proofs.Whole.{cut_whole}
 use Rattle.dap_model.specs.Cutting.{cut, whole_slabs}
 use Rattle.dap_model.specs.Fits.{FitsArray, IsOf, values_in}
-use Rattle.saved_source.proofs.Cutting.{IsAt, IsNested, all_drop, all_take, cut_run, first_stand, in_range, inner_small, long, picked_all, picks_from, picks_next, run, step_small, take_long, values_of}
+use Rattle.saved_source.proofs.Cutting.{IsAt, IsNested, all_drop, all_take, cut_run, first_stand, inner_small, long, picked_all, picks_from, picks_next, run, step_small, take_long, values_of}
 use Rattle.saved_source.proofs.Putting.{no_bytes}
 use Rattle.saved_source.specs.Walked.{StandElements}
 
@@ -63,7 +64,7 @@ is_run base n ns s t bytes rest left inner total st one inner_is total_is at = g
     go zero is = none zero is refl
     go (suc c) is =
         let some : 0 < s.count = omega arith in
-        let last : s.start + (s.count - 1) * s.stride < n = in_range s n (s.count - 1) st.within (omega arith) in
+        let last : s.start + (s.count - 1) * s.stride < n = index-within s n (s.count - 1) st.within (omega arith) in
         let last_is : (s.count - 1) * s.stride ≡ s.count - 1 = ap (λ j. (s.count - 1) * j) one ∙ omega arith in
         let within : s.start + s.count ≤ n = omega (arith, last, last_is) in
         let us : List Tree = drop s.start (kids t) in

@@ -1,8 +1,9 @@
 -- Laws of the datasets of saved responses.
-use Rattle.std.proofs.Common.{◌≡◌, ◌≢◌, ℕ, ◌-◌, ◌<◌, List, [], ◌∷◌, ◌++◌, length, map, get_or, All, None, option_map, codes, refl, sym, ap, subst, ◌∙◌, append_assoc, arith, not, eqb}
+use Rattle.std.proofs.Common.{◌≡◌, ℕ, ◌-◌, List, [], ◌∷◌, ◌++◌, length, map, get_or, All, None, option_map, codes, refl, sym, ap, subst, ◌∙◌, append_assoc, arith, not, eqb}
 use Rattle.std.specs.List.{AllZip, suffix_len}
 use Rattle.std.proofs.Math.Seq.{take-append_seam}
 use Rattle.std.proofs.lemmas.List.Elements.{All-drop, All-take}
+use Rattle.plain_lemmas.proofs.Lists.{some_length}
 use Rattle.dap_types.proofs.Rules.{no_fault_where_well_formed, well_formed_without_fault}
 use Rattle.dap_types.specs.Model.{Member, scalar, array, structure, grid, sequence, Members, no_members, member, Tree, kids, sizes}
 use Rattle.dap_types.specs.declared.declarations.ArrayDecl.{ArrayDecl}
@@ -63,10 +64,6 @@ saved_fits bytes name d ts s = subst (λ e. FitsAll e.members ts) (sym s.is_data
 segment_bytes : (name : List ℕ) → AreBytes name → AreBytes (segment name)
 unfolding segment
 segment_bytes name bytes = All-drop IsByte (length name - suffix_len (λ b. not (eqb b 47)) name) name bytes
-
-some_length : (xs : List ℕ) → xs ≢ [] → 0 < length xs
-some_length [] some = absurd (some refl)
-some_length (x ∷ xs) some = omega arith
 
 pub saved_has_words : SavedHasWords
 saved_has_words bytes name d ts name_bytes are some s =

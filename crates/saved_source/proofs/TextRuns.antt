@@ -1,5 +1,6 @@
 -- Strings of an array, one after the other.
 use Rattle.std.proofs.Common.{◌≡◌, ℕ, suc, ◌<◌, ◌≤◌, List, [], ◌∷◌, ◌++◌, length, refl, ap, ◌∙◌, arith, append_assoc, length-append}
+use Rattle.saved_source.proofs.Putting.{no_bytes}
 use Rattle.dap_types.specs.declared.declarations.BaseType.{BaseType}
 use Rattle.dap_types.specs.declared.declarations.BaseType.TheVariants.{Text, Url}
 use Rattle.dap_types.specs.declared.values.Value.{Value}
@@ -75,13 +76,12 @@ some_left base n left rest txt some w = go w.values w.long w.stand
         let is : IsOf base v = all_first (IsOf base) v vs st.are_of in
         omega (arith, ap length (first_parts base v vs left rest txt st), length-append (bytes_of (value_fields base v)) (bytes_of (elements_fields base vs) ++ rest), value_some base v txt is)
 
-none : bytes_of [] ≡ []
 unfolding bytes_of
-none = refl
+no_bytes = refl
 
 pub elements_end : (base : BaseType) (n : ℕ) (left rest : List ℕ) → n ≡ 0 → ElementsLeft base n left rest → left ≡ rest
 elements_end base n left rest is w = go w.values w.long w.stand
   where
     go : (vs : List Value) → length vs ≡ n → StandElements base vs left rest → left ≡ rest
-    go [] long st = st.parts ∙ ap (λ l. l ++ rest) none
+    go [] long st = st.parts ∙ ap (λ l. l ++ rest) no_bytes
     go (v ∷ vs) long st = absurd (omega (arith, long, is))

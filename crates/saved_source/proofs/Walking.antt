@@ -1,6 +1,8 @@
 -- Variables in the bytes of a response, and what goes out of them.
-use Rattle.std.proofs.Common.{◌≡◌, ℕ, ◌+◌, Bool, true, false, ◌||◌, cond, List, [], ◌∷◌, ◌++◌, length, map, filter, Option, refl, sym, ap, ◌∙◌, subst, append-nil}
+use Rattle.std.proofs.Common.{◌≡◌, ℕ, ◌+◌, Bool, true, false, cond, List, [], ◌∷◌, ◌++◌, length, map, filter, Option, refl, sym, ap, ◌∙◌, subst, append-nil}
 use Rattle.std.specs.List.{flat_map}
+use Rattle.std.proofs.lemmas.Bool.{or_parts}
+use Rattle.saved_source.proofs.Putting.{no_bytes}
 use Rattle.dap_types.proofs.Views.{items-trees_of}
 use Rattle.dap_types.specs.Model.{Member, array, structure, grid, sequence, Members, no_members, member, Tree, one, many, trees_of, items, kids, count}
 use Rattle.dap_types.specs.declared.declarations.ArrayDecl.{ArrayDecl}
@@ -42,15 +44,10 @@ arrays_stand marks n name a maps t bytes rest st = record { fit = st.fit.1; suit
 pub rows_stand : (marks : Marks) (n : ℕ) (name : List ℕ) (columns : List Column) (t : Tree) (bytes rest : List ℕ) → StandsMember marks n (sequence name columns) t bytes rest → StandRows columns (kids t) bytes rest
 rows_stand marks n name columns t bytes rest st = record { fit = st.fit.1; spelt = st.spelt }
 
--- ---- what goes out of a Structure and of a Sequence
-or_none : (a b : Bool) → (a || b) ≡ false → (a ≡ false) × (b ≡ false)
-or_none true b e = absurd (cc)
-or_none false b e = (refl, e)
-
 none_left : (marks : Marks) (n : ℕ) (ms : Members) → any_has_mark marks n ms ≡ false → filtered_all marks n ms ≡ no_members
 none_left marks n no_members e = refl
 none_left marks n (member m ms) e =
-    let both = or_none (has_mark marks n m) (any_has_mark marks (n + count m) ms) e in
+    let both = or_parts (has_mark marks n m) (any_has_mark marks (n + count m) ms) e in
     ap (λ b. cond b (member (filtered marks n m) (filtered_all marks (n + count m) ms)) (filtered_all marks (n + count m) ms)) both.0 ∙ none_left marks (n + count m) ms both.1
 
 pub structure_sent : (marks : Marks) (keeps : Keeps) (n : ℕ) (name : List ℕ) (parts : Members) (t : Tree) → members_sent marks keeps (n + 1) parts (kids t) ≡ member_sent marks keeps n (structure name parts) t
@@ -142,13 +139,12 @@ none_more : (marks : Marks) (n : ℕ) (ts : List Tree) (left rest : List ℕ) �
 none_more marks n [] left rest st = spelt_none left rest st.spelt
 none_more marks n (t ∷ ts) left rest st = absurd st.fit
 
-empty : bytes_of [] ≡ []
 unfolding bytes_of
-empty = refl
+no_bytes = refl
 
 pub members_end : (a b : Option (List ℕ)) (held after : List ℕ) (marks : Marks) (keeps : Keeps) (n : ℕ) (ms : Members) (left rest text : List ℕ) → ms ≡ no_members → MembersWay a held b after marks keeps n ms left rest text
     → Passes a held b after text × (left ≡ rest)
 members_end a b held after marks keeps n ms left rest text none w = go (subst (λ m. MembersWay a held b after marks keeps n m left rest text) none w)
   where
     go : MembersWay a held b after marks keeps n no_members left rest text → Passes a held b after text × (left ≡ rest)
-    go w = (way_ends a b held after _ text empty w.way, none_more marks n w.trees left rest w.stand)
+    go w = (way_ends a b held after _ text no_bytes w.way, none_more marks n w.trees left rest w.stand)

@@ -1,12 +1,13 @@
 -- One clause of a row of a table.
 use Rattle.std.proofs.Common.{◌≡◌, ◌<◌, ◌+◌, ◌-◌, ℕ, zero, suc, Bool, true, false, List, [], ◌∷◌, ◌++◌, Some, None, length, map, take, drop, get_or, ◌≤◌, All, refl, sym, ap, subst, arith, ◌∙◌}
-use Rattle.std.specs.Prelude.{◌&&◌, ◌||◌, nat_lt, Option, slice_get, option_and_then, option_map}
+use Rattle.std.specs.Prelude.{◌&&◌, nat_lt, Option, slice_get, option_and_then}
 use Rattle.std.specs.List.{list_any}
 use Rattle.std.specs.Option.{option_map_or}
 use Rattle.std.proofs.Math.Bool.{or-false}
 use Rattle.std.proofs.lemmas.Bool.Decides.{nat_tests}
 use Rattle.std.proofs.lemmas.List.{ext_get_or, length-map, map-append, take_all, take_more}
 use Rattle.std.proofs.lemmas.List.Folds.{list_all-append, list_any_at}
+use Rattle.plain_lemmas.proofs.Lists.{any-map, slice_get-mapped}
 use Rattle.dap_model.specs.Rows.{Selection, cell_at, holds, kept, order}
 use Rattle.dap_types.proofs.Views.{items-trees_of}
 use Rattle.dap_types.specs.Model.{one}
@@ -19,13 +20,9 @@ use Rattle.sequence_select.specs.Tests.{selection_of}
 use Rattle.sequence_select.specs.declared.constants.Operand.{Operand}
 use Rattle.sequence_select.specs.declared.comparison.Test.{Test}
 
-any-mapped : {X Y : Type 0} (p : Y → Bool) (f : X → Y) (xs : List X) → list_any p (map f xs) ≡ list_any (λ x. p (f x)) xs
-any-mapped p f [] = refl
-any-mapped p f (x ∷ xs) = ap (λ b. p (f x) || b) (any-mapped p f xs)
-
 -- a clause's constants, one by one
 pub holds-by : (test : Test) (v : Value) → holds (selection_of test) v ≡ list_any (λ o. option_map_or (relation_of test.op) (order v (operand_value o)) false) test.operands
-holds-by test v = any-mapped (λ w. option_map_or (relation_of test.op) (order v w) false) operand_value test.operands
+holds-by test v = any-map (λ w. option_map_or (relation_of test.op) (order v w) false) operand_value test.operands
 
 pub holds-at : (test : Test) (v : Value) (os : List Operand) → os ≡ test.operands → (i : ℕ) (o : Operand) → i < length os → o ≡ get_or os i o
     → option_map_or (relation_of test.op) (order v (operand_value o)) false ≡ true → holds (selection_of test) v ≡ true
@@ -48,16 +45,11 @@ row-value t row column v is = by_row (slice_get t.rows row) is
     by_row None none = cc none
     by_row (Some values) some = some
 
-mapped : {X Y : Type 0} (f : X → Y) (xs : List X) (i : ℕ) (x : X) → slice_get xs i ≡ Some x → slice_get (map f xs) i ≡ Some (f x)
-mapped f [] i x is = cc is
-mapped f (y ∷ ys) zero x is = ap (option_map f) is
-mapped f (y ∷ ys) (suc i) x is = mapped f ys i x is
-
 cell-there : (t : CsvTable) (row column : ℕ) (v : Value) → value_at t row column ≡ Some v → cell_at 1 (row_tree (row_of t row)) (column + 2) ≡ Some (one v)
 cell-there t row column v is =
     let inside : nat_lt 1 (column + 2) ≡ true = grind (arith, nat_tests) in
     let place : column + 2 - (1 + 1) ≡ column = omega arith in
-    rw (inside, place, items-trees_of (map one (row_of t row))) (mapped one (row_of t row) column v (row-value t row column v is))
+    rw (inside, place, items-trees_of (map one (row_of t row))) (slice_get-mapped one (row_of t row) column v (row-value t row column v is))
 
 -- a clause on what is no column keeps the row
 pub not-there : (t : CsvTable) (row : ℕ) (test : Test) → cell_at 1 (row_tree (row_of t row)) test.column ≡ None → kept (selection_of test ∷ []) 1 (row_tree (row_of t row)) ≡ true

@@ -14,6 +14,8 @@ use Rattle.dap_model.specs.Fits.{values_in}
 use Rattle.dap_model.specs.Rows.{Selection, cell_at, holds, kept, order}
 use Rattle.std.proofs.lemmas.List.Elements.{All-cons, All-nil}
 use Rattle.std.proofs.lemmas.List.Folds.{list_all-append}
+use Rattle.std.proofs.lemmas.Bool.{and_from, or_right}
+use Rattle.plain_lemmas.proofs.Truths.{both_true}
 use Rattle.dap_model.proofs.Paths.{paths_differ}
 use Rattle.dap_model.proofs.Values.{all_first, all_rest}
 use Rattle.constraint_parse.specs.declared.constraint.Number.TheVariants.{Small, Big}
@@ -68,10 +70,6 @@ one-value (Whole Big) v w is also = absurd is
 one-value (Text bytes) v w is also = is ∙ sym also
 one-value Other v w is also = absurd is
 
-or-right : (a b : Bool) → b ≡ true → (a || b) ≡ true
-or-right true b is = refl
-or-right false b is = is
-
 is-found : (op : Op) (v : Value) (constants : List Constant) (ws : List Value) → AllZip IsValue constants ws → (k : ℕ) (c : Constant) (w : Value) → slice_get constants k ≡ Some c → IsValue c w → Stands op v w
     → list_any (found_in op v) ws ≡ true
 is-found op v [] ws each k c w here is stands = absurd (none-some c here)
@@ -82,7 +80,7 @@ is-found op v (x ∷ constants) (y ∷ ws) each zero c w here is stands =
     let found : found_in op v y ≡ true = ap (found_in op v) value ∙ (operators-relate op v w).1 stands in
     rw found refl
 is-found op v (x ∷ constants) (y ∷ ws) each (suc k) c w here is stands =
-    or-right (found_in op v y) (list_any (found_in op v) ws) (is-found op v constants ws each.1 k c w here is stands)
+    or_right (found_in op v y) (list_any (found_in op v) ws) (is-found op v constants ws each.1 k c w here is stands)
 
 -- ---- the column
 
@@ -186,14 +184,6 @@ one-holds t row clause s well each within is =
 
 -- ---- all clauses
 
-both-true : (a b : Bool) → (a && b) ≡ true → (a ≡ true) × (b ≡ true)
-both-true true b is = (refl, is)
-both-true false b is = cc is
-
-true-both : (a b : Bool) → a ≡ true → b ≡ true → (a && b) ≡ true
-true-both true b one other = other
-true-both false b one other = one
-
 -- what one selection says of a row
 abbrev keeps-row : Tree → Selection → Bool
 keeps-row r s = option_map_or (λ cell. list_any (holds s) (values_in cell)) (cell_at 1 r s.column) true
@@ -211,8 +201,8 @@ all-hold t row well each within (clause ∷ clauses) (s ∷ ss) zip =
     let split : kept (s ∷ ss) 1 r ≡ (kept (s ∷ []) 1 r && kept ss 1 r) = first-and-rest r s ss in
     let one = one-holds t row clause s well each within zip.0 in
     let rest = all-hold t row well each within clauses ss zip.1 in (
-      λ e. let (here, later) = both-true (kept (s ∷ []) 1 r) (kept ss 1 r) (sym split ∙ e) in All-cons (HoldsIn t row) clause clauses (one.0 here) (rest.0 later),
-      λ all. split ∙ true-both (kept (s ∷ []) 1 r) (kept ss 1 r) (one.1 (all_first (HoldsIn t row) clause clauses all)) (rest.1 (all_rest (HoldsIn t row) clause clauses all)),
+      λ e. let (here, later) = both_true (kept (s ∷ []) 1 r) (kept ss 1 r) (sym split ∙ e) in All-cons (HoldsIn t row) clause clauses (one.0 here) (rest.0 later),
+      λ all. split ∙ and_from (kept (s ∷ []) 1 r) (kept ss 1 r) (one.1 (all_first (HoldsIn t row) clause clauses all)) (rest.1 (all_rest (HoldsIn t row) clause clauses all)),
     )
 
 pub rows-are-kept : RowsAreKept

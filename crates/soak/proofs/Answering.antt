@@ -2,6 +2,7 @@
 use Rattle.std.proofs.Common.{◌≡◌, ℕ, ◌+◌, ◌-◌, ◌≤◌, inl, inr, Bool, true, false, List, [], ◌∷◌, ◌++◌, length, refl, sym, ap, subst, ◌∙◌, arith, Some, None, Option, Result, Ok, Err, append-nil}
 use Rattle.std.specs.Prelude.{◌||◌, IfOk, is_some, MatchBool}
 use Rattle.std.specs.Io.KnownBytes.{Appends, Consumes}
+use Rattle.plain_lemmas.proofs.Truths.{match_true}
 use Rattle.dap_outside.specs.Files.{Told}
 use Rattle.httparse.specs.Grammar.{ReadsRequest, RequestHead, trim_ows}
 use Rattle.dap_errors.specs.Causes.{http_status}
@@ -58,7 +59,7 @@ not_200 causes.UpstreamLarge e = omega arith
 
 -- ---- one result
 
-answers : (files : Files) (text : List ℕ) (a : Asked) (r : Result Text Cause) → target_of text ≡ Some a → Results text files r → AnswersAsked files a r
+pub answers : (files : Files) (text : List ℕ) (a : Asked) (r : Result Text Cause) → target_of text ≡ Some a → Results text files r → AnswersAsked files a r
 answers files text a r e (inl (b, is_b, given)) =
     let same : b ≡ a = same_value b a (Ok b) refl (is_b ∙ ap (λ o. found_or o causes.BadTarget) e) in
     subst (λ (x : Asked). AnswersAsked files x r) same given
@@ -153,10 +154,6 @@ head-is records taken rest behind other few parts first =
     let stays : ReadsRequest (taken ++ rest) other (behind ++ rest) = ReadsRequest-append taken other behind rest first.0.0 in
     (request_unique (taken ++ rest) other (head records) (behind ++ rest) [] stays (subst (λ input. ReadsRequest input (head records) []) parts (is-first records few).0.0)).0
 
-closes-so : (b : Bool) (P Q : Type 0) → b ≡ true → MatchBool b P Q → P
-closes-so true P Q e m = m
-closes-so false P Q e m = absurd cc
-
 gained-of : (start records : ℕ) (files : Files) (taken rest left : List ℕ) (ended : Bool) (turns : List Turn) (behind : Behind) → 1 ≤ records → records ≤ 4096
     → files file_name ≡ Some (soak_bytes start records) → request records ≡ taken ++ rest → AreTurns (Some files) 1 taken turns left
     → MatchBool (ends_after false 1 turns) (IsClosed Closed behind) (Stops (Some files) (1 + length turns) left ended Closed behind)
@@ -164,7 +161,7 @@ gained-of : (start records : ℕ) (files : Files) (taken rest left : List ℕ) (
 gained-of start records files taken rest left ended [] behind some few is parts are ending count status = absurd (no-turn files left ended behind ending status)
 gained-of start records files taken rest left ended (t ∷ []) behind some few is parts (r, (first, may), _) ending count status =
     one-turn start records files t.head t.answer behind some few is (head-is records taken rest r t.head few parts first) may
-    (λ e. closes-so (is_last_turn 1 t) (IsClosed Closed behind) (Stops (Some files) 2 left ended Closed behind) e ending) status
+    (λ e. match_true (is_last_turn 1 t) (IsClosed Closed behind) (Stops (Some files) 2 left ended Closed behind) e ending) status
 gained-of start records files taken rest left ended (t ∷ u ∷ turns) behind some few is parts are ending count status = absurd (omega arith)
 
 pub gained : (start records : ℕ) (files : Files) (taken rest : List ℕ) (ended : Bool) (c : Connection) (served : Served) → 1 ≤ records → records ≤ 4096

@@ -12,6 +12,7 @@ use Rattle.std.proofs.lemmas.List.Elements.{All-cons, All-nil}
 use Rattle.std.proofs.lemmas.List.Sums.{AllPass-from_list_all}
 use Rattle.std.proofs.lemmas.Str.{IsUtf8-from_ascii}
 use Rattle.std.specs.Str.{IsAscii}
+use Rattle.plain_lemmas.proofs.Lists.{right_of_five}
 use Rattle.httparse.specs.Grammar.{AllPass, Field, IsField, IsRequestHead, IsToken, RequestHead, crlf, is_token_byte, is_uri_byte, is_value_byte, print_request, print_section}
 use Rattle.percent_encoding.specs.Percent.{percent_decode}
 use Rattle.target_names.specs.Names.{is_name}
@@ -84,13 +85,10 @@ printed : (t : List ℕ) → print_request (head_for t) ≡ codes "GET " ++ (t +
 unfolding print_request
 printed t = ap (λ xs. codes "GET " ++ xs) (three t (32 ∷ codes "HTTP/1.1") (13 ∷ 10 ∷ []) (print_section (head_for t).fields crlf))
 
-five : (a b c d e : List ℕ) → (((a ++ b) ++ c) ++ d) ++ e ≡ a ++ (b ++ (c ++ (d ++ e)))
-five a b c d e = append_assoc ((a ++ b) ++ c) d e ∙ three a b c (d ++ e)
-
 -- what is sent, around its query
 sent : (q : List ℕ) → (codes "GET /soak.nc.dods?" ++ q ++ codes " HTTP/1.1\r\n") ++ host_lines (codes "localhost") 80 ++ close_line true ++ codes "\r\n" ≡ codes "GET " ++ ((codes "/soak.nc.dods?" ++ q) ++ behind)
 unfolding fmt.digits
-sent q = ap (λ xs. codes "GET /soak.nc.dods?" ++ xs) (five q (codes " HTTP/1.1\r\n") (host_lines (codes "localhost") 80) (close_line true) (codes "\r\n"))
+sent q = ap (λ xs. codes "GET /soak.nc.dods?" ++ xs) (right_of_five q (codes " HTTP/1.1\r\n") (host_lines (codes "localhost") 80) (close_line true) (codes "\r\n"))
 
 request-is : (records : ℕ) → records ≤ 4096 → request records ≡ print_request (head records)
 unfolding request_text

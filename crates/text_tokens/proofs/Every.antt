@@ -77,7 +77,7 @@ token_or_part signs (b ∷ l) unwhite = by_quote (b == 34) refl
     by_quote true q = in_quotes (eqb-true b 34 q) (pieces_of l)
     by_quote false q = by_sign (is_sign signs b) refl q
 
-some_bytes : (signs : List ℕ) (t : Token) → IsTrue (is_token signs t) → 0 < length (token_bytes t)
+pub some_bytes : (signs : List ℕ) (t : Token) → IsTrue (is_token signs t) → 0 < length (token_bytes t)
 some_bytes signs (sign b) ok = omega arith
 some_bytes signs (word []) ok = cc
 some_bytes signs (word (b ∷ w)) ok = omega arith

@@ -1,6 +1,7 @@
 -- A text has one list of whole tokens from a place on.
 use Rattle.std.proofs.Common.{◌≡◌, List, [], ◌∷◌, ◌++◌, ℕ, ◌+◌, length, drop, refl, sym, ap, subst, ◌∙◌, append_assoc, Bool, true, false, not, ◌==◌, IsTrue, ◌⊎◌, inl, inr}
 use Rattle.std.specs.List.{list_all}
+use Rattle.plain_lemmas.proofs.Lists.{has_item}
 use Rattle.viable.specs.Quoted.{spelling}
 use Rattle.viable.specs.Runs.{ends_with}
 use Rattle.viable.proofs.Tests.{and_parts}
@@ -83,10 +84,6 @@ next_same signs text at p b p' b' t t' n m =
     let place : p ≡ p' = (n.place_is ∙ ap (λ (z : List ℕ). at + length z) white ∙ sym m.place_is) in
     (same.0, place, n.token_at.behind_is ∙ ap (λ (k : ℕ). k + length (token_bytes t)) place ∙ ap (λ (z : Token). p' + length (token_bytes z)) same.0 ∙ sym m.token_at.behind_is)
 
-has_byte : (test : ℕ → Bool) (a : List ℕ) (c : ℕ) (b : List ℕ) → IsTrue (list_all test (a ++ c ∷ b)) → IsTrue (test c)
-has_byte test [] c b h = (and_parts _ _ h).0
-has_byte test (x ∷ a) c b h = has_byte test a c b (and_parts _ _ h).1
-
 part_unwhite : (signs left : List ℕ) → IsPart signs left → IsTrue (ends_with is_white left)
 part_unwhite signs [] part = refl
 part_unwhite signs (b ∷ left) (inl all) = (word_parts signs b (and_parts _ _ all).0).0
@@ -101,7 +98,7 @@ token_no_part signs (sign b) x left ok wh (inr (p, end, each, o, is)) e = sign_n
 token_no_part signs (word w) [] left ok wh (inl all) e = let z : false ≡ true = wh in cc
 token_no_part signs (word w) (c ∷ x) left ok wh (inl all) e =
     let h : IsTrue (list_all (is_word_byte signs) (w ++ c ∷ x)) = subst (λ (z : List ℕ). IsTrue (list_all (is_word_byte signs) z)) (sym e) all in
-    false_true (is_word_byte signs c) (has_byte (is_word_byte signs) w c x h) wh
+    false_true (is_word_byte signs c) (has_item (is_word_byte signs) w c x h) wh
 token_no_part signs (word w) x left ok wh (inr (p, end, each, o, is)) e =
     let (c, cs, begins, one) = run_begins (is_word_byte signs) w ok in
     word_no_quote signs c (cs ++ x) _ one (ap (λ (z : List ℕ). z ++ x) (sym begins) ∙ e ∙ is)

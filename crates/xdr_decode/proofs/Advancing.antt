@@ -3,6 +3,7 @@ use Rattle.std.proofs.Common.{◌≡◌, ℕ, suc, ◌+◌, ◌<◌, ◌≤◌, 
 use Rattle.std.proofs.Math.Seq.{take-append_seam, get_or-append_seam}
 use Rattle.std.proofs.lemmas.List.{drop-drop, drop_all}
 use Rattle.std.proofs.lemmas.Option.{slice_get-get_or}
+use Rattle.plain_lemmas.proofs.Options.{same_value}
 use Rattle.dap_types.proofs.Views.{members-here}
 use Rattle.dap_types.specs.Model.{Member, scalar, array, structure, grid, sequence, Members}
 use Rattle.dap_types.specs.View.{member_view, members_view}
@@ -19,14 +20,13 @@ value_or : {X : Type 0} → X → Option X → X
 value_or d None = d
 value_or d (Some x) = x
 
-pub some_same : {X : Type 0} (x y : X) → Some x ≡ Some y → x ≡ y
 unfolding value_or
-some_same x y is = ap (value_or x) is
+same_value x y is = ap (value_or x) is
 
 -- where a map gives something, it was given something
 pub mapped : {X Y : Type 0} (f : X → Y) (o : Option X) (y : Y) → option_map f o ≡ Some y → (x : X) × (o ≡ Some x) × (f x ≡ y)
 mapped f None y is = cc
-mapped f (Some x) y is = (x, refl, some_same (f x) y is)
+mapped f (Some x) y is = (x, refl, same_value (f x) y is)
 
 -- an index of a path, and those behind it
 pub split : (items up at : List ℕ) (level : ℕ) → items ≡ up ++ at → length up ≡ level → level < length items → (rest : List ℕ) × (at ≡ get_or items level 0 ∷ rest)
@@ -138,15 +138,15 @@ went_on r items slice mid cut new level decls later d same lt below is goes cut_
 -- inside a variable that has values itself
 pub no_scalar : (at : List ℕ) (m : Member) (c : Column) → m ≡ scalar c → IsLastIn m at
 no_scalar at m c is = λ above s found.
-    ap (λ x. x.behind) (some_same s _ (sym found ∙ ap (spot_of at above) is ∙ scalar_alone at above c))
+    ap (λ x. x.behind) (same_value s _ (sym found ∙ ap (spot_of at above) is ∙ scalar_alone at above c))
 
 pub no_array : (at : List ℕ) (m : Member) (a : ArrayDecl) → m ≡ array a → IsLastIn m at
 no_array at m a is = λ above s found.
-    ap (λ x. x.behind) (some_same s _ (sym found ∙ ap (spot_of at above) is ∙ array_alone at above a))
+    ap (λ x. x.behind) (same_value s _ (sym found ∙ ap (spot_of at above) is ∙ array_alone at above a))
 
 pub no_sequence : (at : List ℕ) (m : Member) (name : List ℕ) (cs : List Column) → m ≡ sequence name cs → IsLastIn m at
 no_sequence at m name cs is = λ above s found.
-    ap (λ x. x.behind) (some_same s _ (sym found ∙ ap (spot_of at above) is ∙ sequence_alone at above name cs))
+    ap (λ x. x.behind) (same_value s _ (sym found ∙ ap (spot_of at above) is ∙ sequence_alone at above name cs))
 
 -- inside a Structure
 behind_parts : (at now name : List ℕ) (parts : Members) → IsBehind parts at now → IsBehindIn (structure name parts) at now

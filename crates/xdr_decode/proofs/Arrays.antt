@@ -6,7 +6,7 @@ use Rattle.dap_types.specs.declared.values.Value.{Value}
 use Rattle.dap_model.specs.Fits.{IsOf}
 use Rattle.dap_model.specs.Laws.{IsNumber}
 use Rattle.dap_model.specs.Xdr.{count, fill, filler, packed, array_fields, SpellsField}
-use Rattle.std.specs.Prelude.{All, Result, Ok, Err, IfOk, IfErr}
+use Rattle.std.specs.Prelude.{All, Result, Ok, Err, IfOk}
 use Rattle.xdr_fields.proofs.Judged.{no_steps, one_step, steps_join}
 use Rattle.xdr_fields.specs.Wants.{Want, a_count, a_filler, IsTextType, Steps, array_wants, elements_left}
 use Rattle.xdr_decode.proofs.Leading.{elements_lead}
@@ -61,7 +61,7 @@ fields_of_numbers Float64 vs num wide = refl
 fields_of_numbers Text vs num wide = absurd num
 fields_of_numbers Url vs num wide = absurd num
 
-fields_of_bytes : (vs : List Value) → map packed vs ≡ elements_fields Byte vs
+pub fields_of_bytes : (vs : List Value) → map packed vs ≡ elements_fields Byte vs
 fields_of_bytes [] = refl
 fields_of_bytes (v ∷ vs) = ap (λ l. packed v ∷ l) (fields_of_bytes vs)
 
@@ -149,14 +149,6 @@ filler_stop path ns n vs a b c e long all first rest stop =
 pub both_ok : {T E : Type 0} {P Q R : T → Type 0} (r : Result T E) → ((x : T) → P x → Q x → R x) → IfOk r P → IfOk r Q → IfOk r R
 both_ok (Ok x) f p q = f x p q
 both_ok (Err e) f p q = tt
-
-pub each_ok : {T E : Type 0} {P Q : T → Type 0} (r : Result T E) → ((x : T) → P x → Q x) → IfOk r P → IfOk r Q
-each_ok (Ok x) f p = f x p
-each_ok (Err e) f p = tt
-
-pub each_err : {T E : Type 0} {P Q : E → Type 0} (r : Result T E) → ((e : E) → P e → Q e) → IfErr r P → IfErr r Q
-each_err (Ok x) f p = tt
-each_err (Err e) f p = f e p
 
 pub fill_same : (k m n : ℕ) → k ≡ fill m → m ≡ n → k ≡ fill n
 fill_same k m n is same = is ∙ ap fill same

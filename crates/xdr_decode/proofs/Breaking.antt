@@ -2,6 +2,7 @@
 use Rattle.std.proofs.Common.{◌≡◌, ℕ, ◌<◌, ◌≤◌, ◌⊎◌, List, [], ◌∷◌, ◌++◌, length, take, drop, take-append-drop, All, Some, None, inl, inr, ⊎_elim, refl, ap, ◌∙◌, sym, subst, arith, append_assoc, append-nil}
 use Rattle.std.proofs.lemmas.Grind.{flat_map-append}
 use Rattle.std.specs.List.{flat_map}
+use Rattle.plain_lemmas.proofs.Lists.{cons_first, cons_rest}
 use Rattle.dap_types.specs.Model.{Dataset, Tree}
 use Rattle.dap_model.proofs.Values.{all_back}
 use Rattle.dap_model.specs.Received.{Fault, ValuesEndAt, IsBadField, IsPrefix}
@@ -12,7 +13,6 @@ use Rattle.xdr_fields.proofs.Growing.{prefix_trans, said_join, prefix_more, text
 use Rattle.xdr_fields.proofs.Judged.{ended_at, is_bad, judge, steps_join}
 use Rattle.xdr_fields.specs.inner.Reached.{IsEnded, IsCut, IsSpoilt}
 use Rattle.xdr_fields.specs.Wants.{Want, a_count, a_value, a_byte, a_filler, a_text, a_padding, rows, Steps, becomes, fault_in, said, says_next, wants_of}
-use Rattle.xdr_decode.proofs.Moving.{same_first, same_rest}
 use Rattle.xdr_decode.proofs.Turning.{faulty_wide}
 use Rattle.xdr_decode.specs.Verdict.{kind_of}
 use Rattle.xdr_decode.specs.Shown.{HasGood, ShowsSome}
@@ -27,8 +27,8 @@ prefix_of : (own x rest z : List ℕ) → own ++ rest ≡ x ++ z → length own 
 prefix_of [] x rest z same le = (x, refl)
 prefix_of (o ∷ own) [] rest z same le = absurd (omega (arith, le))
 prefix_of (o ∷ own) (b ∷ x) rest z same le =
-    let (k, is) = prefix_of own x rest z (same_rest o b (own ++ rest) (x ++ z) same) (omega (arith, le)) in
-    (k, ap (λ c. c ∷ x) (sym (same_first o b (own ++ rest) (x ++ z) same)) ∙ ap (λ l. o ∷ l) is)
+    let (k, is) = prefix_of own x rest z (cons_rest o b (own ++ rest) (x ++ z) same) (omega (arith, le)) in
+    (k, ap (λ c. c ∷ x) (sym (cons_first o b (own ++ rest) (x ++ z) same)) ∙ ap (λ l. o ∷ l) is)
 
 -- a string that goes on is shown further
 first_text : (n : ℕ) (us : List Want) (own rest front tail : List ℕ) (f : Field) (fs : List Field) (vs : List Want) → length own ≤ n → Steps (a_text n ∷ us) (f ∷ fs) vs → SpellsFields (f ∷ fs) front → own ++ rest ≡ front ++ tail
@@ -85,9 +85,6 @@ goes_on d bytes put t ws own s fs vs last front (more, is) =
 cons_none : (w : Want) (ws vs : List Want) → w ∷ ws ≡ vs → vs ≡ [] → ⊥
 cons_none w ws vs one two = cc
 
-first_same : (w v : Want) (ws vs : List Want) → w ∷ ws ≡ v ∷ vs → w ≡ v
-first_same w v ws vs same = cc
-
 no_fault : (n : ℕ) (w : Want) (fault : Fault) → a_text n ≡ w → fault_in w ≡ Some fault → ⊥
 no_fault n w fault same is = none (ap fault_in same ∙ is)
   where
@@ -139,7 +136,7 @@ some_spoilt d bytes put t bs rest ws own s loose whole front e =
     let fs = e.leads.fields in
     let vs = e.wanted ∷ e.behind in
     let on = continues ws own rest e.front (e.own ++ e.rest) fs vs [] loose e.leads.steps e.leads.spelled e.parts (λ n us text' none.
-    absurd (no_fault n e.wanted e.fault (first_same (a_text n) e.wanted us e.behind (sym text' ∙ steps_none ws fs vs e.leads.steps none)) e.is_fault)) in
+    absurd (no_fault n e.wanted e.fault (cons_first (a_text n) e.wanted us e.behind (sym text' ∙ steps_none ws fs vs e.leads.steps none)) e.is_fault)) in
     let steps = steps_join (wants_of d) s.fields fs ws vs s.steps e.leads.steps in
     let good = spells_join s.fields fs s.front e.front s.good e.leads.spelled in
     let parts : bs ≡ (s.front ++ e.front) ++ (e.own ++ e.rest) = whole ∙ ap (λ l. s.front ++ l) e.parts ∙ sym (append_assoc s.front e.front (e.own ++ e.rest)) in

@@ -196,9 +196,5 @@ pub mark_on : (A B : Type 0) (b : Bool) → b ≡ true → MatchBool b A B → A
 mark_on A B true is m = m
 mark_on A B false is m = absurd (false≢true is)
 
-pub empty_is : {X : Type 0} (xs : List X) → length xs ≡ 0 → xs ≡ []
-empty_is [] none = refl
-empty_is (x ∷ xs) none = absurd (omega (arith, none))
-
 pub some_is : {X : Type 0} (xs : List X) → ¬ (length xs ≡ 0) → ¬ (xs ≡ [])
 some_is xs some none = some (ap length none)

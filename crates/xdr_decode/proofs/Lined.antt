@@ -4,12 +4,12 @@ use Rattle.std.proofs.lemmas.Bool.{false≢true}
 use Rattle.std.proofs.lemmas.List.{append_cancel_left, drop_all, take_more}
 use Rattle.std.proofs.lemmas.List.Elements.{All-head, All-tail}
 use Rattle.std.specs.List.{AllPass}
+use Rattle.plain_lemmas.proofs.Lists.{cons_first, cons_rest}
 use Rattle.dap_model.specs.Tokens.{is_white}
 use Rattle.xdr_decode.specs.Verdict.{IsDataLine}
 use Rattle.xdr_decode.specs.declared.data_line.LineStop.{LineStop}
 use Rattle.xdr_decode.specs.declared.data_line.LineStop.TheVariants.{Cut, Differs}
 use Rattle.xdr_decode.specs.inner.Lined.{Behind, EndLines, EndsWhite, IsText, StopsIn, WordLines}
-use Rattle.dap_model.proofs.OneBody.{cons_head, cons_tail}
 
 -- ---- a text, byte by byte
 -- the first bytes are those of the text
@@ -48,11 +48,11 @@ text_differs bytes text at b left lt inside is other left_is so = record {
       sym (append_assoc (take at text) (get_or text at 0 ∷ drop (suc at) text) behind) ∙ ap (λ l. l ++ behind) (sym (apart_at text at lt)) ∙ ap (λ l. l ++ behind) (sym t_is) ∙ same
       ∙ ap (λ l. l ++ get_or bytes at 0 ∷ after) so.1 in
       let later : get_or text at 0 ∷ drop (suc at) text ++ behind ≡ get_or bytes at 0 ∷ after = append_cancel_left (take at text) (get_or text at 0 ∷ drop (suc at) text ++ behind) (get_or bytes at 0 ∷ after) whole in
-      other (sym (cons_head (get_or text at 0) (get_or bytes at 0) (drop (suc at) text ++ behind) after later) ∙ sym is);
+      other (sym (cons_first (get_or text at 0) (get_or bytes at 0) (drop (suc at) text ++ behind) after later) ∙ sym is);
 }
   where
-    cons_head : (x y : ℕ) (xs ys : List ℕ) → x ∷ xs ≡ y ∷ ys → x ≡ y
-    cons_head x y xs ys e = cc
+    cons_first : (x y : ℕ) (xs ys : List ℕ) → x ∷ xs ≡ y ∷ ys → x ≡ y
+    cons_first x y xs ys e = cc
 
 pub text_read : (bytes text : List ℕ) (at : ℕ) → length text ≤ at → at ≤ length text → Same bytes text at → bytes ≡ text ++ drop (length text) bytes
 text_read bytes text at all within so =
@@ -162,10 +162,10 @@ not_white w x white other same = false≢true (sym other ∙ ap is_white (sym sa
 
 pub white_same : (ws vs : List ℕ) (x y : ℕ) (xs ys : List ℕ) → AllPass is_white ws → AllPass is_white vs → is_white x ≡ false → is_white y ≡ false → ws ++ x ∷ xs ≡ vs ++ y ∷ ys → x ∷ xs ≡ y ∷ ys
 white_same [] [] x y xs ys a b one two same = same
-white_same [] (v ∷ vs) x y xs ys a b one two same = absurd (not_white v x (All-head (λ z. is_white z ≡ true) v vs b) one (sym (cons_head x v xs (vs ++ y ∷ ys) same)))
-white_same (w ∷ ws) [] x y xs ys a b one two same = absurd (not_white w y (All-head (λ z. is_white z ≡ true) w ws a) two (cons_head w y (ws ++ x ∷ xs) ys same))
+white_same [] (v ∷ vs) x y xs ys a b one two same = absurd (not_white v x (All-head (λ z. is_white z ≡ true) v vs b) one (sym (cons_first x v xs (vs ++ y ∷ ys) same)))
+white_same (w ∷ ws) [] x y xs ys a b one two same = absurd (not_white w y (All-head (λ z. is_white z ≡ true) w ws a) two (cons_first w y (ws ++ x ∷ xs) ys same))
 white_same (w ∷ ws) (v ∷ vs) x y xs ys a b one two same =
-    white_same ws vs x y xs ys (All-tail (λ z. is_white z ≡ true) w ws a) (All-tail (λ z. is_white z ≡ true) v vs b) one two (cons_tail w v (ws ++ x ∷ xs) (vs ++ y ∷ ys) same)
+    white_same ws vs x y xs ys (All-tail (λ z. is_white z ≡ true) w ws a) (All-tail (λ z. is_white z ≡ true) v vs b) one two (cons_rest w v (ws ++ x ∷ xs) (vs ++ y ∷ ys) same)
 
 first_other : (front : List ℕ) (next : ℕ) (rest after : List ℕ) → EndsWhite (front ++ next ∷ rest) → (y : ℕ) × (ys : List ℕ) × (front ++ next ∷ after ≡ y ∷ ys) × (is_white y ≡ false)
 first_other [] next rest after ends = (next, after, refl, ends)
@@ -208,10 +208,10 @@ line_stop bytes white rest (Differs left) is all ends p = record {
 
 -- ---- one line
 end_alone : (e f y : List ℕ) → EndLines e → EndLines f → e ++ y ≡ f → y ≡ []
-end_alone e f y (inl a) (inl b) same = cons_tail 10 10 y [] (ap (λ l. l ++ y) (sym a) ∙ same ∙ b)
-end_alone e f y (inr a) (inr b) same = cons_tail 10 10 y [] (cons_tail 13 13 (10 ∷ y) (10 ∷ []) (ap (λ l. l ++ y) (sym a) ∙ same ∙ b))
-end_alone e f y (inl a) (inr b) same = let n : 10 ≡ 13 = cons_head 10 13 y (10 ∷ []) (ap (λ l. l ++ y) (sym a) ∙ same ∙ b) in absurd (omega (arith, n))
-end_alone e f y (inr a) (inl b) same = let n : 13 ≡ 10 = cons_head 13 10 (10 ∷ y) [] (ap (λ l. l ++ y) (sym a) ∙ same ∙ b) in absurd (omega (arith, n))
+end_alone e f y (inl a) (inl b) same = cons_rest 10 10 y [] (ap (λ l. l ++ y) (sym a) ∙ same ∙ b)
+end_alone e f y (inr a) (inr b) same = cons_rest 10 10 y [] (cons_rest 13 13 (10 ∷ y) (10 ∷ []) (ap (λ l. l ++ y) (sym a) ∙ same ∙ b))
+end_alone e f y (inl a) (inr b) same = let n : 10 ≡ 13 = cons_first 10 13 y (10 ∷ []) (ap (λ l. l ++ y) (sym a) ∙ same ∙ b) in absurd (omega (arith, n))
+end_alone e f y (inr a) (inl b) same = let n : 13 ≡ 10 = cons_first 13 10 (10 ∷ y) [] (ap (λ l. l ++ y) (sym a) ∙ same ∙ b) in absurd (omega (arith, n))
 
 -- no line is a proper front of another
 pub line_alone : (l y : List ℕ) → IsDataLine l → IsDataLine (l ++ y) → y ≡ []

@@ -12,7 +12,7 @@ use Rattle.dap_types.specs.declared.declarations.ArrayDecl.{ArrayDecl}
 use Rattle.dap_types.specs.declared.declarations.Decl.{Decl}
 use Rattle.dap_types.specs.declared.declarations.Dim.{Dim}
 use Rattle.xdr_fields.specs.Wants.{index_texts}
-use Rattle.xdr_decode.proofs.Spots.{from-drop}
+use Rattle.xdr_decode.proofs.Spots.{from-drop, split_path}
 use Rattle.xdr_decode.specs.inner.Lines.{array_text, cell_text, path_text, shown_token, text_first, text_in, token_text}
 use Rattle.xdr_decode.specs.declared.field.Token.{Token}
 use Rattle.xdr_decode.specs.declared.field.Token.TheVariants as token
@@ -68,11 +68,6 @@ indexes_put dims rest n c i k some is small count first others =
     let (one, two) = capped n (product (sizes_of rest)) c small count in
     ap (λ x. index_text x ++ index_texts (sizes_of rest) k) (first ∙ one) ∙ ap (λ x. index_text (n / product (sizes_of rest)) ++ index_texts (sizes_of rest) x) (others ∙ two)
     ∙ ap (λ ds. index_text (n / product (sizes_of ds)) ++ index_texts (sizes_of ds) (n % product (sizes_of ds))) is ∙ sym (indexes_more dims n some)
-
--- the path of an element, by the first index
-split_path : (path : List ℕ) → ¬ (length path ≡ 0) → path ≡ get_or path 0 0 ∷ drop 1 path
-split_path [] some = absurd (some refl)
-split_path (i ∷ path) some = refl
 
 pub path_none : (ms : Members) (path : List ℕ) (s : Stage) → length path ≡ 0 → [] ≡ path_text ms path s
 path_none ms [] s none = refl

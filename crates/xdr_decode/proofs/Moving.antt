@@ -2,6 +2,8 @@
 use Rattle.std.proofs.Common.{◌≡◌, ℕ, suc, ◌+◌, ◌-◌, ◌<◌, ◌≤◌, ◌^◌, ◌==◌, if◌then◌else◌, Bool, true, false, MatchBool, List, [], ◌∷◌, ◌++◌, length, length-drop, drop, codes, Some, None, slice_get, refl, ap, ◌∙◌, sym, subst, arith, append_assoc, append-nil}
 use Rattle.std.specs.Option.{option_map_or}
 use Rattle.std.proofs.lemmas.List.{drop-drop}
+use Rattle.plain_lemmas.proofs.Lists.{cons_first, cons_rest}
+use Rattle.plain_lemmas.proofs.Options.{same_value}
 use Rattle.dap_types.specs.Model.{Member, scalar, array, structure, grid, sequence, Members, no_members, member, sizes, product}
 use Rattle.dap_types.specs.declared.declarations.ArrayDecl.{ArrayDecl}
 use Rattle.dap_types.specs.declared.declarations.BaseType.{BaseType}
@@ -12,7 +14,7 @@ use Rattle.dap_types.specs.View.{members_view}
 use Rattle.dap_model.specs.Xdr as xdr
 use Rattle.dap_model.specs.Xdr.{Field, number, packed, filler, size, text, padding, mark}
 use Rattle.xdr_fields.specs.Wants.{Want, a_value, a_byte, a_filler, a_text, a_padding, rows, Goes, array_wants, becomes, cell_wants, elements_left, index_texts, row_path, wants_all}
-use Rattle.xdr_decode.proofs.Advancing.{GoesAll, mapped, some_same}
+use Rattle.xdr_decode.proofs.Advancing.{GoesAll, mapped}
 use Rattle.xdr_decode.proofs.Asking.{leaf_array, next_none, next_some}
 use Rattle.xdr_decode.proofs.Rooms.{many}
 use Rattle.xdr_decode.proofs.Spots.{scalar_alone, array_alone, sequence_alone}
@@ -38,13 +40,11 @@ rest_of : {X : Type 0} → List X → List X
 rest_of [] = []
 rest_of (x ∷ xs) = xs
 
-pub same_first : {X : Type 0} (x y : X) (xs ys : List X) → x ∷ xs ≡ y ∷ ys → x ≡ y
 unfolding first_or
-same_first x y xs ys is = ap (first_or x) is
+cons_first x y xs ys is = ap (first_or x) is
 
-pub same_rest : {X : Type 0} (x y : X) (xs ys : List X) → x ∷ xs ≡ y ∷ ys → xs ≡ ys
 unfolding rest_of
-same_rest x y xs ys is = ap rest_of is
+cons_rest x y xs ys is = ap rest_of is
 
 -- the elements of an array
 left_step : (want : List ℕ → Want) (path ns : List ℕ) (at count : ℕ) → at < count → elements_left want path ns at (count - at) ≡ want (path ++ index_texts ns at) ∷ elements_left want path ns (at + 1) (count - (at + 1))
@@ -118,8 +118,8 @@ moves_by : (above : List ℕ) (m : Member) (old new : Stage) (t : Token) (w : Wa
     → Moves above m old t new
 moves_by above m old new t w ws is goes u us f is' goes_on read =
     let same = sym is ∙ is' in
-    let one = same_first w u ws us same in
-    let others = same_rest w u ws us same in
+    let one = cons_first w u ws us same in
+    let others = cons_rest w u ws us same in
     let (wants, stays) = goes f (subst (λ x. Goes x f) (sym one) goes_on) read in
     (wants ∙ ap (λ x. becomes x f ++ ws) one ∙ ap (λ l. becomes u f ++ l) others, stays)
 
@@ -195,15 +195,15 @@ leaf_first path above (member m ms) s inner is =
     let (s0, at, same) = mapped (followed above ms) (spot_of path above m) s is in subst (λ x. IsStage x.leaf stage.Start) same (inner above m s0 at)
 
 leaf_of : (path above : List ℕ) (m : Member) (s : Spot) → spot_of path above m ≡ Some s → IsStage s.leaf stage.Start
-leaf_of path above (scalar c) s is = subst (λ x. IsStage x.leaf stage.Start) (some_same _ s (sym (scalar_alone path above c) ∙ is)) tt
-leaf_of path above (array a) s is = subst (λ x. IsStage x.leaf stage.Start) (some_same _ s (sym (array_alone path above a) ∙ is)) tt
+leaf_of path above (scalar c) s is = subst (λ x. IsStage x.leaf stage.Start) (same_value _ s (sym (scalar_alone path above c) ∙ is)) tt
+leaf_of path above (array a) s is = subst (λ x. IsStage x.leaf stage.Start) (same_value _ s (sym (array_alone path above a) ∙ is)) tt
 leaf_of [] above (structure name parts) s is = cc
 leaf_of (i ∷ path) above (structure name parts) s is = leaf_first path (above ++ name ++ codes ".") (members_from i parts) s (λ up m t at. leaf_of path up m t at) is
 leaf_of [] above (grid name a maps) s is = cc
 leaf_of (i ∷ path) above (grid name a maps) s is =
     let up = above ++ name ++ codes "." in
     let (b, at, same) = mapped (of_grid up (drop i maps)) (slice_get (a ∷ maps) i) s is in subst (λ x. IsStage x.leaf stage.Start) same tt
-leaf_of path above (sequence name cs) s is = subst (λ x. IsStage x.leaf stage.Start) (some_same _ s (sym (sequence_alone path above name cs) ∙ is)) tt
+leaf_of path above (sequence name cs) s is = subst (λ x. IsStage x.leaf stage.Start) (same_value _ s (sym (sequence_alone path above name cs) ∙ is)) tt
 
 pub leaf_at_path : (path above : List ℕ) (ms : Members) (s : Spot) → spot path above ms ≡ Some s → IsStage s.leaf stage.Start
 leaf_at_path [] above ms s is = cc
@@ -304,8 +304,8 @@ stepped ms p q r t s at w ws f none placed is moves settled read there first goe
     let (left, stays) = next_some ms p at none is placed in
     let some = some_left at.above at.leaf p.stage stays in
     let same : some.first ∷ (some.rest ++ at.behind) ≡ w ∷ ws = ap (λ l. l ++ at.behind) (sym some.is) ∙ sym left ∙ first in
-    let one = same_first some.first w (some.rest ++ at.behind) ws same in
-    let others = same_rest some.first w (some.rest ++ at.behind) ws same in
+    let one = cons_first some.first w (some.rest ++ at.behind) ws same in
+    let others = cons_rest some.first w (some.rest ++ at.behind) ws same in
     let (wants, stays') = moves some.first some.rest f some.is (subst (λ x. Goes x f) (sym one) goes) is_read in
     let (left', placed') = settled at there stays' in (
       left' ∙ ap (λ x. text_wants x ++ (stage_wants at.above at.leaf s ++ at.behind)) read ∙ sym (append_assoc (text_wants (string_behind t)) (stage_wants at.above at.leaf s) at.behind)
@@ -326,8 +326,8 @@ unfolding wants_left
 stepped_padding ms p q n t w ws f padding' none same_path same_stage first goes =
     let rest : List Want = option_map_or (λ x. stage_wants x.above x.leaf p.stage ++ x.behind) (spot_at ms p) [] in
     let whole : a_padding n ∷ rest ≡ w ∷ ws = ap (λ t. text_wants t ++ rest) (sym padding') ∙ first in
-    let one = same_first (a_padding n) w rest ws whole in
-    let others = same_rest (a_padding n) w rest ws whole in
+    let one = cons_first (a_padding n) w rest ws whole in
+    let others = cons_rest (a_padding n) w rest ws whole in
     ap (λ t. text_wants t ++ option_map_or (λ x. stage_wants x.above x.leaf q.stage ++ x.behind) (spot_at ms q) []) none
     ∙ ap (λ l. option_map_or (λ x. stage_wants x.above x.leaf q.stage ++ x.behind) (spot l [] ms) []) same_path
     ∙ ap (λ k. option_map_or (λ x. stage_wants x.above x.leaf k ++ x.behind) (spot_at ms p) []) same_stage
@@ -351,7 +351,7 @@ unfolding wants_left
 not_stepped ms p left n t w ws f bytes' first goes is =
     let rest : List Want = option_map_or (λ x. stage_wants x.above x.leaf p.stage ++ x.behind) (spot_at ms p) [] in
     let whole : a_text n ∷ a_padding n ∷ rest ≡ w ∷ ws = ap (λ t. text_wants t ++ rest) (sym bytes') ∙ first in
-    none t f (subst (λ x. Goes x f) (sym (same_first (a_text n) w (a_padding n ∷ rest) ws whole)) goes) is
+    none t f (subst (λ x. Goes x f) (sym (cons_first (a_text n) w (a_padding n ∷ rest) ws whole)) goes) is
   where
     none : (t : Token) (f : Field) → Goes (a_text n) f → Is t f → ⊥
     none token.Count (text bytes) goes is = is
@@ -402,12 +402,12 @@ array_of a b same = ap (array_in a) same
 -- the variable that the code lends is the one at the place
 pub lent_array : (path items : List ℕ) (ms : Members) (l : Leaf) (b : _) (s t : Spot) (a : ArrayDecl) → path ≡ items → spot path [] ms ≡ Some t → IsLeaf l t.leaf → l ≡ leaf.Array b → spot items [] ms ≡ Some s → s.leaf ≡ array a → b.now ≡ a
 lent_array path items ms l b s t a same lent is variant at leaf_is =
-    let one : t ≡ s = some_same t s (sym lent ∙ ap (λ p. spot p [] ms) same ∙ at) in
+    let one : t ≡ s = same_value t s (sym lent ∙ ap (λ p. spot p [] ms) same ∙ at) in
     array_of b.now a (leaf_array l b t.leaf variant is ∙ ap (λ x. x.leaf) one ∙ leaf_is)
 
 pub other_leaf : (path items : List ℕ) (ms : Members) (l : Leaf) (s t : Spot) (a : ArrayDecl) → path ≡ items → spot path [] ms ≡ Some t → IsLeaf l t.leaf → ((b : _) → ¬ (l ≡ leaf.Array b)) → spot items [] ms ≡ Some s → s.leaf ≡ array a → ⊥
 other_leaf path items ms l s t a same lent is variant at leaf_is =
-    let one : t ≡ s = some_same t s (sym lent ∙ ap (λ p. spot p [] ms) same ∙ at) in
+    let one : t ≡ s = same_value t s (sym lent ∙ ap (λ p. spot p [] ms) same ∙ at) in
     only l (subst (IsLeaf l) (ap (λ x. x.leaf) one ∙ leaf_is) is) variant
   where
     only : (l : Leaf) → IsLeaf l (array a) → ((b : _) → ¬ (l ≡ leaf.Array b)) → ⊥

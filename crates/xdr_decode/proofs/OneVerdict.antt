@@ -1,10 +1,11 @@
 -- There is one verdict on a body.
-use Rattle.std.proofs.Common.{◌≡◌, ℕ, ◌+◌, ◌-◌, ◌<◌, ◌≤◌, ◌⊎◌, inl, inr, ⊎_elim, List, [], ◌∷◌, ◌++◌, length, take, drop, Result, Ok, Err, IfOk, IfErr, codes, refl, ap, ◌∙◌, sym, subst, arith, append_assoc, append-nil, length-append, length-take, length-drop}
+use Rattle.std.proofs.Common.{◌≡◌, ℕ, ◌+◌, ◌-◌, ◌<◌, ◌≤◌, ◌⊎◌, inl, inr, ⊎_elim, List, [], ◌∷◌, ◌++◌, length, take, drop, Result, Ok, Err, IfOk, IfErr, codes, refl, ap, ◌∙◌, sym, subst, arith, append_assoc, length-append, length-take, length-drop}
 use Rattle.std.proofs.lemmas.Bool.{cases_lt}
 use Rattle.std.proofs.lemmas.List.{take-take, take_all}
 use Rattle.std.proofs.Math.Seq.{take-add, take-append_seam}
+use Rattle.plain_lemmas.proofs.Lists.{cons_first, cons_rest}
 use Rattle.dap_types.specs.Model.{Dataset, Tree}
-use Rattle.dap_model.proofs.OneBody.{one_head, cons_head, cons_tail, not_none}
+use Rattle.dap_model.proofs.OneBody.{one_head, not_none, one_body}
 use Rattle.dap_model.proofs.OneSpelling.{one_spelling}
 use Rattle.dap_model.proofs.OneVerdict.{bad_not_open, ended_not_bad, ended_not_open, one_bad}
 use Rattle.dap_model.specs.Body.{IsBody}
@@ -67,10 +68,10 @@ not_both d ts values kind place s (inr (inr (o, p, k))) = ended_not_open d ts va
 -- of two fronts the one begins the other
 split_front : (l x front : List ℕ) (next : ℕ) (r : List ℕ) → l ++ x ≡ front ++ next ∷ r → ((u : List ℕ) × (front ≡ l ++ u)) ⊎ ((u : List ℕ) × (l ≡ front ++ next ∷ u))
 split_front [] x front next r same = inl (front, refl)
-split_front (a ∷ l) x [] next r same = inr (l, ap (λ b. b ∷ l) (cons_head a next (l ++ x) r same))
+split_front (a ∷ l) x [] next r same = inr (l, ap (λ b. b ∷ l) (cons_first a next (l ++ x) r same))
 split_front (a ∷ l) x (b ∷ front) next r same =
-    let first : a ≡ b = cons_head a b (l ++ x) (front ++ next ∷ r) same in
-    ⊎_elim (λ e. inl (e.0, ap (λ c. c ∷ front) (sym first) ∙ ap (λ k. a ∷ k) e.1)) (λ e. inr (e.0, ap (λ c. c ∷ l) first ∙ ap (λ k. b ∷ k) e.1)) (split_front l x front next r (cons_tail a b (l ++ x) (front ++ next ∷ r) same))
+    let first : a ≡ b = cons_first a b (l ++ x) (front ++ next ∷ r) same in
+    ⊎_elim (λ e. inl (e.0, ap (λ c. c ∷ front) (sym first) ∙ ap (λ k. a ∷ k) e.1)) (λ e. inr (e.0, ap (λ c. c ∷ l) first ∙ ap (λ k. b ∷ k) e.1)) (split_front l x front next r (cons_rest a b (l ++ x) (front ++ next ∷ r) same))
 
 line_not_cut : (l x rest : List ℕ) → IsDataLine l → rest ≡ l ++ x → EndsInDataLine rest → ⊥
 line_not_cut l x rest a is (next, more, b) =
@@ -107,8 +108,8 @@ same_front [] [] x y long same = (refl, same)
 same_front [] (c ∷ b) x y long same = absurd (omega (arith, long))
 same_front (c ∷ a) [] x y long same = absurd (omega (arith, long))
 same_front (c ∷ a) (e ∷ b) x y long same =
-    let (front, rest) = same_front a b x y (omega (arith, long)) (cons_tail c e (a ++ x) (b ++ y) same) in
-    (ap (λ h. h ∷ a) (cons_head c e (a ++ x) (b ++ y) same) ∙ ap (λ l. e ∷ l) front, rest)
+    let (front, rest) = same_front a b x y (omega (arith, long)) (cons_rest c e (a ++ x) (b ++ y) same) in
+    (ap (λ h. h ∷ a) (cons_first c e (a ++ x) (b ++ y) same) ∙ ap (λ l. e ∷ l) front, rest)
 
 one_text : (bytes : List ℕ) (d e : Dataset) (text rest own more : List ℕ) → HasText bytes d text rest → HasText bytes e own more → (text ≡ own) × (rest ≡ more)
 one_text bytes d e text rest own more a b =
@@ -239,15 +240,9 @@ same_refused bytes kind other place spot (inl (w, side)) (inr (long, kind_is, sp
 same_refused bytes kind other place spot (inr (long, kind_is, place_is)) (inl (v, also)) = absurd (wrong_long bytes other spot v also long)
 same_refused bytes kind other place spot (inr (long, kind_is, place_is)) (inr (also, other_is, spot_is)) = (kind_is ∙ sym other_is, place_is ∙ sym spot_is)
 
-same_body : (bytes : List ℕ) (d e : Dataset) (ts us : List Tree) → IsBody bytes d ts → IsBody bytes e us → (d ≡ e) × (ts ≡ us)
-same_body bytes d e ts us a b =
-    let (heads, datasets, rests) = one_head a.head b.head a.values b.values d e a.is_head b.is_head (sym a.parts ∙ b.parts) in
-    let other : Spells d us (a.values ++ []) = subst (λ l. Spells d us l) (sym rests ∙ sym (append-nil a.values)) (subst (λ x. Spells x us b.values) (sym datasets) b.is_values) in
-    (datasets, (one_spelling d ts us a.values [] a.is_values other).0)
-
 -- a body has one verdict at most
 pub one_verdict : (bytes : List ℕ) (v w : Verdict) → IsVerdict bytes v → IsVerdict bytes w → v ≡ w
-one_verdict bytes (good d ts) (good e us) a b = let (dataset, trees) = same_body bytes d e ts us a b in ap (λ x. good x ts) dataset ∙ ap (good e) trees
+one_verdict bytes (good d ts) (good e us) a b = let (dataset, trees) = one_body bytes d e ts us a b in ap (λ x. good x ts) dataset ∙ ap (good e) trees
 one_verdict bytes (good d ts) (wrong kind place) a b = absurd (good_refused bytes d ts kind place a b)
 one_verdict bytes (wrong kind place) (good d ts) a b = absurd (good_refused bytes d ts kind place b a)
 one_verdict bytes (wrong kind place) (wrong other spot) a b = let (kinds, places) = same_refused bytes kind other place spot a b in ap (λ k. wrong k place) kinds ∙ ap (wrong other) places

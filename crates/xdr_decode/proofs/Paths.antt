@@ -2,6 +2,8 @@
 use Rattle.std.proofs.Common.{◌≡◌, ℕ, zero, suc, ◌+◌, ◌<◌, List, [], ◌∷◌, ◌++◌, length, length-drop, drop, codes, slice_get, Option, Some, None, refl, ap, ◌∙◌, sym, subst, arith, append_assoc}
 use Rattle.std.specs.Bool.{⊤}
 use Rattle.std.specs.Option.{option_map_or}
+use Rattle.plain_lemmas.proofs.Lists.{cons_first}
+use Rattle.plain_lemmas.proofs.Options.{same_value}
 use Rattle.dap_types.specs.Model.{Member, scalar, array, structure, grid, sequence, Members, no_members, member, sizes, product}
 use Rattle.dap_types.specs.declared.declarations.BaseType.{BaseType}
 use Rattle.dap_types.specs.declared.declarations.BaseType.TheVariants.{Byte, Int16, UInt16, Int32, UInt32, Float32, Float64, Text, Url}
@@ -11,9 +13,9 @@ use Rattle.dap_types.specs.declared.values.Value.TheVariants as values
 use Rattle.dap_model.specs.Shown.{index_text, shown_value}
 use Rattle.dap_model.specs.Xdr.{Field, number, packed, size, padding}
 use Rattle.xdr_fields.specs.Wants.{Want, a_count, a_value, a_byte, a_filler, a_padding, rows, Goes, array_wants, cell_wants, index_texts, row_path, says}
-use Rattle.xdr_decode.proofs.Advancing.{mapped, some_same}
+use Rattle.xdr_decode.proofs.Advancing.{mapped}
 use Rattle.xdr_decode.proofs.Asking.{next_none, next_some}
-use Rattle.xdr_decode.proofs.Moving.{Some_left, element_want, elements_more, same_first, some_left}
+use Rattle.xdr_decode.proofs.Moving.{Some_left, element_want, elements_more, some_left}
 use Rattle.xdr_decode.proofs.Spots.{scalar_alone, array_alone, sequence_alone}
 use Rattle.xdr_decode.proofs.Turning.{later, no_string, padding_first}
 use Rattle.xdr_decode.specs.inner.Asked.{Asks, Is, IsElement}
@@ -46,7 +48,7 @@ leads_first k path above (member m ms) s leads is =
     let (s0, at, same) = mapped (followed above ms) (spot_of path above m) s is in leads above m s0 at ∙ ap (λ x. leaf_text k x.above x.leaf) same
 
 leads_one : (k : Stage) (above : List ℕ) (m : Member) (s : Spot) (text : List ℕ) (o : Option Spot) → o ≡ alone above m → o ≡ Some s → text ≡ leaf_text k above m → text ≡ leaf_text k s.above s.leaf
-leads_one k above m s text o same is here = here ∙ ap (λ x. leaf_text k x.above x.leaf) (some_same (record { above = above; leaf = m; behind = [] }) s (sym same ∙ is))
+leads_one k above m s text o same is here = here ∙ ap (λ x. leaf_text k x.above x.leaf) (same_value (record { above = above; leaf = m; behind = [] }) s (sym same ∙ is))
 
 leads : (k : Stage) (path : List ℕ) → Leads k path
 leads k [] above (scalar c) s is = leads_one k above (scalar c) s _ _ (scalar_alone [] above c) is refl
@@ -139,34 +141,34 @@ cell_at above name cs (c ∷ l) row at w ws some lt is =
     let p = row_path above name row ++ c.name in
     let path : above ++ (name ++ cell_text cs (stage.Cells row at)) ≡ p =
     ap (λ o. above ++ (name ++ (index_text row ++ (codes "." ++ option_map_or (λ x. x.name) o [])))) (got cs at c l some) ∙ regroup above name (index_text row) (codes ".") c.name in
-    subst (IsElementAt (above ++ (name ++ cell_text cs (stage.Cells row at)))) (same_first (a_value p c.base) w (cell_wants (row_path above name row) l ++ rows above name cs (row + 1) ∷ []) ws is) path
+    subst (IsElementAt (above ++ (name ++ cell_text cs (stage.Cells row at)))) (cons_first (a_value p c.base) w (cell_wants (row_path above name row) l ++ rows above name cs (row + 1) ∷ []) ws is) path
 
 at_stage : (a : Ask) (above : List ℕ) (m : Member) (k : Stage) (w : Want) (ws : List Want) → IsStage m k → IsElement a → Asks a w → stage_wants above m k ≡ w ∷ ws → IsElementAt (leaf_text k above m) w
-at_stage a above (scalar c) stage.Start w ws stays el asks is = subst (IsElementAt (above ++ c.name)) (same_first (a_value (above ++ c.name) c.base) w [] ws is) refl
+at_stage a above (scalar c) stage.Start w ws stays el asks is = subst (IsElementAt (above ++ c.name)) (cons_first (a_value (above ++ c.name) c.base) w [] ws is) refl
 at_stage a above (array b) stage.Start w ws stays el asks is =
     let (vs, first) = array_count b.base (above ++ b.name) (sizes b) (product (sizes b)) in
-    absurd (no_count a (product (sizes b)) (subst (Asks a) (sym (same_first (a_count (product (sizes b))) w vs ws (sym first ∙ is))) asks) el)
-at_stage a above (array b) (stage.Again n) w ws stays el asks is = absurd (no_count a n (subst (Asks a) (sym (same_first (a_count n) w (elements_wants b.base (above ++ b.name) (sizes b) 0 n) ws is)) asks) el)
+    absurd (no_count a (product (sizes b)) (subst (Asks a) (sym (cons_first (a_count (product (sizes b))) w vs ws (sym first ∙ is))) asks) el)
+at_stage a above (array b) (stage.Again n) w ws stays el asks is = absurd (no_count a n (subst (Asks a) (sym (cons_first (a_count n) w (elements_wants b.base (above ++ b.name) (sizes b) 0 n) ws is)) asks) el)
 at_stage a above (array b) (stage.Elements at n) w ws stays el asks is =
     let p = (above ++ b.name) ++ index_texts (sizes b) at in
-    let first : element_want b.base p ≡ w = same_first (element_want b.base p) w (elements_wants b.base (above ++ b.name) (sizes b) (at + 1) n) ws (sym (elements_more b.base (above ++ b.name) (sizes b) at n stays.1) ∙ is) in
+    let first : element_want b.base p ≡ w = cons_first (element_want b.base p) w (elements_wants b.base (above ++ b.name) (sizes b) (at + 1) n) ws (sym (elements_more b.base (above ++ b.name) (sizes b) at n stays.1) ∙ is) in
     subst (λ l. IsElementAt l w) (append_assoc above b.name (index_texts (sizes b) at)) (subst (IsElementAt p) first (element_at b.base p))
-at_stage a above (array b) (stage.Filler n) w ws stays el asks is = absurd (no_filler a n (subst (Asks a) (sym (same_first (a_filler n) w [] ws is)) asks) el)
-at_stage a above (sequence name cs) stage.Start w ws stays el asks is = absurd (no_rows a above name cs 0 (subst (Asks a) (sym (same_first (rows above name cs 0) w [] ws is)) asks) el)
-at_stage a above (sequence name cs) (stage.Rows row) w ws stays el asks is = absurd (no_rows a above name cs row (subst (Asks a) (sym (same_first (rows above name cs row) w [] ws is)) asks) el)
+at_stage a above (array b) (stage.Filler n) w ws stays el asks is = absurd (no_filler a n (subst (Asks a) (sym (cons_first (a_filler n) w [] ws is)) asks) el)
+at_stage a above (sequence name cs) stage.Start w ws stays el asks is = absurd (no_rows a above name cs 0 (subst (Asks a) (sym (cons_first (rows above name cs 0) w [] ws is)) asks) el)
+at_stage a above (sequence name cs) (stage.Rows row) w ws stays el asks is = absurd (no_rows a above name cs row (subst (Asks a) (sym (cons_first (rows above name cs row) w [] ws is)) asks) el)
 at_stage a above (sequence name cs) (stage.Cells row at) w ws stays el asks is = cell_at above name cs (drop at cs) row at w ws refl stays is
 at_stage a above m k w ws stays el asks is = absurd stays
 
 -- what is still to come of the variable comes first
 first_in : (us vs ws : List Want) (w : Want) → Some_left us → us ++ vs ≡ w ∷ ws → (rest : List Want) × (us ≡ w ∷ rest)
-first_in us vs ws w some is = (some.rest, some.is ∙ ap (λ x. x ∷ some.rest) (same_first some.first w (some.rest ++ vs) ws (ap (λ l. l ++ vs) (sym some.is) ∙ is)))
+first_in us vs ws w some is = (some.rest, some.is ∙ ap (λ x. x ∷ some.rest) (cons_first some.first w (some.rest ++ vs) ws (ap (λ l. l ++ vs) (sym some.is) ∙ is)))
 
 element_path : (ms : Members) (p : Place) (a : Ask) (w : Want) (ws : List Want) → IsPlaced ms p → wants_left ms p ≡ w ∷ ws → IsElement a → Asks a w → IsElementAt (path_text ms p.path.items p.stage) w
 element_path ms p a w ws placed first el asks = inner p.text refl (spot_at ms p) refl
   where
     inner : (t : Texts) → p.text ≡ t → (o : Option Spot) → spot_at ms p ≡ o → IsElementAt (path_text ms p.path.items p.stage) w
     inner (texts.Bytes left total) at o is = absurd (no_string ms p a w ws left total first asks at)
-    inner (texts.Padding n) at o is = absurd (no_padding a n (subst (Asks a) (same_first w (a_padding n) ws (later ms p) (sym first ∙ padding_first ms p n at)) asks) el)
+    inner (texts.Padding n) at o is = absurd (no_padding a n (subst (Asks a) (cons_first w (a_padding n) ws (later ms p) (sym first ∙ padding_first ms p n at)) asks) el)
     inner texts.Nothing at None is = absurd (cons_none (sym first ∙ next_none ms p at is))
       where
         cons_none : w ∷ ws ≡ [] → ⊥

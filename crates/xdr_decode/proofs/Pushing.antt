@@ -18,10 +18,11 @@ use Rattle.xdr_decode.specs.After.{EndsBehind, HasFailed, HasFailedBehind, IsFir
 use Rattle.xdr_decode.specs.inner.Places.{wants_left}
 use Rattle.std.proofs.Common.{Ok, Err}
 use Rattle.std.proofs.Math.Seq.{take-length}
+use Rattle.std.proofs.KnownBytes.{Appends-nil}
 use Rattle.dap_outside.specs.Streams.{AppendsFront}
 use Rattle.dap_outside.specs.declared.failed.Failed.{Failed}
 use Rattle.xdr_decode.proofs.Breaking.{some_shown}
-use Rattle.dap_outside.proofs.Passing.{passed_and_sent, passed_and_stopped, stopped_before, appends_none}
+use Rattle.dap_outside.proofs.Passing.{passed_and_sent, passed_and_stopped, stopped_before}
 use Rattle.xdr_decode.proofs.Turning.{own_loose, stays_ended}
 use Rattle.dap_model.specs.Received.{IsPrefix}
 use Rattle.xdr_decode.specs.After.{place_of}
@@ -257,7 +258,7 @@ stands_again r bad bytes put piece w is stands =
       [],
       subst (λ s. Stands r s (bytes ++ piece) (put ++ [])) (sym is) (subst (IsStopped r bad (bytes ++ piece)) (sym (append-nil put)) stop),
       subst (ShowsFront (dataset_of r) (bytes ++ piece)) (sym (append-nil put)) (subst (λ l. ShowsFront (dataset_of r) l put) (append-nil (bytes ++ piece)) (stop.shows [])),
-      appends_none w,
+      Appends-nil w,
     )
 
 unless_more : (p : Pushed) (P Q : Type 0) → (P → Q) → UnlessFault P p → UnlessFault Q p

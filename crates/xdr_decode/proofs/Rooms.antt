@@ -3,20 +3,13 @@
 use Rattle.std.proofs.Common.{ℕ, zero, suc, ◌+◌, ◌<◌, ◌≤◌, ◌^◌, List, [], ◌∷◌, ◌++◌, length, drop, map, arith}
 use Rattle.std.proofs.lemmas.List.Elements.{All-nil, All-cons, All-head, All-tail, All-append}
 use Rattle.std.specs.List.{All}
+use Rattle.dap_model.proofs.Values.{all_front, all_back}
 use Rattle.dap_types.specs.Model.{Member, scalar, array, structure, grid, sequence, Members, no_members, member, count, count_all, name_of}
 use Rattle.dap_types.specs.View.{member_view, members_view}
 use Rattle.dap_types.specs.WellFormed.{places, part_places, leaf_places}
 use Rattle.dap_types.specs.declared.declarations.ArrayDecl.{ArrayDecl}
 use Rattle.dap_types.specs.declared.declarations.Decl.{Decl}
 use Rattle.xdr_decode.specs.inner.Places.{HaveRoom, HasRoom, IsShallow}
-
-pub All-left : {X : Type 0} (P : X → Type 0) (xs ys : List X) → All P (xs ++ ys) → All P xs
-All-left P [] ys all = All-nil P
-All-left P (x ∷ xs) ys all = All-cons P x xs (All-head P x (xs ++ ys) all) (All-left P xs ys (All-tail P x (xs ++ ys) all))
-
-pub All-right : {X : Type 0} (P : X → Type 0) (xs ys : List X) → All P (xs ++ ys) → All P ys
-All-right P [] ys all = all
-All-right P (x ∷ xs) ys all = All-right P xs ys (All-tail P x (xs ++ ys) all)
 
 -- the names before do not count, and a level less is as good as an index less
 leaf_rooms : (u v d e : ℕ) (xs ys : List (List ℕ)) (ms : List Member) → e + v ≤ d + u → All (IsShallow u) (leaf_places d xs ms) → All (IsShallow v) (leaf_places e ys ms)
@@ -39,8 +32,8 @@ mutual
       let later = All-tail (IsShallow u) _ (part_places (d + 1) m ++ places d (name_of m ∷ xs) ms) all in
       All-cons (IsShallow v) _ _ (omega (arith, le, All-head (IsShallow u) _ (part_places (d + 1) m ++ places d (name_of m ∷ xs) ms) all))
       (All-append (IsShallow v) _ _
-      (part_rooms u v (d + 1) (e + 1) m (omega (arith, le)) (All-left (IsShallow u) (part_places (d + 1) m) (places d (name_of m ∷ xs) ms) later))
-      (rooms u v d e (name_of m ∷ xs) (name_of m ∷ ys) ms le (All-right (IsShallow u) (part_places (d + 1) m) (places d (name_of m ∷ xs) ms) later)))
+      (part_rooms u v (d + 1) (e + 1) m (omega (arith, le)) (all_front (IsShallow u) (part_places (d + 1) m) (places d (name_of m ∷ xs) ms) later))
+      (rooms u v d e (name_of m ∷ xs) (name_of m ∷ ys) ms le (all_back (IsShallow u) (part_places (d + 1) m) (places d (name_of m ∷ xs) ms) later)))
 
 -- room for the first index
 pub first_room : (used : ℕ) (m : Member) (ms : Members) → HaveRoom used (member m ms) → used < 16
@@ -49,13 +42,13 @@ first_room used m ms room = omega (arith, All-head (IsShallow used) _ (part_plac
 -- and for those behind it
 pub inner_room : (used : ℕ) (m : Member) (ms : Members) → HaveRoom used (member m ms) → HasRoom (used + 1) m
 inner_room used m ms room = (
-  part_rooms used (used + 1) 2 1 m (omega arith) (All-left (IsShallow used) (part_places 2 m) (places 1 (name_of m ∷ []) ms) (All-tail (IsShallow used) _ (part_places 2 m ++ places 1 (name_of m ∷ []) ms) room.0)),
+  part_rooms used (used + 1) 2 1 m (omega arith) (all_front (IsShallow used) (part_places 2 m) (places 1 (name_of m ∷ []) ms) (All-tail (IsShallow used) _ (part_places 2 m ++ places 1 (name_of m ∷ []) ms) room.0)),
   omega (arith, room.1),
 )
 
 pub rest_room : (used : ℕ) (m : Member) (ms : Members) → HaveRoom used (member m ms) → HaveRoom used ms
 rest_room used m ms room = (
-  rooms used used 1 1 (name_of m ∷ []) [] ms (omega arith) (All-right (IsShallow used) (part_places 2 m) (places 1 (name_of m ∷ []) ms) (All-tail (IsShallow used) _ (part_places 2 m ++ places 1 (name_of m ∷ []) ms) room.0)),
+  rooms used used 1 1 (name_of m ∷ []) [] ms (omega arith) (all_back (IsShallow used) (part_places 2 m) (places 1 (name_of m ∷ []) ms) (All-tail (IsShallow used) _ (part_places 2 m ++ places 1 (name_of m ∷ []) ms) room.0)),
   omega (arith, room.1),
 )
 

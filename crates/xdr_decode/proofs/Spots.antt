@@ -19,7 +19,7 @@ from-drop zero decls = refl
 from-drop (suc i) [] = refl
 from-drop (suc i) (d ∷ decls) = from-drop i decls
 
-split_path : (path : List ℕ) → ¬ (length path ≡ 0) → path ≡ get_or path 0 0 ∷ drop 1 path
+pub split_path : (path : List ℕ) → ¬ (length path ≡ 0) → path ≡ get_or path 0 0 ∷ drop 1 path
 split_path [] some = absurd (some refl)
 split_path (i ∷ path) some = refl
 

@@ -1,5 +1,5 @@
 -- One field after the other: what a turn of a decoder makes of what came.
-use Rattle.std.proofs.Common.{◌≡◌, ℕ, zero, suc, ◌+◌, ◌-◌, ◌*◌, ◌^◌, ◌<◌, ◌≤◌, ◌⊎◌, List, [], ◌∷◌, ◌++◌, length, length-append, min, take, drop, take-append-drop, replicate, nat_lt, true, false, if◌then◌else◌, Some, None, Option, Result, Ok, Err, inl, inr, ⊎_elim, refl, ap, ◌∙◌, sym, subst, arith, append_assoc, append-nil}
+use Rattle.std.proofs.Common.{◌≡◌, ℕ, zero, suc, ◌+◌, ◌-◌, ◌*◌, ◌^◌, ◌<◌, ◌≤◌, ◌⊎◌, List, [], ◌∷◌, ◌++◌, length, length-append, min, take, drop, take-append-drop, replicate, nat_lt, true, if◌then◌else◌, Some, None, Option, Result, Ok, Err, inl, inr, ⊎_elim, refl, ap, ◌∙◌, sym, subst, arith, append_assoc, append-nil}
 use Rattle.std.proofs.lemmas.Bool.Decides.{nat_tests}
 use Rattle.std.proofs.lemmas.List.{length-take}
 use Rattle.std.specs.Prelude.{IsErr}
@@ -10,6 +10,8 @@ use Rattle.xdr_decode.specs.declared.turn.Turn.{Turn}
 use Rattle.std.specs.Option.{option_map_or}
 use Rattle.std.proofs.lemmas.Grind.{flat_map-append}
 use Rattle.std.specs.List.{flat_map}
+use Rattle.plain_lemmas.proofs.Lists.{cons_first, cons_none}
+use Rattle.plain_lemmas.proofs.Numbers.{zero_or_more, not_less}
 use Rattle.dap_types.specs.Model.{Dataset, Members}
 use Rattle.dap_types.specs.WellFormed.{IsWellFormed}
 use Rattle.dap_types.specs.declared.declarations.BaseType.{BaseType}
@@ -226,13 +228,10 @@ same_placed ms p q path stage placed =
     let one : IsStageAt (spot_at ms p) q.stage p.path.items = subst (λ s. IsStageAt (spot_at ms p) s p.path.items) (sym stage) placed in
     subst (λ l. IsStageAt (spot l [] ms) q.stage l) (sym path) one
 
-same_want : (w v : Want) (ws vs : List Want) → w ∷ ws ≡ v ∷ vs → w ≡ v
-same_want w v ws vs same = cc
-
 -- where something else is asked for, no string is read
 pub no_string : (ms : Members) (p : Place) (a : Ask) (w : Want) (ws : List Want) (left size : ℕ) → wants_left ms p ≡ w ∷ ws → Asks a w → p.text ≡ texts.Bytes left size → ⊥
 no_string ms p a w ws left size first asks is =
-    asks_no_text a size (subst (Asks a) (same_want w (a_text size) ws (a_padding size ∷ later ms p) (sym first ∙ string_first ms p left size is)) asks)
+    asks_no_text a size (subst (Asks a) (cons_first w (a_text size) ws (a_padding size ∷ later ms p) (sym first ∙ string_first ms p left size is)) asks)
 
 pub fresh_of : (ms : Members) (p : Place) (a : Ask) (w : Want) (ws : List Want) → wants_left ms p ≡ w ∷ ws → Asks a w → IsFresh p.text
 fresh_of ms p a w ws first asks = inner p.text refl
@@ -329,9 +328,6 @@ none_long : (l : List ℕ) → length l ≤ 0 → l ≡ []
 none_long [] le = refl
 none_long (x ∷ l) le = absurd (omega (arith, le))
 
-cons_none : (w : Want) (ws : List Want) → w ∷ ws ≡ [] → ⊥
-cons_none w ws same = cc
-
 -- the values are ended
 pub stays_ended : (r : Decoder) (bytes put : List ℕ) → Stays r bytes put → wants_left (dataset_of r).members r.place ≡ [] → place_of r < 2 ^ 64 → Reads r bytes put
 stays_ended r bytes put s none small =
@@ -403,10 +399,6 @@ held_reads q bytes put a w ws s first asks short small =
 -- a bad field has bytes
 some_value : (base : BaseType) (path : List ℕ) → 0 < room (a_value path base)
 some_value base path = omega (arith, value_wide base, value_room base path)
-
-zero_or_more : (n : ℕ) → (n ≡ 0) ⊎ (0 < n)
-zero_or_more zero = inl refl
-zero_or_more (suc n) = inr (omega arith)
 
 no_filler : (n : ℕ) → fill n ≡ 0 → SpellsField (xdr.filler n) []
 unfolding field_bytes
@@ -502,14 +494,11 @@ breaks m d bytes put rest n a w ws f same s first asks goes good =
 lt_true : (a b : ℕ) → a < b → nat_lt a b ≡ true
 lt_true a b lt = grind (arith, nat_tests)
 
-lt_false : (a b : ℕ) → b ≤ a → nat_lt a b ≡ false
-lt_false a b le = grind (arith, nat_tests)
-
 pub text_cut : (count left size : ℕ) → count < left → text_behind count (texts.Bytes left size) ≡ texts.Bytes (left - count) size
 text_cut count left size lt = ap (λ b. if b then texts.Bytes (left - count) size else texts.Padding size) (lt_true count left lt)
 
 pub text_whole : (count left size : ℕ) → left ≤ count → text_behind count (texts.Bytes left size) ≡ texts.Padding size
-text_whole count left size le = ap (λ b. if b then texts.Bytes (left - count) size else texts.Padding size) (lt_false count left le)
+text_whole count left size le = ap (λ b. if b then texts.Bytes (left - count) size else texts.Padding size) (not_less count left le)
 
 -- what came of it
 pub string_spelled : (r : Decoder) (bytes put piece : List ℕ) (left size : ℕ) (s : Stays r bytes put) → r.place.text ≡ texts.Bytes left size

@@ -36,11 +36,11 @@ plain base vs element_same =
     sym (append_assoc (word (length vs)) (word (length vs)) (bytes_of (flat_map (value_fields base) vs)))
     ∙ ap (λ bs. (word (length vs) ++ word (length vs)) ++ bs) (ap bytes_of (sym (same-flat (element_fields base) (value_fields base) element_same vs)) ∙ sym (append-nil (bytes_of (flat_map (element_fields base) vs))))
 
-counts : (n : ℕ) (fs : List Field) → bytes_of (count n ∷ count n ∷ fs) ≡ (word n ++ word n) ++ bytes_of fs
+pub counts : (n : ℕ) (fs : List Field) → bytes_of (count n ∷ count n ∷ fs) ≡ (word n ++ word n) ++ bytes_of fs
 unfolding bytes_of field_bytes
 counts n fs = sym (append_assoc (word n) (word n) (bytes_of fs))
 
-last : (n : ℕ) → bytes_of (filler n ∷ []) ≡ zeros n
+pub last : (n : ℕ) → bytes_of (filler n ∷ []) ≡ zeros n
 unfolding bytes_of field_bytes
 last n = append-nil (zeros n)
 

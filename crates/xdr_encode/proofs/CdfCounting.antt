@@ -3,10 +3,10 @@ use Rattle.std.proofs.Common.{◌≡◌, ℕ, suc, ◌+◌, Bool, true, false, c
 use Rattle.std.specs.List.{list_all, cons_option}
 use Rattle.std.specs.Option.{option_map_or}
 use Rattle.std.specs.Prelude.{is_some, slice_get}
+use Rattle.plain_lemmas.proofs.Truths.{both_true}
 use Rattle.dap_types.specs.Model.{scalar, array, grid, members_of, count, sizes, product}
 use Rattle.dap_types.specs.Names.{file_id}
 use Rattle.dap_types.specs.declared.slabs.Slab.{Slab}
-use Rattle.dap_model.proofs.Tests.{both_true}
 use Rattle.dap_model.specs.Dds.{dds}
 use Rattle.dap_model.specs.Filter.{Marks, constrained, counted}
 use Rattle.netcdf_source.proofs.GridMaps.{coordinate_found, grid_array, maps_are, own_alone, at_front}

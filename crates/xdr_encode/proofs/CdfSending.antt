@@ -4,11 +4,11 @@ use Rattle.std.specs.List.{list_all, cons_option}
 use Rattle.std.specs.Option.{option_map_or}
 use Rattle.std.specs.Prelude.{is_some, slice_get}
 use Rattle.std.proofs.lemmas.List.{length-map}
+use Rattle.plain_lemmas.proofs.Truths.{both_true}
 use Rattle.dap_types.proofs.Views.{items-trees_of}
 use Rattle.dap_types.specs.Model.{scalar, array, grid, members_of, many, trees_of, count}
 use Rattle.dap_types.specs.Names.{file_id}
 use Rattle.dap_types.specs.declared.slabs.Slab.{Slab}
-use Rattle.dap_model.proofs.Tests.{both_true}
 use Rattle.dap_model.specs.Filter.{Marks, Keeps, cut}
 use Rattle.dap_model.specs.Fits.{values_in}
 use Rattle.dap_model.specs.Xdr.{scalar_fields, array_fields, bytes_of}

@@ -3,10 +3,10 @@ use Rattle.std.proofs.Common.{◌≡◌, ℕ, zero, suc, ◌+◌, ◌-◌, ◌<�
 use Rattle.std.proofs.lemmas.Bool.{eqb-true, eqb-false}
 use Rattle.std.specs.List.{list_all, cons_option}
 use Rattle.std.specs.Prelude.{is_some, option_and_then, slice_get}
+use Rattle.plain_lemmas.proofs.Truths.{both_true}
 use Rattle.dap_types.specs.Model.{scalar, array, grid, members_of, count, sizes}
 use Rattle.dap_types.specs.Names.{file_id}
 use Rattle.dap_types.specs.declared.slabs.Slab.{Slab}
-use Rattle.dap_model.proofs.Tests.{both_true}
 use Rattle.dap_model.specs.Cutting.{AreWithin}
 use Rattle.dap_model.specs.Filter.{Marks, Suits, SuitEach, SuitsMember, SuitsAll}
 use Rattle.netcdf_source.proofs.GridMaps.{coordinate_found, grid_array, maps_are, at_front}

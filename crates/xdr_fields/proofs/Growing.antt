@@ -4,6 +4,7 @@ use Rattle.std.proofs.Common.{◌≡◌, ℕ, zero, suc, ◌<◌, ◌≤◌, Lis
 use Rattle.std.proofs.lemmas.Grind.{flat_map-append}
 use Rattle.std.specs.Bool.{⊤}
 use Rattle.std.specs.List.{flat_map}
+use Rattle.plain_lemmas.proofs.Lists.{cons_first, cons_rest, nothing_in_front}
 use Rattle.dap_types.specs.Model.{Dataset, Tree}
 use Rattle.dap_types.specs.declared.declarations.BaseType.{BaseType}
 use Rattle.dap_types.specs.declared.values.Value.{Value}
@@ -16,7 +17,7 @@ use Rattle.dap_model.specs.Xdr.{Field, count, number, packed, filler, size, text
 use Rattle.xdr_fields.proofs.Complete.{all_complete}
 use Rattle.xdr_fields.proofs.Fronts.{IsPart, after, after_steps, all_said, opens, pending, shows, silent_leaves, whole_lines}
 use Rattle.xdr_fields.proofs.Judged.{finished, one_step, steps_join}
-use Rattle.xdr_fields.proofs.OneFront.{nothing_more, one_front, one_parse, own_long, same_kind, told}
+use Rattle.xdr_fields.proofs.OneFront.{one_front, one_parse, own_long, same_kind, told}
 use Rattle.xdr_fields.proofs.Walk.{Silent, all_walked}
 use Rattle.xdr_fields.specs.Wants.{Want, a_count, a_value, a_byte, a_filler, a_text, a_padding, rows, Goes, becomes, Steps, room, said, says, says_next, wants_of}
 
@@ -27,25 +28,19 @@ prefix_self a = ([], sym (append-nil a))
 pub prefix_more : (a b c : List ℕ) → IsPrefix a b → IsPrefix a (b ++ c)
 prefix_more a b c (x, is) = (x ++ c, ap (λ l. l ++ c) is ∙ append_assoc a x c)
 
-prefix_behind : (a b c : List ℕ) → IsPrefix b c → IsPrefix (a ++ b) (a ++ c)
+pub prefix_behind : (a b c : List ℕ) → IsPrefix b c → IsPrefix (a ++ b) (a ++ c)
 prefix_behind a b c (x, is) = (x, ap (λ l. a ++ l) is ∙ sym (append_assoc a b x))
 
 pub prefix_trans : (a b c : List ℕ) → IsPrefix a b → IsPrefix b c → IsPrefix a c
 prefix_trans a b c (x, one) (y, two) = (x ++ y, two ∙ ap (λ l. l ++ y) one ∙ append_assoc a x y)
-
-cons_head : (a b : ℕ) (xs ys : List ℕ) → a ∷ xs ≡ b ∷ ys → a ≡ b
-cons_head a b xs ys same = cc
-
-cons_tail : (a b : ℕ) (xs ys : List ℕ) → a ∷ xs ≡ b ∷ ys → xs ≡ ys
-cons_tail a b xs ys same = cc
 
 -- of two fronts of the same bytes the longer begins with the shorter
 shorter : (own x rest z : List ℕ) → own ++ rest ≡ x ++ z → length own ≤ length x → IsPrefix own x
 shorter [] x rest z same le = (x, refl)
 shorter (o ∷ own) [] rest z same le = absurd (omega (arith, le))
 shorter (o ∷ own) (b ∷ x) rest z same le =
-    let (k, is) = shorter own x rest z (cons_tail o b (own ++ rest) (x ++ z) same) (omega (arith, le)) in
-    (k, ap (λ c. c ∷ x) (sym (cons_head o b (own ++ rest) (x ++ z) same)) ∙ ap (λ l. o ∷ l) is)
+    let (k, is) = shorter own x rest z (cons_rest o b (own ++ rest) (x ++ z) same) (omega (arith, le)) in
+    (k, ap (λ c. c ∷ x) (sym (cons_first o b (own ++ rest) (x ++ z) same)) ∙ ap (λ l. o ∷ l) is)
 
 -- ---- a line is begun before the bytes of a text and before its padding alone
 abbrev Quiet : Field → List ℕ → Type 0
@@ -150,11 +145,11 @@ record Further (fs gs : List Field) (us vs : List Want) (x y : List ℕ) : Type 
 further : (ws : List Want) (fs gs : List Field) (us vs : List Want) (a b x y : List ℕ) → Steps ws fs us → Steps ws gs vs → SpellsFields fs a → SpellsFields gs b → a ++ x ≡ b ++ y → Stuck vs y → Further fs gs us vs x y
 unfolding Steps
 further ws [] gs us vs a b x y s t p q same stuck =
-    record { more = gs; bytes = b; fields = refl; steps = subst (λ l. Steps l gs vs) s t; spelled = q; parts = sym (nothing_more a x p) ∙ same }
+    record { more = gs; bytes = b; fields = refl; steps = subst (λ l. Steps l gs vs) s t; spelled = q; parts = sym (nothing_in_front a x p) ∙ same }
 further [] (f ∷ fs) gs us vs a b x y s t p q same stuck = absurd s
 further (w ∷ ws) (f ∷ fs) [] us vs a b x y s t p q same stuck =
     let here : Stuck (w ∷ ws) y = subst (λ l. Stuck l y) (sym t) stuck in
-    absurd (here f p.0 (p.1 ++ x) s.0 p.3 (sym (nothing_more b y q) ∙ sym same ∙ ap (λ l. l ++ x) p.2 ∙ append_assoc p.0 p.1 x))
+    absurd (here f p.0 (p.1 ++ x) s.0 p.3 (sym (nothing_in_front b y q) ∙ sym same ∙ ap (λ l. l ++ x) p.2 ∙ append_assoc p.0 p.1 x))
 further (w ∷ ws) (f ∷ fs) (g ∷ gs) us vs a b x y s t p q same stuck =
     let wide : length p.0 ≡ length q.0 = own_long w f p.0 s.0 p.3 ∙ sym (own_long w g q.0 t.0 q.3) in
     let whole : p.0 ++ (p.1 ++ x) ≡ q.0 ++ (q.1 ++ y) = sym (append_assoc p.0 p.1 x) ∙ ap (λ l. l ++ x) (sym p.2) ∙ same ∙ ap (λ l. l ++ y) q.2 ∙ append_assoc q.0 q.1 y in
@@ -262,7 +257,7 @@ grown_by : (d : Dataset) (fs more : List Field) (us vs : List Want) (own rest z 
 unfolding Steps
 grown_by d fs [] us vs own rest z y last out steps on spelled same part reaches within is =
     let ws = wants_of d in
-    let all : own ++ rest ≡ y = same ∙ nothing_more z y spelled in
+    let all : own ++ rest ≡ y = same ∙ nothing_in_front z y spelled in
     let further' = opens_more (pending [] ws fs) us own last (longer us own rest y last all (subst (λ l. Reaches l y last) (sym on) reaches)) in
     let end : whole_lines [] ws fs ++ opens (pending [] ws fs) us last ≡ out =
     ap (λ l. whole_lines [] ws fs ++ opens (pending [] ws fs) l last) on ∙ ap (λ l. whole_lines [] ws l ++ opens (pending [] ws l) vs last) (sym (append-nil fs)) ∙ sym is in

@@ -3,7 +3,8 @@ use Rattle.std.specs.Prelude.{◌==◌}
 use Rattle.std.specs.Char.{is_ascii_hexdigit}
 use Rattle.std.specs.List.{list_all}
 use Rattle.std.proofs.lemmas.Bool.Decides.{nat_tests}
-use Rattle.csv_source.proofs.Wholes.{bits-marked, bits-no-mark, neither}
+use Rattle.std.proofs.lemmas.Bool.{and_right}
+use Rattle.csv_source.proofs.Wholes.{bits-marked, bits-no-mark}
 use Rattle.csv_source.proofs.numbers.bits.Goals as goal
 use Rattle.csv_source.proofs.numbers.bits.Goals.{else-digits-count-via-then-digits-count+else-are_hex_digits, else-digits-count-via-else-digits-count}
 
@@ -24,7 +25,7 @@ returns-else-digits-count-clause-number c =
     let (is, value) = bits-marked c.args.count c.args.field.now c.in_ok-digits.digits.now mark rest in
     elim c.else-digits-count.branch [
       | else-digits-count-via-then-digits-count+else-are_hex_digits w ↦
-          is ∙ neither (length c.in_ok-digits.digits.now == c.args.count) (list_all is_ascii_hexdigit c.in_ok-digits.digits.now) (sym w.are_hex_digits.ensures ∙ w.if-are_hex_digits.false)
+          is ∙ and_right (length c.in_ok-digits.digits.now == c.args.count) (list_all is_ascii_hexdigit c.in_ok-digits.digits.now) (sym w.are_hex_digits.ensures ∙ w.if-are_hex_digits.false)
       | else-digits-count-via-else-digits-count w ↦
           let count : (length c.in_ok-digits.digits.now == c.args.count) ≡ false = grind (arith, nat_tests, w.if-digits-count.false) in
           is ∙ rw count refl

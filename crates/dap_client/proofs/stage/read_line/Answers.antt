@@ -1,8 +1,9 @@
 use Rattle.std.proofs.Common.{arith, ◌^◌, ◌+◌, ◌++◌, [], take, refl, sym, subst}
 use Rattle.std.proofs.KnownBytes.{Appends-nil}
+use Rattle.dap_client.proofs.DdsBodies.{piece_parts}
 use Rattle.dap_types.specs.View.{dataset_view}
 use Rattle.dap_client.proofs.Lines.{differs_within, line_head, line_on, line_refused}
-use Rattle.dap_client.proofs.Values.{slice_seam, slice_small, taken_front}
+use Rattle.dap_client.proofs.Values.{slice_small, taken_front}
 use Rattle.error_word.specs.inner.FirstWords.{IsNoError}
 use Rattle.dap_client.specs.inner.Stages.{IsStage, Moves}
 use Rattle.dap_client.proofs.stage.read_line.Goals as goal
@@ -16,7 +17,7 @@ returns-in-Ended-clause-stage g c bytes long none o =
     let used = c.in-Ended.used in
     let piece = c.args.piece.now in
     let (le, line) = c.in-Ended.ensures o.rest o.is_front in
-    let same = slice_seam bytes piece used le in
+    let same = piece_parts bytes piece used le in
     subst (λ l. Moves (g.O.Sink.written c.args.out.now) (g.O.Sink.written c.begin_values.new.out) l [] c.begin_values.result) same
     (c.begin_values.ensures.stage (bytes ++ take used piece) (taken_front bytes piece c.args.place used long le) (subst IsNoError (sym same) none)
     (line_head (dataset_view c.args.dataset) c.args.line bytes (take used piece) o line))

@@ -1,7 +1,8 @@
 use Rattle.std.proofs.Common.{arith, ◌+◌, ◌^◌, ◌++◌, [], take, refl, sym, subst, ◌∙◌}
 use Rattle.std.proofs.KnownBytes.{Appends-nil}
+use Rattle.dap_client.proofs.DdsBodies.{piece_parts}
 use Rattle.dap_client.proofs.Texts.{done_in_piece, few_in_piece, text_refused}
-use Rattle.dap_client.proofs.Values.{slice_seam, slice_small, taken_front}
+use Rattle.dap_client.proofs.Values.{slice_small, taken_front}
 use Rattle.error_word.specs.inner.FirstWords.{IsNoError}
 use Rattle.dap_client.specs.inner.Stages.{IsStage, Moves}
 use Rattle.dap_client.proofs.stage.read_text.Goals as goal
@@ -19,7 +20,7 @@ returns-in-Ok-Done-clause-stage g c bytes long none o few =
     let piece = c.args.piece.now in
     let stands = rw c.in-Ok-Done.field-0-is at (c.in-Ok-Done.ensures.stands bytes o.0) in
     let (le, (d, done)) = rw c.in-Ok-Done.field-0-is at (c.in-Ok-Done.ensures.done bytes o.0) in
-    let same = slice_seam bytes piece used le in
+    let same = piece_parts bytes piece used le in
     subst (λ l. Moves (g.O.Sink.written c.args.out.now) (g.O.Sink.written c.end_text.new.out) l [] c.end_text.result) same
     (c.end_text.ensures.stage (bytes ++ take used piece) (taken_front bytes piece c.args.place used long le) (subst IsNoError (sym same) none) (stands, (d, done_in_piece bytes piece used d le done)))
 

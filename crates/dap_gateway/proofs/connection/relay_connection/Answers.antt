@@ -1,8 +1,9 @@
 use Rattle.std.proofs.Common.{refl, ap, subst, inl, inr, [], false, List, ℕ}
+use Rattle.plain_lemmas.proofs.Lists.{nothing_in_front}
 use Rattle.dap_errors.specs.declared.cause.Cause.TheVariants.{BadRequest, HeadTooLong}
 use Rattle.dap_http.specs.Requests.{FirstRequest, IsBadRequest, IsTooLong}
 use Rattle.dap_gateway.specs.Given.{refused}
-use Rattle.dap_gateway.proofs.Coming.{comes-from, early-comes, first-from, from-none, memory-comes, no-head, nothing-taken}
+use Rattle.dap_gateway.proofs.Coming.{comes-from, early-comes, first-from, memory-comes, no-head, nothing-taken}
 use Rattle.dap_gateway.proofs.Worth.{backed-comes}
 use Rattle.dap_gateway.proofs.connection.relay_connection.Goals as goal
 
@@ -32,7 +33,7 @@ returns-in-BadRequest-clause-relays g c =
       taken,
       rw (g.met.L.Link.keeps_left _ _ c.put_cause.ensures.beside) consumes,
       inr (comes-from _ _ _ _ _ taken _ _ _ _ _ _ c.put_cause.result (g.met.L.Link.keeps_written _ _ c.in-BadRequest.ensures.beside)
-          (early-comes _ _ _ _ _ taken _ _ _ _ c.put_cause.result false (refused BadRequest) (inl (refl, inl (refl, subst IsBadRequest (from-none _ taken c.in-Ok.ensures) gives.0))) c.put_cause.ensures.puts refl refl)),
+          (early-comes _ _ _ _ _ taken _ _ _ _ c.put_cause.result false (refused BadRequest) (inl (refl, inl (refl, subst IsBadRequest (nothing_in_front _ taken c.in-Ok.ensures) gives.0))) c.put_cause.ensures.puts refl refl)),
     )
 
 pub returns-in-HeadTooLong-clause-relays : goal.returns-in-HeadTooLong-clause-relays
@@ -41,7 +42,7 @@ returns-in-HeadTooLong-clause-relays g c =
       taken,
       rw (g.met.L.Link.keeps_left _ _ c.put_cause-in-HeadTooLong.ensures.beside) consumes,
       inr (comes-from _ _ _ _ _ taken _ _ _ _ _ _ c.put_cause-in-HeadTooLong.result (g.met.L.Link.keeps_written _ _ c.in-HeadTooLong.ensures.beside)
-          (early-comes _ _ _ _ _ taken _ _ _ _ c.put_cause-in-HeadTooLong.result false (refused HeadTooLong) (inl (refl, inr (refl, subst IsTooLong (from-none _ taken c.in-Ok.ensures) gives.0))) c.put_cause-in-HeadTooLong.ensures.puts refl refl)),
+          (early-comes _ _ _ _ _ taken _ _ _ _ c.put_cause-in-HeadTooLong.result false (refused HeadTooLong) (inl (refl, inr (refl, subst IsTooLong (nothing_in_front _ taken c.in-Ok.ensures) gives.0))) c.put_cause-in-HeadTooLong.ensures.puts refl refl)),
     )
 
 pub returns-clause-relays : goal.returns-clause-relays
@@ -51,6 +52,6 @@ returns-clause-relays g c =
       taken,
       rw (g.met.L.Link.keeps_left _ _ c.put_memory-in-Memory.ensures.beside) consumes,
       inr (comes-from _ _ _ _ _ taken _ _ _ _ _ _ c.put_memory-in-Memory.result (g.met.L.Link.keeps_written _ _ c.in-Memory.ensures.beside)
-          (memory-comes _ _ _ _ _ taken _ _ _ _ c.put_memory-in-Memory.result c.in-Memory.head (inr (tree, rest, subst (λ (b : List ℕ). FirstRequest b tree rest) (from-none _ taken c.in-Ok.ensures) first, is))
+          (memory-comes _ _ _ _ _ taken _ _ _ _ c.put_memory-in-Memory.result c.in-Memory.head (inr (tree, rest, subst (λ (b : List ℕ). FirstRequest b tree rest) (nothing_in_front _ taken c.in-Ok.ensures) first, is))
           c.put_memory-in-Memory.ensures.puts refl refl)),
     )

@@ -3,8 +3,8 @@ use Rattle.std.specs.List.{slice_split}
 use Rattle.std.specs.Str.{str_eq_ignore_ascii_case}
 use Rattle.std.proofs.lemmas.Iterator.Search.{any_from_yields_List}
 use Rattle.std.proofs.lemmas.Iterator.Splits.{YieldsList-from_slice_split}
+use Rattle.plain_lemmas.proofs.Lists.{any-map}
 use Rattle.httparse.specs.Grammar.{trim_ows}
-use Rattle.dap_http.proofs.FieldTests.{any-map}
 use Rattle.dap_http.proofs.fields.names_close.Goals as goal
 
 pub returns : goal.returns

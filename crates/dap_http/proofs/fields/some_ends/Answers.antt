@@ -1,9 +1,9 @@
 use Rattle.std.proofs.Common.{◌∙◌, sym}
 use Rattle.std.proofs.lemmas.List.Folds.{list_any_at}
+use Rattle.plain_lemmas.proofs.Lists.{any-map}
 use Rattle.httparse.specs.Spans.{header_bytes}
 use Rattle.httparse.specs.declared.spans.HeaderSpan.{HeaderSpan}
 use Rattle.dap_http.specs.Requests.{field_ends}
-use Rattle.dap_http.proofs.FieldTests.{any-map}
 use Rattle.dap_http.proofs.fields.some_ends.Goals as goal
 
 pub returns-then-field_ends : goal.returns-then-field_ends

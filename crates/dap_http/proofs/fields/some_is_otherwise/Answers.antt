@@ -1,9 +1,9 @@
 use Rattle.std.proofs.Common.{◌∙◌, sym}
 use Rattle.std.proofs.lemmas.List.Folds.{list_any_at}
+use Rattle.plain_lemmas.proofs.Lists.{any-map}
 use Rattle.httparse.specs.Spans.{header_bytes}
 use Rattle.httparse.specs.declared.spans.HeaderSpan.{HeaderSpan}
 use Rattle.dap_http.specs.inner.ReplyJudging.{is_otherwise}
-use Rattle.dap_http.proofs.FieldTests.{any-map}
 use Rattle.dap_http.proofs.fields.some_is_otherwise.Goals as goal
 
 pub returns-then-is_otherwise : goal.returns-then-is_otherwise

@@ -1,6 +1,7 @@
 use Rattle.std.proofs.Common.{◌≡◌, ◌≢◌, Err, [], length, sym, ap, ◌∙◌, arith}
 use Rattle.std.proofs.lemmas.Bool.Decides.{nat_tests}
-use Rattle.join_source.proofs.Files.{if_err-map, on_ok-map}
+use Rattle.plain_lemmas.proofs.Options.{if_err-map}
+use Rattle.join_source.proofs.Files.{on_ok-map}
 use Rattle.join_source.proofs.Listing.{bad-name, last-left, none-left, one-name, true-of}
 use Rattle.join_source.specs.Lists.{names_from}
 use Rattle.join_source.proofs.list.push_rest.Goals as goal

@@ -1,7 +1,7 @@
 use Rattle.std.proofs.Common.{◌+◌, ℕ, List, map, refl, sym, ◌∙◌, subst, arith}
 use Rattle.std.specs.Io.KnownBytes.{Appends}
+use Rattle.std.proofs.KnownBytes.{Appends-nil}
 use Rattle.dap_outside.proofs.Fronts.{on_err}
-use Rattle.xdr_encode.proofs.Sending.{appends-nothing}
 use Rattle.xdr_encode.specs.Streamed.{Stops}
 use Rattle.join_source.proofs.Walk.{AskAll, pieces-none, this-piece, ask-next, ask-bound, pieces-more, pieces-stop, cost-so-far, all-pieces}
 use Rattle.join_source.specs.Begun.{HaveBegun}
@@ -10,7 +10,7 @@ use Rattle.join_source.proofs.send.send_pieces.Goals as goal
 
 pub loop-piece-init : goal.loop-piece-init
 loop-piece-init g c = record {
-  text = λ contents told. subst (λ text. Appends (g.O.Sink.written c.args.out.now) (g.O.Sink.written c.args.out.now) text) (sym (pieces-none contents)) (appends-nothing (g.O.Sink.written c.args.out.now));
+  text = λ contents told. subst (λ text. Appends (g.O.Sink.written c.args.out.now) (g.O.Sink.written c.args.out.now) text) (sym (pieces-none contents)) (Appends-nil (g.O.Sink.written c.args.out.now));
   asked = omega arith;
   same_files = refl;
   same_sizes = refl;

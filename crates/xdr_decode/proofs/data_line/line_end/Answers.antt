@@ -1,6 +1,7 @@
 use Rattle.std.proofs.Common.{arith, get_or, refl, subst, sym}
-use Rattle.xdr_decode.proofs.Arrays.{each_err, each_ok}
-use Rattle.xdr_decode.proofs.Elements.{empty_is, some_is}
+use Rattle.std.proofs.lemmas.List.{nil_from_length}
+use Rattle.plain_lemmas.proofs.Options.{if_ok-map, if_err-map}
+use Rattle.xdr_decode.proofs.Elements.{some_is}
 use Rattle.xdr_decode.proofs.Lined.{end_cut, end_differs, end_feed, end_return, end_stop}
 use Rattle.xdr_decode.proofs.Spots.{none_of, some_of}
 use Rattle.xdr_decode.proofs.Texts.{part-rest}
@@ -8,17 +9,17 @@ use Rattle.xdr_decode.specs.inner.Lined.{Behind, EndLines}
 use Rattle.xdr_decode.proofs.data_line.line_end.Goals as goal
 
 pub returns-then-is_empty-clause-stop : goal.returns-then-is_empty-clause-stop
-returns-then-is_empty-clause-stop c = end_cut c.args.bytes.now (empty_is c.args.bytes.now (none_of c.args.bytes.now c.if-is_empty.ensures))
+returns-then-is_empty-clause-stop c = end_cut c.args.bytes.now (nil_from_length c.args.bytes.now (none_of c.args.bytes.now c.if-is_empty.ensures))
 
 pub returns-in-10-clause-read : goal.returns-in-10-clause-read
 returns-in-10-clause-read c =
     subst (Behind EndLines c.args.bytes.now) (sym (part-rest 1 c.args.bytes.now)) (end_feed c.args.bytes.now (some_is c.args.bytes.now (some_of c.args.bytes.now c.if-is_empty.ensures)) c.in-10.is)
 
 pub returns-in-13-clause-read : goal.returns-in-13-clause-read
-returns-in-13-clause-read c = each_ok c.literal.result (λ rest read. end_return c.args.bytes.now rest.now read) c.literal.ensures.read
+returns-in-13-clause-read c = if_ok-map c.literal.result (λ rest read. end_return c.args.bytes.now rest.now read) c.literal.ensures.read
 
 pub returns-in-13-clause-stop : goal.returns-in-13-clause-stop
-returns-in-13-clause-stop c = each_err c.literal.result (λ e stop. end_stop c.args.bytes.now e c.in-13.is stop) c.literal.ensures.stop
+returns-in-13-clause-stop c = if_err-map c.literal.result (λ e stop. end_stop c.args.bytes.now e c.in-13.is stop) c.literal.ensures.stop
 
 pub returns-in_default-clause-stop : goal.returns-in_default-clause-stop
 returns-in_default-clause-stop c =

@@ -1,5 +1,5 @@
 use Rattle.std.proofs.Common.{rules}
-use Rattle.xdr_decode.proofs.Arrays.{each_err, each_ok}
+use Rattle.plain_lemmas.proofs.Options.{if_ok-map, if_err-map}
 use Rattle.xdr_decode.proofs.Lined.{word_end_stop, word_read, word_stop}
 use Rattle.xdr_decode.specs.inner.Lined.{StopsIn, WordLines}
 use Rattle.xdr_decode.proofs.data_line.word_line.Goals as goal
@@ -10,7 +10,7 @@ returns-in_err-rest-clause-stop c =
     search (rules, stop)
 
 pub returns-clause-read : goal.returns-clause-read
-returns-clause-read c = each_ok c.line_end.result (λ behind read. word_read c.args.bytes.now c.in_ok-rest.rest.now behind.now c.in_ok-rest.ensures.read read) c.line_end.ensures.read
+returns-clause-read c = if_ok-map c.line_end.result (λ behind read. word_read c.args.bytes.now c.in_ok-rest.rest.now behind.now c.in_ok-rest.ensures.read read) c.line_end.ensures.read
 
 pub returns-clause-stop : goal.returns-clause-stop
-returns-clause-stop c = each_err c.line_end.result (λ e stop. word_end_stop c.args.bytes.now c.in_ok-rest.rest.now e c.in_ok-rest.ensures.read stop) c.line_end.ensures.stop
+returns-clause-stop c = if_err-map c.line_end.result (λ e stop. word_end_stop c.args.bytes.now c.in_ok-rest.rest.now e c.in_ok-rest.ensures.read stop) c.line_end.ensures.stop

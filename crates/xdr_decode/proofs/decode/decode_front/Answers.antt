@@ -1,6 +1,7 @@
 use Rattle.std.proofs.Common.{arith, map, subst, sym}
+use Rattle.plain_lemmas.proofs.Options.{if_err-map}
 use Rattle.dap_types.specs.View.{dataset_view, tree_view}
-use Rattle.xdr_decode.proofs.Arrays.{both_ok, each_err}
+use Rattle.xdr_decode.proofs.Arrays.{both_ok}
 use Rattle.xdr_decode.proofs.Decoded.{front_good, front_refused, head_of, line_cut, line_refused}
 use Rattle.xdr_decode.proofs.Texts.{part-rest}
 use Rattle.xdr_decode.specs.inner.Deciding.{IsRefusalIn}
@@ -14,7 +15,7 @@ returns-in-Ok-clause-good c =
 pub returns-in-Ok-clause-refused : goal.returns-in-Ok-clause-refused
 returns-in-Ok-clause-refused c =
     let h = head_of c.args.body.now c.in-Ok.values.now c.in_ok-dataset.used (dataset_view c.in_ok-dataset.dataset) c.in_ok-dataset.ensures.within c.in_ok-dataset.ensures.read (rw (part-rest c.in_ok-dataset.used c.args.body.now) at c.in-Ok.ensures.read) in
-    each_err c.fill.result (λ e refused. front_refused c.args.body.now c.in-Ok.values.now h.0 (dataset_view c.in_ok-dataset.dataset) e h.1 refused) c.fill.ensures.refused
+    if_err-map c.fill.result (λ e refused. front_refused c.args.body.now c.in-Ok.values.now h.0 (dataset_view c.in_ok-dataset.dataset) e h.1 refused) c.fill.ensures.refused
 
 pub returns-in-Err-Cut-clause-refused : goal.returns-in-Err-Cut-clause-refused
 returns-in-Err-Cut-clause-refused c =

@@ -1,8 +1,9 @@
 use Rattle.std.proofs.Common.{ℕ, List, ◌*◌, ◌∙◌, ap, drop, rules, subst, sym}
+use Rattle.std.proofs.lemmas.List.{nil_from_length}
 use Rattle.xdr_decode.proofs.Texts.{part-rest}
 use Rattle.dap_types.specs.Model.{product}
 use Rattle.xdr_fields.specs.Wants.{elements_left}
-use Rattle.xdr_decode.proofs.Elements.{each_push, each_stop, empty_is, many_fits, many_read, many_stop, one_fits, one_read, one_stop, some_is}
+use Rattle.xdr_decode.proofs.Elements.{each_push, each_stop, many_fits, many_read, many_stop, one_fits, one_read, one_stop, some_is}
 use Rattle.xdr_decode.proofs.Spots.{none_of, some_of}
 use Rattle.xdr_decode.specs.inner.Taken.{Stops, element_want, sizes_of}
 use Rattle.xdr_decode.proofs.trees.+nested.Goals as goal
@@ -19,11 +20,11 @@ each-loop-preserved t c = each_push c.args.base (sizes_of c.args.dims.now) _ _ _
 pub nested-returns-in_err-value-clause-stop : goal.nested-returns-in_err-value-clause-stop
 nested-returns-in_err-value-clause-stop t c = λ path ms at.
     let stop : Stops (elements_left (element_want c.args.base) path ms at (product (sizes_of c.args.dims.now))) c.args.bytes.now c.in_err-value.field-0.0 =
-    one_stop c.args.base c.args.dims.now c.args.bytes.now _ (empty_is c.args.dims.now (none_of c.args.dims.now c.if-is_empty.ensures)) c.in_err-value.ensures.stop path ms at in
+    one_stop c.args.base c.args.dims.now c.args.bytes.now _ (nil_from_length c.args.dims.now (none_of c.args.dims.now c.if-is_empty.ensures)) c.in_err-value.ensures.stop path ms at in
     search (rules, stop)
 
 pub nested-returns-then-is_empty-clause-fits : goal.nested-returns-then-is_empty-clause-fits
-nested-returns-then-is_empty-clause-fits t c = one_fits c.args.base c.args.dims.now _ (empty_is c.args.dims.now (none_of c.args.dims.now c.if-is_empty.ensures)) c.in_ok-value.ensures.fits
+nested-returns-then-is_empty-clause-fits t c = one_fits c.args.base c.args.dims.now _ (nil_from_length c.args.dims.now (none_of c.args.dims.now c.if-is_empty.ensures)) c.in_ok-value.ensures.fits
 
 pub nested-returns-then-is_empty-clause-read : goal.nested-returns-then-is_empty-clause-read
 nested-returns-then-is_empty-clause-read t c = one_read c.args.base _ c.args.bytes.now _ c.in_ok-value.ensures.read

@@ -1,10 +1,11 @@
 use Rattle.std.proofs.Common.{rules}
+use Rattle.plain_lemmas.proofs.Options.{if_err-map}
 use Rattle.dap_model.proofs.Values.{length-values_in}
 use Rattle.dap_model.specs.Fits.{values_in}
 use Rattle.dap_types.specs.Model.{product}
 use Rattle.dap_types.specs.View.{tree_view}
 use Rattle.xdr_fields.specs.Wants.{a_count, array_wants}
-use Rattle.xdr_decode.proofs.Arrays.{both_ok, count_spelt, each_err, numbers_again_stop, numbers_count_stop, numbers_read, numbers_stop, two_counts}
+use Rattle.xdr_decode.proofs.Arrays.{both_ok, count_spelt, numbers_again_stop, numbers_count_stop, numbers_read, numbers_stop, two_counts}
 use Rattle.xdr_decode.specs.inner.Taken.{Stops, sizes_of}
 use Rattle.xdr_decode.proofs.trees.numbers.Goals as goal
 
@@ -34,6 +35,6 @@ returns-clause-read c =
 pub returns-clause-stop : goal.returns-clause-stop
 returns-clause-stop c = λ path.
     let n = product (sizes_of c.args.dims.now) in
-    each_err c.nested.result (λ e stop. numbers_stop c.args.base path (sizes_of c.args.dims.now) n c.args.bytes.now _ e c.requires.number c.requires.wide
+    if_err-map c.nested.result (λ e stop. numbers_stop c.args.base path (sizes_of c.args.dims.now) n c.args.bytes.now _ e c.requires.number c.requires.wide
     (two_counts n c.args.bytes.now _ _ (count_spelt n _ c.args.bytes.now _ (c.in_ok-rest.ensures.read (a_count n) c.elements.ensures)) (count_spelt n _ _ _ (c.in_ok-rest-2.ensures.read (a_count n) c.elements-2.ensures))) stop)
     (c.nested.ensures.stop path (sizes_of c.args.dims.now) 0)

@@ -1,10 +1,11 @@
 use Rattle.std.proofs.Common.{rules}
+use Rattle.plain_lemmas.proofs.Options.{if_err-map}
 use Rattle.dap_model.proofs.Values.{length-values_in}
 use Rattle.dap_model.specs.Fits.{values_in}
 use Rattle.dap_types.specs.Model.{product}
 use Rattle.dap_types.specs.View.{tree_view}
 use Rattle.xdr_fields.specs.Wants.{a_count, array_wants}
-use Rattle.xdr_decode.proofs.Arrays.{both_ok, count_spelt, each_err, texts_count_stop, texts_read, texts_stop}
+use Rattle.xdr_decode.proofs.Arrays.{both_ok, count_spelt, texts_count_stop, texts_read, texts_stop}
 use Rattle.xdr_decode.specs.inner.Taken.{Stops, sizes_of}
 use Rattle.xdr_decode.proofs.trees.texts.Goals as goal
 
@@ -24,5 +25,5 @@ returns-clause-read c =
 pub returns-clause-stop : goal.returns-clause-stop
 returns-clause-stop c = λ path.
     let n = product (sizes_of c.args.dims.now) in
-    each_err c.nested.result (λ e stop. texts_stop c.args.base path (sizes_of c.args.dims.now) n c.args.bytes.now _ e c.requires
+    if_err-map c.nested.result (λ e stop. texts_stop c.args.base path (sizes_of c.args.dims.now) n c.args.bytes.now _ e c.requires
     (count_spelt n _ c.args.bytes.now _ (c.in_ok-rest.ensures.read (a_count n) c.elements.ensures)) stop) (c.nested.ensures.stop path (sizes_of c.args.dims.now) 0)

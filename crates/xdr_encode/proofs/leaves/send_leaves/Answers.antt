@@ -1,14 +1,14 @@
 use Rattle.std.proofs.Common.{◌≡◌, ◌<◌, ℕ, List, Some, All, refl, sym, ap, ◌∙◌, subst, arith, length}
 use Rattle.std.specs.Io.KnownBytes.{Appends}
+use Rattle.std.proofs.KnownBytes.{Appends-nil}
 use Rattle.dap_outside.proofs.Fronts.{on_err}
-use Rattle.xdr_encode.proofs.Sending.{appends-nothing}
 use Rattle.xdr_encode.proofs.Walk.{leaves-none, this-leaf, ask-next, ask-bound, leaves-more, leaves-stop, cost-so-far, all-leaves}
 use Rattle.xdr_encode.specs.Sent.{AskAll, IsInside, LeavesStop, leaves_xdr}
 use Rattle.xdr_encode.proofs.leaves.send_leaves.Goals as goal
 
 pub loop-leaf-init : goal.loop-leaf-init
 loop-leaf-init g c = record {
-  text = λ bytes h e. subst (λ text. Appends (g.O.Sink.written c.args.out.now) (g.O.Sink.written c.args.out.now) text) (sym (leaves-none bytes)) (appends-nothing (g.O.Sink.written c.args.out.now));
+  text = λ bytes h e. subst (λ text. Appends (g.O.Sink.written c.args.out.now) (g.O.Sink.written c.args.out.now) text) (sym (leaves-none bytes)) (Appends-nil (g.O.Sink.written c.args.out.now));
   asked = omega arith;
   same_file = refl;
   same_size = refl;

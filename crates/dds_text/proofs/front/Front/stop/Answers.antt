@@ -1,7 +1,8 @@
 use Rattle.std.proofs.Common.{◌++◌, refl, arith}
+use Rattle.plain_lemmas.proofs.Truths.{match_true, match_false}
 use Rattle.dap_types.specs.View.{dataset_view}
 use Rattle.dds_text.proofs.Bytes.{bad_word, bad_sign}
-use Rattle.dds_text.proofs.Stops.{holds_open, match_true, match_false, stopped, ended_at}
+use Rattle.dds_text.proofs.Stops.{holds_open, stopped, ended_at}
 use Rattle.dds_text.proofs.front.Front.stop.Goals as goal
 
 pub returns-then-not-branch-clause-found : goal.returns-then-not-branch-clause-found

@@ -1,6 +1,6 @@
 use Rattle.std.proofs.Common.{slice_index_or, ap, ◌∙◌, sym}
+use Rattle.plain_lemmas.proofs.Options.{if_ok-map}
 use Rattle.netcdf_source.specs.Mapping.{dataset_of, with_records}
-use Rattle.join_source.proofs.Files.{if_ok-map}
 use Rattle.join_source.proofs.First.{first-is}
 use Rattle.join_source.specs.Members.{all_records, contents_of, first_of, joined_contents}
 use Rattle.join_source.proofs.joined.Joined.dataset.Goals as goal
