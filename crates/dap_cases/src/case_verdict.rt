@@ -10,7 +10,7 @@ use crate::said::Said;
 use crate::verdict::{Verdict, judge};
 use dap_commands::run;
 use dap_outside::{MemDial, MemDoor, MemSink, MemSource, Shelf};
-use dap_types::{Bytes, List, Memory, Name};
+use dap_types::{Bytes, List, Memory, Name, limits};
 use std::alloc::Global;
 use std::thread::Threads;
 
@@ -101,7 +101,7 @@ pub fn verdict_on<R: Threads + Sync, S: Shelf>(
 ) -> Result<Verdict, Memory>
     ensures { IfOk result (IsVerdictOn (told_below prefix.now (S.files shelf.old)) case) }
 {
-    let whole = verdict_by(rt, alloc, shelf, prefix, &case, 65_536)?;
+    let whole = verdict_by(rt, alloc, shelf, prefix, &case, limits::MOST_PIECE as u32)?;
     if !whole.is_agreed() {
         return Ok(whole);
     }

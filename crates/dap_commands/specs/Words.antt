@@ -1,7 +1,7 @@
 -- The words of a command line (this project's).
 use Rattle.std.specs.Prelude.{◌≡◌, ℕ, ◌^◌, ◌<◌, ◌≤◌, List, [], ◌∷◌, ◌⊎◌, IsTrue, codes, length, Some}
 use Rattle.std.specs.Str.Parse.{digits_value}
-use Rattle.dap_types.specs.Limits.{most_room}
+use Rattle.dap_types.specs.Limits.{most_constraints, most_links, most_port, most_records, most_room, most_workers}
 use Rattle.dap_http.specs.Urls.{UrlParts, is_host, url_of}
 use Rattle.dap_http.specs.declared.kind.Kind.{Kind}
 use Rattle.dap_http.specs.declared.kind.Kind.TheVariants as kinds
@@ -21,7 +21,7 @@ IsSeed word n = IsTrue (is_numeral 20 word) × (n ≡ digits_value 10 word) × (
 abbrev pub AreAnswer : List (List ℕ) → List ℕ → ℕ → Type 0
 AreAnswer words target workers =
     ((words ≡ codes "answer" ∷ target ∷ []) × (workers ≡ 1))
-    ⊎ ((word : List ℕ) × (words ≡ codes "answer" ∷ target ∷ word ∷ []) × IsNumber 64 word workers)
+    ⊎ ((word : List ℕ) × (words ≡ codes "answer" ∷ target ∷ word ∷ []) × IsNumber most_workers word workers)
 
 -- `show`
 abbrev pub IsShow : List (List ℕ) → Type 0
@@ -32,7 +32,7 @@ abbrev pub AreServe : List (List ℕ) → ℕ → ℕ → ℕ → Type 0
 AreServe words port workers requests =
     (port_word : List ℕ) × (workers_word : List ℕ) × (requests_word : List ℕ)
     × (words ≡ codes "serve" ∷ port_word ∷ workers_word ∷ requests_word ∷ [])
-    × IsNumber 65535 port_word port × IsNumber 64 workers_word workers × IsNumber 1000000000 requests_word requests
+    × IsNumber most_port port_word port × IsNumber most_workers workers_word workers × IsNumber most_links requests_word requests
 
 -- `ver`
 abbrev pub IsVer : List (List ℕ) → Type 0
@@ -41,14 +41,14 @@ IsVer words = words ≡ codes "ver" ∷ []
 -- `soak START SIZE`
 abbrev pub AreSoak : List (List ℕ) → ℕ → ℕ → Type 0
 AreSoak words start records =
-    (start_word : List ℕ) × (size_word : List ℕ) × (words ≡ codes "soak" ∷ start_word ∷ size_word ∷ []) × IsSeed start_word start × IsNumber 4096 size_word records
+    (start_word : List ℕ) × (size_word : List ℕ) × (words ≡ codes "soak" ∷ start_word ∷ size_word ∷ []) × IsSeed start_word start × IsNumber most_records size_word records
 
 -- `relay HOST UPPORT PORT ROOM REQUESTS`
 abbrev pub AreRelay : List (List ℕ) → List ℕ → ℕ → ℕ → ℕ → ℕ → Type 0
 AreRelay words host upport port room requests =
     (upport_word : List ℕ) × (port_word : List ℕ) × (room_word : List ℕ) × (requests_word : List ℕ)
     × (words ≡ codes "relay" ∷ host ∷ upport_word ∷ port_word ∷ room_word ∷ requests_word ∷ [])
-    × IsTrue (is_host host) × IsNumber 65535 upport_word upport × IsNumber 65535 port_word port × IsNumber most_room room_word room × IsNumber 1000000000 requests_word requests
+    × IsTrue (is_host host) × IsNumber most_port upport_word upport × IsNumber most_port port_word port × IsNumber most_room room_word room × IsNumber most_links requests_word requests
 
 -- the word of a kind that is fetched
 abbrev pub IsKindWord : List ℕ → Kind → Type 0
@@ -60,7 +60,7 @@ IsKindWord word kinds.Ver = ⊥
 -- `fetch`, a word, a kind and 1 to 16 constraints
 abbrev pub HaveFetchForm : List (List ℕ) → List ℕ → Kind → List (List ℕ) → Type 0
 HaveFetchForm words url kind ces =
-    (word : List ℕ) × (words ≡ codes "fetch" ∷ url ∷ word ∷ ces) × IsKindWord word kind × (1 ≤ length ces) × (length ces ≤ 16)
+    (word : List ℕ) × (words ≡ codes "fetch" ∷ url ∷ word ∷ ces) × IsKindWord word kind × (1 ≤ length ces) × (length ces ≤ most_constraints)
 
 -- `fetch URL KIND CE [CE ..]`
 abbrev pub AreFetch : List (List ℕ) → UrlParts → Kind → List (List ℕ) → Type 0
@@ -103,7 +103,7 @@ IsCommand words = ((target : List ℕ) × (workers : ℕ) × AreAnswer words tar
 
 -- what the words ask for
 abbrev pub Reads : List (List ℕ) → Command → Type 0
-Reads words (Answer target workers) = AreAnswer words target.now workers × (1 ≤ workers) × (workers ≤ 64)
+Reads words (Answer target workers) = AreAnswer words target.now workers × (1 ≤ workers) × (workers ≤ most_workers)
 Reads words Show = IsShow words
 Reads words (Serve port workers requests) = AreServe words port workers requests
 Reads words Ver = IsVer words

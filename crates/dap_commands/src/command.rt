@@ -1,11 +1,9 @@
 ghost use Rattle.std.specs.Prelude.{◌≡◌, [], ◌∷◌, ◌≤◌, codes, length, MatchOption};
-ghost use Rattle.std.specs.List.{list_all};
-ghost use Rattle.dap_http.specs.Urls.{is_host, is_host_byte};
 ghost use Rattle.dap_http.specs.declared.kind.Kind.{Kind};
 ghost use Rattle.dap_commands.specs.Words.{IsKindWord, Reads};
 
 use crate::numbers::{number_to, seed_of};
-use dap_http::Kind;
+use dap_http::{Kind, Url};
 use dap_types::{Name, limits};
 
 /// What the words after the program's name ask for.
@@ -82,7 +80,7 @@ fn soak_of<'a>(start: &str, size: &str) -> Command<'a>
     ensures { Reads (codes "soak" ∷ start.now ∷ size.now ∷ []) result }
 {
     match seed_of(start) {
-        Some(start) => match number_to(size, 4_096) {
+        Some(start) => match number_to(size, limits::MOST_RECORDS) {
             Some(records) => Command::Soak {
                 start,
                 records: records as u32,
@@ -97,7 +95,7 @@ fn command_of_three<'a>(name: &str, first: &'a str, second: &'a str) -> Command<
     ensures { Reads (name.now ∷ first.now ∷ second.now ∷ []) result }
 {
     if name == "answer" {
-        match number_to(second, 64) {
+        match number_to(second, limits::MOST_WORKERS) {
             Some(workers) => Command::Answer(first, workers as u32),
             None => Command::Other,
         }
@@ -116,9 +114,9 @@ fn command_of_three<'a>(name: &str, first: &'a str, second: &'a str) -> Command<
 fn serve_of<'a>(port: &str, workers: &str, requests: &str) -> Command<'a>
     ensures { Reads (codes "serve" ∷ port.now ∷ workers.now ∷ requests.now ∷ []) result }
 {
-    match number_to(port, 65_535) {
-        Some(port) => match number_to(workers, 64) {
-            Some(workers) => match number_to(requests, 1_000_000_000) {
+    match number_to(port, limits::MOST_PORT) {
+        Some(port) => match number_to(workers, limits::MOST_WORKERS) {
+            Some(workers) => match number_to(requests, limits::MOST_LINKS) {
                 Some(requests) => Command::Serve {
                     port: port as u16,
                     workers: workers as u32,
@@ -132,36 +130,17 @@ fn serve_of<'a>(port: &str, workers: &str, requests: &str) -> Command<'a>
     }
 }
 
-/// Whether a word is a host: 1 to 255 letters, digits, `-` and `.` (RFC 1123, section 2.1).
-fn is_host(word: &[u8]) -> bool
-    ensures { result ≡ is_host word.now }
-{
-    !word.is_empty() && word.len() <= 255 && are_host_bytes(word)
-}
-
-fn are_host_bytes(word: &[u8]) -> bool
-    ensures { result ≡ list_all is_host_byte word.now }
-{
-    word.iter().all(|byte| is_host_byte(*byte))
-}
-
-fn is_host_byte(byte: u8) -> bool
-    ensures { result ≡ is_host_byte byte }
-{
-    byte.is_ascii_alphanumeric() || byte == b'-' || byte == b'.'
-}
-
 /// `relay` of a host, which may be none.
 fn relay_of<'a>(host: &'a str, upport: &str, port: &str, room: &str, requests: &str) -> Command<'a>
     ensures { Reads (codes "relay" ∷ host.now ∷ upport.now ∷ port.now ∷ room.now ∷ requests.now ∷ []) result }
 {
-    if !is_host(host.as_bytes()) {
+    if !Url::is_host(host.as_bytes()) {
         return Command::Other;
     }
-    match number_to(upport, 65_535) {
-        Some(upport) => match number_to(port, 65_535) {
+    match number_to(upport, limits::MOST_PORT) {
+        Some(upport) => match number_to(port, limits::MOST_PORT) {
             Some(port) => match number_to(room, limits::MOST_ROOM) {
-                Some(room) => match number_to(requests, 1_000_000_000) {
+                Some(room) => match number_to(requests, limits::MOST_LINKS) {
                     Some(requests) => Command::Relay {
                         host,
                         upport: upport as u16,
@@ -195,7 +174,7 @@ fn fetch_of<'a>(url: &'a str, kind: &str, ces: &'a [Name]) -> Command<'a>
     requires { 1 ≤ length ces.now }
     ensures { Reads (codes "fetch" ∷ url.now ∷ kind.now ∷ ces.now) result }
 {
-    if ces.len() > 16 {
+    if ces.len() > limits::MOST_CONSTRAINTS {
         return Command::Other;
     }
     match kind_of(kind) {

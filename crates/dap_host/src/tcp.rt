@@ -6,6 +6,7 @@ ghost use Rattle.dap_outside.specs.Causes.{HasCause};
 
 use arrayvec::ArrayVec;
 use dap_outside::{Dial, Door, Failed, Link, Sink, Source};
+use dap_types::limits;
 use std::io;
 use std::io::{ErrorKind, Read, Write};
 use std::net::{
@@ -302,8 +303,8 @@ impl<N: Net> Door for TcpDoor<'_, N> {
     }
 }
 
-/// The greatest length of a host's name in bytes. The name of a domain has at most 255 (RFC 1035, section 2.3.4).
-const HOST: usize = 255;
+/// The bytes of a host's name.
+const HOST: usize = limits::MOST_HOST;
 
 /// Links to hosts and ports. It keeps the last of these, and takes no memory.
 #[derive(Drop)]

@@ -4,6 +4,7 @@ use Rattle.std.specs.Prelude.{ℕ, Bool, ◌&&◌, ◌||◌, not, List, [], ◌�
 use Rattle.std.specs.List.{before_first, list_all, position_or_len, starts_with}
 use Rattle.std.specs.Char.{is_ascii_alphanumeric, is_ascii_digit}
 use Rattle.std.specs.Str.Parse.{digits_value}
+use Rattle.dap_types.specs.Limits.{most_host, most_port}
 use Rattle.target_names.specs.Names.{is_slash}
 use Rattle.dap_http.specs.Targets.{from_slash}
 
@@ -18,7 +19,7 @@ abbrev pub is_host_byte : ℕ → Bool
 is_host_byte b = is_ascii_alphanumeric b || b == 45 || b == 46
 
 abbrev pub is_host : List ℕ → Bool
-is_host host = nat_lt 0 (length host) && nat_le (length host) 255 && list_all is_host_byte host
+is_host host = nat_lt 0 (length host) && nat_le (length host) most_host && list_all is_host_byte host
 
 -- two or more bytes from 21 to 7e, in hexadecimal digits, but `?` and `#`
 abbrev pub is_path_byte : ℕ → Bool
@@ -32,7 +33,7 @@ abbrev pub is_short : List ℕ → Bool
 is_short digits = nat_lt 0 (length digits) && nat_le (length digits) 5 && list_all is_ascii_digit digits
 
 abbrev pub is_port : ℕ → Bool
-is_port n = nat_lt 0 n && nat_le n 65535
+is_port n = nat_lt 0 n && nat_le n most_port
 
 abbrev pub numbered : ℕ → Option ℕ
 numbered n = if is_port n then Some n else None

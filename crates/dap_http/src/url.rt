@@ -4,7 +4,7 @@ ghost use Rattle.std.specs.Char.{is_ascii_digit};
 
 use crate::Target;
 use crate::first_byte::place_of;
-use dap_types::{Bytes, Memory};
+use dap_types::{Bytes, Memory, limits};
 use std::alloc::Global;
 use viable::{all_digits, value_of};
 
@@ -123,7 +123,7 @@ impl Url {
     fn numbered(number: u64) -> Option<u16>
         ensures { MatchOption result (numbered number ≡ None) (λ p. numbered number ≡ Some p) }
     {
-        if number > 0 && number <= 65_535 {
+        if number > 0 && number <= limits::MOST_PORT {
             return Some(number as u16);
         }
         None
@@ -137,10 +137,11 @@ impl Url {
         !digits.is_empty() && digits.len() <= 5 && all_digits(digits)
     }
 
-    fn is_host(host: &[u8]) -> bool
+    /// Whether a word is a host: 1 to 255 letters, digits, `-` and `.` (RFC 1123, section 2.1).
+    pub fn is_host(host: &[u8]) -> bool
         ensures { result ≡ is_host host.now }
     {
-        !host.is_empty() && host.len() <= 255 && Url::are_host_bytes(host)
+        !host.is_empty() && host.len() <= limits::MOST_HOST && Url::are_host_bytes(host)
     }
 
     fn are_host_bytes(bytes: &[u8]) -> bool

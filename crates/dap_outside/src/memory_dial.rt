@@ -6,13 +6,16 @@ ghost use Rattle.dap_outside.specs.MemLinks.{IsNew};
 
 use crate::calls::Calls;
 use crate::{Dial, Failed, MemLink, Sink, Source};
-use dap_types::{List, Memory};
+use dap_types::{List, Memory, limits};
 use std::alloc::Global;
+
+/// The bytes of a host.
+const HOST: usize = limits::MOST_HOST;
 
 /// Where a link went to: a host of at most 255 bytes, and a port.
 #[derive(Clone, Copy)]
 pub struct Called {
-    host: [u8; 255],
+    host: [u8; HOST],
     len: u8,
     port: u16,
 }
@@ -57,7 +60,7 @@ impl MemDial {
             back,
             called,
             last: Called {
-                host: [0; 255],
+                host: [0; HOST],
                 len: 0,
                 port: 0,
             },
@@ -79,7 +82,7 @@ impl MemDial {
         requires { length host.now ≤ 255 }
         ensures { place_of result ≡ (host.now, port) }
     {
-        let mut bytes = [0; 255];
+        let mut bytes = [0; HOST];
         bytes[..host.len()].copy_from_slice(host.as_bytes());
         Called {
             host: bytes,
@@ -118,7 +121,7 @@ impl Dial for MemDial {
         ensures cause { HasCause self.old.calls.faults self.new.calls.faults result }
         ensures calls { IsOneMore self.old.calls self.new.calls ((255 < length host.now) ⊎ ((length (links_of self.old) ≡ 0) ⊎ (spare_of self.old ≡ 0))) result }
     {
-        let can = host.len() <= 255 && !self.links.is_empty() && self.back.len() < self.room;
+        let can = host.len() <= HOST && !self.links.is_empty() && self.back.len() < self.room;
         self.calls.count(can)?;
         self.last = MemDial::called(host, port);
         Ok(self.links.remove(0))

@@ -66,6 +66,10 @@ most_columns = 1024
 abbrev pub most_header : ℕ
 most_header = 1048576
 
+-- the bytes of a name in a netCDF file
+abbrev pub most_name : ℕ
+most_name = 256
+
 -- the bytes of a netCDF file's variable, and of one of its records
 abbrev pub most_variable : ℕ
 most_variable = 2 ^ 62
@@ -82,7 +86,33 @@ most_saved = 67108864
 abbrev pub most_written : ℕ
 most_written = 16777216
 
+-- the records of a generated file
+abbrev pub most_records : ℕ
+most_records = 4096
+
+-- ---- commands
+
+-- the workers that fill a data response
+abbrev pub most_workers : ℕ
+most_workers = 64
+
+-- the constraints that are fetched one after the other
+abbrev pub most_constraints : ℕ
+most_constraints = 16
+
+-- the links that are served before the program ends
+abbrev pub most_links : ℕ
+most_links = 1000000000
+
 -- ---- HTTP
+
+-- the bytes of a host's name (RFC 1035, section 2.3.4)
+abbrev pub most_host : ℕ
+most_host = 255
+
+-- the greatest port (RFC 9293, section 3.1)
+abbrev pub most_port : ℕ
+most_port = 65535
 
 -- the requests of a connection
 abbrev pub most_requests : ℕ

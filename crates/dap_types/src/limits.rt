@@ -36,6 +36,9 @@ pub const MOST_COLUMNS: u32 = 1_024;
 /// The bytes of a netCDF file's header.
 pub const MOST_HEADER: usize = 1_048_576;
 
+/// The bytes of a name in a netCDF file.
+pub const MOST_NAME: u64 = 256;
+
 /// The bytes of a netCDF file's variable, and of one of its records.
 pub const MOST_VARIABLE: u64 = 1 << 62;
 
@@ -47,6 +50,24 @@ pub const MOST_SAVED: usize = 67_108_864;
 
 /// The bytes of a data response that is written as a netCDF file.
 pub const MOST_WRITTEN: usize = 16_777_216;
+
+/// The records of a generated file.
+pub const MOST_RECORDS: u64 = 4_096;
+
+/// The workers that fill a data response.
+pub const MOST_WORKERS: u64 = 64;
+
+/// The constraints that are fetched one after the other.
+pub const MOST_CONSTRAINTS: usize = 16;
+
+/// The links that are served before the program ends.
+pub const MOST_LINKS: u64 = 1_000_000_000;
+
+/// The bytes of a host's name (RFC 1035, section 2.3.4).
+pub const MOST_HOST: usize = 255;
+
+/// The greatest port (RFC 9293, section 3.1).
+pub const MOST_PORT: u64 = 65_535;
 
 /// The requests of a connection.
 pub const MOST_REQUESTS: u32 = 1_000;

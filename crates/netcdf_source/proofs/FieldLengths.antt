@@ -11,8 +11,8 @@ use Rattle.netcdf_source.specs.declared.version.Width.TheVariants.{Four, Eight}
 use Rattle.netcdf_source.specs.inner.Sound.{grid_members}
 use Rattle.netcdf_source.specs.declared.header.Dimension.{Dimension}
 use Rattle.netcdf_source.specs.declared.header.Variable.{Variable}
-use Rattle.netcdf_source.specs.declared.stop.Failure.{Failure}
-use Rattle.netcdf_source.specs.declared.stop.Failure.TheVariants.{Cut}
+use Rattle.netcdf_source.specs.declared.failure.Failure.{Failure}
+use Rattle.netcdf_source.specs.declared.failure.Failure.TheVariants.{Cut}
 use Rattle.netcdf_source.proofs.Headers.{rest2, more2, more3}
 
 -- the bytes of some fields

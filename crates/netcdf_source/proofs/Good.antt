@@ -15,8 +15,8 @@ use Rattle.netcdf_source.specs.inner.Sound.{InTurn, IsDimension, IsId, IsVariabl
 use Rattle.netcdf_source.specs.declared.header.Contents.{Contents}
 use Rattle.netcdf_source.specs.declared.header.Dimension.{Dimension}
 use Rattle.netcdf_source.specs.declared.header.Variable.{Variable}
-use Rattle.netcdf_source.specs.declared.stop.Failure.{Failure}
-use Rattle.netcdf_source.specs.declared.stop.Failure.TheVariants.{Cut}
+use Rattle.netcdf_source.specs.declared.failure.Failure.{Failure}
+use Rattle.netcdf_source.specs.declared.failure.Failure.TheVariants.{Cut}
 use Rattle.netcdf_source.specs.inner.Reading.{contents_at}
 use Rattle.netcdf_source.proofs.Ends.{IsBytes, with_value}
 use Rattle.netcdf_source.proofs.FieldLengths.{ends_len, header_len}

@@ -28,8 +28,8 @@ use Rattle.netcdf_source.specs.declared.version.Width.{Width}
 use Rattle.netcdf_source.specs.declared.header.Contents.{Contents}
 use Rattle.netcdf_source.specs.declared.header.Dimension.{Dimension}
 use Rattle.netcdf_source.specs.declared.header.Variable.{Variable}
-use Rattle.netcdf_source.specs.declared.stop.Failure.{Failure}
-use Rattle.netcdf_source.specs.declared.stop.Failure.TheVariants.{Cut}
+use Rattle.netcdf_source.specs.declared.failure.Failure.{Failure}
+use Rattle.netcdf_source.specs.declared.failure.Failure.TheVariants.{Cut}
 use Rattle.netcdf_source.proofs.Ends.{IsBytes, later_bytes}
 use Rattle.netcdf_source.proofs.Fitting.{file_bytes}
 use Rattle.netcdf_source.proofs.Good.{bad_if-none, stands_sound}

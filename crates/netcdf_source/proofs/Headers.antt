@@ -13,7 +13,7 @@ use Rattle.netcdf_source.specs.Attribute.{Attribute}
 use Rattle.netcdf_source.specs.declared.header.Contents.{Contents}
 use Rattle.netcdf_source.specs.declared.header.Dimension.{Dimension}
 use Rattle.netcdf_source.specs.declared.header.Variable.{Variable}
-use Rattle.netcdf_source.specs.declared.stop.Failure.{Failure}
+use Rattle.netcdf_source.specs.declared.failure.Failure.{Failure}
 use Rattle.netcdf_source.proofs.Ends.{Again, Sound, again_done, again_then, sound_done, sound_then, sound_as}
 use Rattle.netcdf_source.proofs.Singles.{again_single, sound_single, number_reader, type_reader}
 use Rattle.netcdf_source.proofs.Items.{list_again, list_sound, new_name_again, new_name_sound}

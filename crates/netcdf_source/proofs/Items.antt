@@ -8,8 +8,8 @@ use Rattle.netcdf_source.specs.inner.Reading.{◌>>=◌, passed, judged_at, run_
 use Rattle.netcdf_source.specs.Versions.{bytes_in}
 use Rattle.netcdf_source.specs.declared.version.Width.{Width}
 use Rattle.netcdf_source.specs.declared.version.Width.TheVariants.{Four}
-use Rattle.netcdf_source.specs.declared.stop.Failure.{Failure}
-use Rattle.netcdf_source.specs.declared.stop.Failure.TheVariants.{Cut}
+use Rattle.netcdf_source.specs.declared.failure.Failure.{Failure}
+use Rattle.netcdf_source.specs.declared.failure.Failure.TheVariants.{Cut}
 use Rattle.netcdf_source.proofs.Ends.{IsBytes, no_bytes, with_value, Again, Sound, join_ends, fail_ends, bytes_left, again_done, again_then, again_like, sound_then, sound_like, sound_as}
 use Rattle.netcdf_source.proofs.Singles.{again_single, sound_single, number_reader, values_reader, run_reader, passed_found, run_cut, run_splits, run_again}
 use Rattle.dap_model.specs.Xdr.{padded}

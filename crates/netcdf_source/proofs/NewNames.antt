@@ -16,7 +16,7 @@ use Rattle.netcdf_source.specs.Versions.{bytes_in, number_width}
 use Rattle.netcdf_source.specs.declared.version.Version.{Version}
 use Rattle.netcdf_source.specs.declared.version.Width.{Width}
 use Rattle.netcdf_source.specs.declared.header.Dimension.{Dimension}
-use Rattle.netcdf_source.specs.declared.stop.Failure.{Failure}
+use Rattle.netcdf_source.specs.declared.failure.Failure.{Failure}
 
 -- a name is found by its order where it is one of them
 pub found : (name : List ℕ) (names : List (Bor (List ℕ))) → list_any (is_at (λ k. slice_cmp nat_cmp name k.now)) names ≡ list_any (bytes_eq name) (map (λ k. k.now) names)

@@ -14,8 +14,8 @@ use Rattle.netcdf_source.specs.inner.Reading.{contents_at}
 use Rattle.netcdf_source.specs.declared.header.Contents.{Contents}
 use Rattle.netcdf_source.specs.declared.refusal.HeaderRefusal.{HeaderRefusal}
 use Rattle.netcdf_source.specs.declared.refusal.HeaderRefusal.TheVariants as refusals
-use Rattle.netcdf_source.specs.declared.stop.Failure.{Failure}
-use Rattle.netcdf_source.specs.declared.stop.Failure.TheVariants.{Cut, Streaming, Bad}
+use Rattle.netcdf_source.specs.declared.failure.Failure.{Failure}
+use Rattle.netcdf_source.specs.declared.failure.Failure.TheVariants.{Cut, Streaming, Bad}
 use Rattle.netcdf_source.proofs.Ends.{IsBytes, later_bytes}
 use Rattle.netcdf_source.proofs.Fitting.{file_bytes}
 use Rattle.netcdf_source.proofs.Headers.{FlatHeader, header_of, header_sound}

@@ -16,8 +16,8 @@ use Rattle.netcdf_source.specs.declared.version.Width.{Width}
 use Rattle.netcdf_source.specs.declared.version.Width.TheVariants.{Four, Eight}
 use Rattle.netcdf_source.specs.declared.external_type.ExternalType.{ExternalType}
 use Rattle.netcdf_source.specs.declared.external_type.ExternalType.TheVariants.{Byte}
-use Rattle.netcdf_source.specs.declared.stop.Failure.{Failure}
-use Rattle.netcdf_source.specs.declared.stop.Failure.TheVariants.{Cut, Bad}
+use Rattle.netcdf_source.specs.declared.failure.Failure.{Failure}
+use Rattle.netcdf_source.specs.declared.failure.Failure.TheVariants.{Cut, Bad}
 use Rattle.netcdf_source.proofs.Ends.{IsBytes, with_value, Again, Sound}
 use Rattle.dap_model.specs.Xdr.{padded}
 

@@ -1,8 +1,8 @@
 -- Reading items one after the other, as a loop does.
 use Rattle.std.proofs.Common.{◌≡◌, ℕ, suc, ◌-◌, ◌+◌, ◌≤◌, ◌<◌, List, [], ◌∷◌, ◌++◌, Result, Ok, Err, refl, sym, ◌∙◌, arith}
-use Rattle.netcdf_source.specs.declared.stop.Failure.{Failure}
-use Rattle.netcdf_source.specs.declared.stop.Stop.{Stop}
-use Rattle.netcdf_source.specs.declared.stop.Stop.TheVariants as stops
+use Rattle.netcdf_source.specs.declared.failure.Failure.{Failure}
+use Rattle.netcdf_source.specs.declared.failure.Stop.{Stop}
+use Rattle.netcdf_source.specs.declared.failure.Stop.TheVariants as stops
 use Rattle.netcdf_source.specs.inner.Reading.{Fails, times}
 
 pub goes_on : {X : Type 0} (read : List X → List ℕ → Result (X × List ℕ) Failure) (before : List X) (count i : ℕ) (bytes : List ℕ) (x : X) (after : List ℕ) (total : Result (List X × List ℕ) Failure)

@@ -8,8 +8,8 @@ use Rattle.netcdf_source.specs.Fields.{Judged, Fault, failure, Ends}
 use Rattle.netcdf_source.specs.Grammar.{AttributeTree, attribute, attribute_fields, in_turn}
 use Rattle.netcdf_source.specs.inner.Reading.{◌>>=◌, attribute_at, next_attribute, times}
 use Rattle.netcdf_source.specs.inner.Unread.{first_then, attributes_in, behind_at}
-use Rattle.netcdf_source.specs.declared.stop.Failure.{Failure}
-use Rattle.netcdf_source.specs.declared.stop.Failure.TheVariants.{Cut}
+use Rattle.netcdf_source.specs.declared.failure.Failure.{Failure}
+use Rattle.netcdf_source.specs.declared.failure.Failure.TheVariants.{Cut}
 use Rattle.netcdf_source.specs.declared.version.Version.{Version}
 use Rattle.netcdf_source.proofs.Ends.{IsBytes, with_value}
 use Rattle.netcdf_source.proofs.Items.{times_again, times_found}

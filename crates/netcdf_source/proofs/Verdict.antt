@@ -15,8 +15,8 @@ use Rattle.netcdf_source.specs.declared.refusal.HeaderRefusal.{HeaderRefusal}
 use Rattle.netcdf_source.specs.declared.refusal.HeaderRefusal.TheVariants as refusals
 use Rattle.netcdf_source.specs.declared.version.Version.{Version}
 use Rattle.netcdf_source.specs.declared.version.Version.TheVariants.{One, Two, Five}
-use Rattle.netcdf_source.specs.declared.stop.Failure.{Failure}
-use Rattle.netcdf_source.specs.declared.stop.Failure.TheVariants.{Cut, Streaming, Bad}
+use Rattle.netcdf_source.specs.declared.failure.Failure.{Failure}
+use Rattle.netcdf_source.specs.declared.failure.Failure.TheVariants.{Cut, Streaming, Bad}
 use Rattle.netcdf_source.proofs.Ends.{IsBytes, with_value}
 use Rattle.netcdf_source.proofs.Headers.{FlatHeader, header_of, header_again, header_sound}
 

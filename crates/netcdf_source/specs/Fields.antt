@@ -3,8 +3,8 @@
 use Rattle.std.specs.Prelude.{◌≡◌, ℕ, ◌+◌, ◌<◌, ◌⊎◌, Bool, List, [], ◌∷◌, ◌++◌, length, Option, Some, None, Result, Ok, Err, MatchOption, if◌then◌else◌}
 use Rattle.netcdf_source.specs.Versions.{bytes_in, limit_of, number_bytes}
 use Rattle.netcdf_source.specs.declared.version.Width.{Width}
-use Rattle.netcdf_source.specs.declared.stop.Failure.{Failure}
-use Rattle.netcdf_source.specs.declared.stop.Failure.TheVariants.{Cut, Streaming, Bad}
+use Rattle.netcdf_source.specs.declared.failure.Failure.{Failure}
+use Rattle.netcdf_source.specs.declared.failure.Failure.TheVariants.{Cut, Streaming, Bad}
 use Rattle.dap_model.specs.Xdr.{padded}
 
 pub data Field : Type 0 where

@@ -12,7 +12,7 @@
 use Rattle.std.specs.Prelude.{ℕ, ◌+◌, ◌*◌, ◌^◌, Bool, ◌&&◌, ◌||◌, not, List, [], ◌∷◌, ◌++◌, length, map, ◌==◌, nat_lt, nat_le, if◌then◌else◌, Option, Some, None, unwrap_or, is_none}
 use Rattle.std.specs.List.{list_any}
 use Rattle.std.specs.Str.{bytes_eq}
-use Rattle.dap_types.specs.Limits.{most_dimensions, most_variable}
+use Rattle.dap_types.specs.Limits.{most_dimensions, most_name, most_variable}
 use Rattle.netcdf_source.specs.Fields.{run, Fault, streaming, bad_if, Judged, judged, fine}
 use Rattle.netcdf_source.specs.Parts.{length_at, part, is_record, share, shares}
 use Rattle.netcdf_source.specs.Types.{size_of, type_numbered, type_of}
@@ -83,7 +83,7 @@ count_fault tag n = bad_if (tag == 0 && not (n == 0)) 0
 
 -- the length of a name
 unfoldable pub name_fault : ℕ → Option Fault
-name_fault n = bad_if (n == 0 || nat_lt 256 n) 0
+name_fault n = bad_if (n == 0 || nat_lt most_name n) 0
 
 -- a name that an earlier one is equal to is told at its length
 unfoldable pub repeat_fault : Width → List (List ℕ) → List ℕ → Option Fault

@@ -9,8 +9,8 @@ use Rattle.netcdf_source.specs.declared.header.Contents.{Contents}
 use Rattle.netcdf_source.specs.declared.file.Header.{Header}
 use Rattle.netcdf_source.specs.declared.refusal.HeaderRefusal.{HeaderRefusal}
 use Rattle.netcdf_source.specs.declared.refusal.HeaderRefusal.TheVariants as refusals
-use Rattle.netcdf_source.specs.declared.stop.Failure.{Failure}
-use Rattle.netcdf_source.specs.declared.stop.Failure.TheVariants.{Cut, Streaming, Bad}
+use Rattle.netcdf_source.specs.declared.failure.Failure.{Failure}
+use Rattle.netcdf_source.specs.declared.failure.Failure.TheVariants.{Cut, Streaming, Bad}
 use Rattle.netcdf_source.specs.declared.version.Version.{Version}
 
 -- what a header says

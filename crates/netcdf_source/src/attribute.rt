@@ -2,7 +2,7 @@ ghost use Rattle.std.specs.Prelude.{◌≡◌};
 ghost use Rattle.netcdf_source.specs.inner.Reading.{Reads, attribute_at};
 
 use crate::ExternalType;
-use crate::stop::Failure;
+use crate::failure::Failure;
 use crate::version::Version;
 use crate::words::{any_number, external_type, name, values};
 use std::marker::Model;

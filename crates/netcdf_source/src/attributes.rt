@@ -4,7 +4,7 @@ ghost use Rattle.netcdf_source.specs.inner.Reading.{Gives, Reads, next_attribute
 ghost use Rattle.netcdf_source.specs.inner.Unread.{behind_at, attributes_in};
 
 use crate::attribute::{Attribute, first_attribute};
-use crate::stop::{Failure, Stop};
+use crate::failure::{Failure, Stop};
 use crate::version::Version;
 use crate::words::head;
 use dap_types::{Bytes, Memory};

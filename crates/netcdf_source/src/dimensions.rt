@@ -6,7 +6,7 @@ ghost use Rattle.netcdf_source.specs.inner.Reading.{Gives, Reads, new_name_at, j
 
 use crate::Dimension;
 use crate::names::Names;
-use crate::stop::{Failure, Stop};
+use crate::failure::{Failure, Stop};
 use crate::version::Width;
 use crate::words::{bad, head, name_length, number, run};
 use dap_types::{Id, List};

@@ -9,7 +9,7 @@ use crate::attributes::attributes;
 use crate::dimensions::dimensions;
 use crate::extents::{past_end, record_size};
 use crate::header::Contents;
-use crate::stop::{Failure, Stop};
+use crate::failure::{Failure, Stop};
 use crate::variables::variables;
 use crate::version::Version;
 use crate::words::records;

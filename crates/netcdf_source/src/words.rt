@@ -6,11 +6,9 @@ ghost use Rattle.netcdf_source.specs.declared.version.Width.TheVariants.{Four};
 ghost use Rattle.netcdf_source.specs.inner.Reading.{Reads, word_at, long_at, number_at, run_at, judged_at, type_at, head_at, name_at};
 
 use crate::ExternalType;
-use crate::stop::Failure;
+use crate::failure::Failure;
 use crate::version::{Version, Width};
-
-/// The longest name, in bytes.
-const NAME_MAX: u64 = 256;
+use dap_types::limits;
 
 /// The refusal of the field that these bytes begin with.
 pub fn bad(bytes: &[u8]) -> Failure
@@ -150,7 +148,7 @@ pub fn name_length(width: Width, bytes: &[u8]) -> Result<(u64, &[u8]), Failure>
     ensures few { IfOk result (λ x. x.0 ≤ 256) }
 {
     let (number, rest) = number(width, bytes)?;
-    if number == 0 || number > NAME_MAX {
+    if number == 0 || number > limits::MOST_NAME {
         return Err(bad(bytes));
     }
     Ok((number, rest))

@@ -2,6 +2,7 @@
 -- by % and its two hexadecimal digits in upper case.
 use Rattle.std.specs.Prelude.{ℕ, ◌+◌, ◌-◌, ◌*◌, Bool, false, ◌&&◌, ◌||◌, not, List, [], ◌∷◌, length, Option, Some, None, nat_lt, nat_le, ◌==◌, if◌then◌else◌}
 use Rattle.std.specs.Option.{option_map_or}
+use Rattle.dap_types.specs.Limits.{most_name}
 use Rattle.dap_types.specs.Names.{is_kept_byte}
 
 -- a digit of an escape, which is never in lower case
@@ -37,7 +38,7 @@ undone (a ∷ b ∷ c ∷ rest) = if a == 37 then before (escaped b c) (undone r
 
 -- a name in a netCDF file has 1 to 256 bytes (the limit is this project's)
 abbrev pub is_name_length : ℕ → Bool
-is_name_length n = nat_le 1 n && nat_le n 256
+is_name_length n = nat_le 1 n && nat_le n most_name
 
 -- the name is that of such a name in a file
 unfoldable pub is_file_name : List ℕ → Bool

@@ -5,7 +5,7 @@ ghost use Rattle.dap_types.specs.Names.{is_kept_byte};
 ghost use Rattle.netcdf_writer.specs.Names.{digit_of, escaped, is_digit, is_file_name, plain, undone};
 ghost use Rattle.netcdf_writer.specs.inner.Undoing.{first_byte};
 
-use dap_types::Memory;
+use dap_types::{Memory, limits};
 
 fn is_kept(byte: u8) -> bool
     ensures { result ≡ is_kept_byte byte }
@@ -94,5 +94,5 @@ pub fn is_file_name(room: &mut Vec<u8>, name: &[u8]) -> Result<bool, Memory>
     if !undo(room, name)? {
         return Ok(false);
     }
-    Ok(!room.is_empty() && room.len() <= 256)
+    Ok(!room.is_empty() && room.len() as u64 <= limits::MOST_NAME)
 }

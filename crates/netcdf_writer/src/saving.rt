@@ -127,7 +127,7 @@ fn judged(alloc: Global, body: &[u8]) -> Outcome
     let Ok(bytes) = Bytes::new(alloc, body) else {
         return Outcome::Memory;
     };
-    let mut source = MemSource::new(bytes, 65536, List::new(alloc));
+    let mut source = MemSource::new(bytes, limits::MOST_PIECE as u32, List::new(alloc));
     show(alloc, &mut source, &mut Nowhere {})
 }
 

@@ -6,7 +6,7 @@ use Rattle.std.proofs.lemmas.Bool.{ltb-true, eqb-true, and_parts}
 use Rattle.std.proofs.lemmas.List.{length-replicate}
 use Rattle.netcdf_source.specs.Fields.{Ends, Fault, Field, Judged, Spells, failure, number, run}
 use Rattle.netcdf_source.specs.Versions.{limit_of, number_bytes}
-use Rattle.netcdf_source.specs.declared.stop.Failure.{Failure}
+use Rattle.netcdf_source.specs.declared.failure.Failure.{Failure}
 use Rattle.dap_model.specs.Xdr.{fill, zeros}
 
 -- a field with zero bytes as padding

@@ -2,12 +2,15 @@ ghost use Rattle.std.specs.Prelude.{◌≡◌};
 ghost use Rattle.std.specs.List.{list_all, slice_split};
 ghost use Rattle.target_names.specs.Names.{is_name, is_name_byte, is_segment, is_slash};
 
+/// The bytes of a name.
+const MOST_NAME: usize = 255;
+
 /// Whether these bytes are a name that a target may have.
 #[tactic(auto, unfolding(crate::specs::Names::is_name))]
 pub fn is_name(name: &[u8]) -> bool
     ensures { result ≡ is_name name.now }
 {
-    !name.is_empty() && name.len() <= 255 && are_segments(name)
+    !name.is_empty() && name.len() <= MOST_NAME && are_segments(name)
 }
 
 fn are_segments(name: &[u8]) -> bool

@@ -11,8 +11,8 @@ use Rattle.xdr_decode.specs.inner.Turning.{IsBroken, IsGoneThrough, Spelled, Sta
 use Rattle.xdr_decode.specs.declared.decoder.Decoder.{Decoder}
 use Rattle.xdr_decode.specs.declared.decoder.Pushed.{Pushed}
 use Rattle.xdr_decode.specs.declared.decoder.Pushed.TheVariants as pushed
-use Rattle.xdr_decode.specs.declared.turn.Turn.{Turn}
-use Rattle.xdr_decode.specs.declared.turn.Turn.TheVariants as turn
+use Rattle.xdr_decode.specs.declared.next_field.Turn.{Turn}
+use Rattle.xdr_decode.specs.declared.next_field.Turn.TheVariants as turn
 use Rattle.reply_faults.specs.declared.bad.BadField.{BadField}
 
 -- the decoder has come so far, and so much was put

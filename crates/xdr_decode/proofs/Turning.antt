@@ -6,7 +6,7 @@ use Rattle.std.specs.Prelude.{IsErr}
 use Rattle.dap_outside.specs.declared.failed.Failed.{Failed}
 use Rattle.reply_faults.specs.declared.bad.BadField.{BadField}
 use Rattle.dap_outside.specs.Buffered.{PassesFront}
-use Rattle.xdr_decode.specs.declared.turn.Turn.{Turn}
+use Rattle.xdr_decode.specs.declared.next_field.Turn.{Turn}
 use Rattle.std.specs.Option.{option_map_or}
 use Rattle.std.proofs.lemmas.Grind.{flat_map-append}
 use Rattle.std.specs.List.{flat_map}

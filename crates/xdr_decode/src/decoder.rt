@@ -13,7 +13,7 @@ ghost use Rattle.xdr_decode.specs.Shown.{ShowsFront, ShowsSome};
 
 use crate::buffer::Buffer;
 use crate::place::{Next, Place};
-use crate::turn::Turn;
+use crate::next_field::Turn;
 use crate::{Bad, BadField};
 use arrayvec::ArrayVec;
 use dap_outside::{Failed, Sink};

@@ -13,10 +13,10 @@ mod decoder;
 mod field;
 mod filled;
 mod line;
+mod next_field;
 mod path;
 mod place;
 mod trees;
-mod turn;
 mod value_text;
 mod values;
 

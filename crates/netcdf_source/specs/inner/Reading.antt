@@ -16,10 +16,10 @@ use Rattle.netcdf_source.specs.declared.header.Variable.{Variable}
 use Rattle.netcdf_source.specs.declared.version.Version.{Version}
 use Rattle.netcdf_source.specs.declared.version.Width.{Width}
 use Rattle.netcdf_source.specs.declared.version.Width.TheVariants.{Four, Eight}
-use Rattle.netcdf_source.specs.declared.stop.Failure.{Failure}
-use Rattle.netcdf_source.specs.declared.stop.Failure.TheVariants.{Cut, Bad}
-use Rattle.netcdf_source.specs.declared.stop.Stop.{Stop}
-use Rattle.netcdf_source.specs.declared.stop.Stop.TheVariants as stops
+use Rattle.netcdf_source.specs.declared.failure.Failure.{Failure}
+use Rattle.netcdf_source.specs.declared.failure.Failure.TheVariants.{Cut, Bad}
+use Rattle.netcdf_source.specs.declared.failure.Stop.{Stop}
+use Rattle.netcdf_source.specs.declared.failure.Stop.TheVariants as stops
 use Rattle.dap_model.specs.Xdr.{padded}
 
 infixl 10 ◌>>=◌

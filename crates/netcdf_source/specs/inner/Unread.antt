@@ -2,7 +2,7 @@
 use Rattle.std.specs.Prelude.{ℕ, zero, suc, List, [], ◌∷◌, Result, Ok, Err}
 use Rattle.netcdf_source.specs.Attribute.{Attribute}
 use Rattle.netcdf_source.specs.inner.Reading.{◌>>=◌, attribute_at}
-use Rattle.netcdf_source.specs.declared.stop.Failure.{Failure}
+use Rattle.netcdf_source.specs.declared.failure.Failure.{Failure}
 use Rattle.netcdf_source.specs.declared.version.Version.{Version}
 
 abbrev pub first_then : Result (Attribute × List ℕ) Failure → (List ℕ → List Attribute) → List Attribute

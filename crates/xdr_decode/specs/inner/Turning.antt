@@ -19,8 +19,8 @@ use Rattle.xdr_decode.specs.declared.place.Stage.{Stage}
 use Rattle.xdr_decode.specs.declared.place.Stage.TheVariants as stage
 use Rattle.xdr_decode.specs.declared.place.Text.{Text}
 use Rattle.xdr_decode.specs.declared.place.Text.TheVariants as text
-use Rattle.xdr_decode.specs.declared.turn.Turn.{Turn}
-use Rattle.xdr_decode.specs.declared.turn.Turn.TheVariants as turn
+use Rattle.xdr_decode.specs.declared.next_field.Turn.{Turn}
+use Rattle.xdr_decode.specs.declared.next_field.Turn.TheVariants as turn
 
 -- good fields and bytes of the next one, what was put of them, and what is still to come
 pub record Spelled (d : Dataset) (bytes put : List ℕ) (ws : List Want) (own : List ℕ) : Type 0 where

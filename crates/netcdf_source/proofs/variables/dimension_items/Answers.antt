@@ -1,4 +1,4 @@
-use Rattle.netcdf_source.specs.declared.stop.Stop.TheVariants.{Failed}
+use Rattle.netcdf_source.specs.declared.failure.Stop.TheVariants.{Failed}
 use Rattle.std.proofs.Common.{◌≡◌, [], length, ◌==◌, Ok}
 use Rattle.std.proofs.lemmas.Result.{err_from_is_err_and}
 use Rattle.netcdf_source.specs.inner.Reading.{Fails, next_id, times}

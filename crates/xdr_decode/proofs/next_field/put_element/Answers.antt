@@ -4,7 +4,7 @@ use Rattle.dap_outside.proofs.Passing.{front_as, front_first, puts_as, puts_fail
 use Rattle.xdr_decode.proofs.Paths.{says_all}
 use Rattle.xdr_decode.specs.inner.Lines.{path_text, token_text}
 use Rattle.xdr_fields.specs.Wants.{says}
-use Rattle.xdr_decode.proofs.turn.put_element.Goals as goal
+use Rattle.xdr_decode.proofs.next_field.put_element.Goals as goal
 
 pub returns-in_err-put_path-clause-puts : goal.returns-in_err-put_path-clause-puts
 returns-in_err-put_path-clause-puts g c = λ ask w ws f placed first el asks goes is.

@@ -1,6 +1,6 @@
 use Rattle.std.proofs.Common.{sym, subst}
 use Rattle.xdr_decode.specs.inner.Asked.{IsElement}
-use Rattle.xdr_decode.proofs.turn.put_token.Goals as goal
+use Rattle.xdr_decode.proofs.next_field.put_token.Goals as goal
 
 pub returns-in-Value-clause-puts : goal.returns-in-Value-clause-puts
 returns-in-Value-clause-puts g c = λ w ws f placed first asks goes is.

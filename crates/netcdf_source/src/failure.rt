@@ -1,5 +1,5 @@
 ghost use Rattle.std.specs.Prelude.{◌≡◌};
-ghost use Rattle.netcdf_source.specs.declared.stop.Stop.TheVariants.{Failed, Memory as WantOfMemory};
+ghost use Rattle.netcdf_source.specs.declared.failure.Stop.TheVariants.{Failed, Memory as WantOfMemory};
 
 use dap_types::Memory;
 use std::alloc::{AllocError, AllocFailed};
