@@ -1,6 +1,6 @@
 //! What is sent of joined files, out of their headers and the marks.
 
-ghost use Rattle.std.specs.Prelude.{◌≡◌, ◌<◌, ◌≤◌, ◌+◌, ◌∷◌, ◌++◌, ◌==◌, if◌then◌else◌, ℕ, List, [], All, Err, IfOk, IsOk, IsTrue, MatchResult, None, OnOk, Some, length, map, min};
+ghost use Rattle.std.specs.Prelude.{◌≡◌, ◌<◌, ◌≤◌, ◌+◌, ◌∷◌, ◌++◌, ◌==◌, if◌then◌else◌, ℕ, List, [], All, Err, IfOk, IsOk, IsTrue, MatchResult, None, OnOk, Some, length, map};
 ghost use Rattle.dap_model.specs.Xdr.{bytes_of};
 ghost use Rattle.grid_projection.specs.Resolved.{marks_in};
 ghost use Rattle.hyperslab_plan.specs.Picked.{count_of};
@@ -30,21 +30,10 @@ use dap_types::{BaseType, Layout, List, Memory, Slab, limits};
 use grid_projection::Marks;
 use netcdf_source::Header;
 use std::alloc::Global;
-use xdr_encode::BodyRefusal;
+use xdr_encode::{BodyRefusal, count_within};
 
 /// The most elements of a leaf.
 const MOST: u64 = limits::MOST_ELEMENTS;
-
-/// How many elements hyperslabs pick, or one more than a leaf may have.
-fn count_within(slabs: &[Slab]) -> u64
-    ensures { result ≡ min (count_of slabs.now) 2147483648 }
-{
-    let mut total: u64 = 1;
-    for slab in slabs {
-        total = (total * u64::from(slab.count)).min(MOST + 1);
-    }
-    total
-}
 
 /// The elements of leaf `number` of those that are sent, where they are few enough. Nothing else is a reason to
 /// refuse it.

@@ -6,7 +6,7 @@ ghost use Rattle.xdr_encode.specs.Leaves.{counts_of, filler_of, zeros_before};
 
 use dap_types::{BaseType, Bytes, Memory};
 use std::alloc::Global;
-use xdr_encode::padding;
+use xdr_encode::zeros_before;
 
 /// The count of an array: once before texts, and else twice.
 #[tactic(auto, using(crate::proofs::Around::texts))]
@@ -35,23 +35,15 @@ fn twice(alloc: Global, count: u32) -> Result<Bytes, Memory>
 }
 
 /// The zero bytes behind so many elements of an array.
-#[tactic(auto, using(crate::proofs::Around::texts))]
 pub fn filler(alloc: Global, base: BaseType, count: u32) -> Result<Bytes, Memory>
     ensures { IfOk result (λ text. text ≡ filler_of base count) }
 {
-    match base {
-        BaseType::Byte => Bytes::new(alloc, padding(count as usize)),
-        _ => Bytes::new(alloc, b""),
-    }
+    Bytes::new(alloc, xdr_encode::filler(base, count))
 }
 
 /// The zero bytes before the byte of a scalar Byte.
-#[tactic(auto, using(crate::proofs::Around::texts))]
 pub fn before_scalar(alloc: Global, base: BaseType) -> Result<Bytes, Memory>
     ensures { IfOk result (λ text. text ≡ zeros_before base) }
 {
-    match base {
-        BaseType::Byte => Bytes::new(alloc, b"\0\0\0"),
-        _ => Bytes::new(alloc, b""),
-    }
+    Bytes::new(alloc, zeros_before(base))
 }

@@ -45,7 +45,7 @@ fn put_twice<O: Sink>(out: &mut O, count: u32) -> Result<(), Failed>
 
 /// The zero bytes behind so many elements of an array.
 #[tactic(auto, unfolding(crate::specs::Leaves::filler_of))]
-fn filler(base: BaseType, count: u32) -> &'static [u8]
+pub fn filler(base: BaseType, count: u32) -> &'static [u8]
     ensures { result.now ≡ filler_of base count }
 {
     match base {

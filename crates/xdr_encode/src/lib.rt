@@ -25,10 +25,13 @@ mod table_rows;
 mod texts;
 mod wanted;
 
+pub use array::filler;
 pub use body::Body;
 pub use elements::send_elements;
 pub use fault::Fault;
 pub use make::{head_of, left_dds, room};
 pub use put::{padding, put_string, put_word};
 pub use refusal::BodyRefusal;
+pub use scalar::zeros_before;
 pub use streamed::{Streamed, streamed_of};
+pub use wanted::count_within;

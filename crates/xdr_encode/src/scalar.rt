@@ -16,7 +16,7 @@ use std::thread::Threads;
 
 /// The zero bytes before the byte of a scalar Byte.
 #[tactic(auto, unfolding(crate::specs::Leaves::zeros_before))]
-fn zeros_before(base: BaseType) -> &'static [u8]
+pub fn zeros_before(base: BaseType) -> &'static [u8]
     ensures { result.now ≡ zeros_before base }
 {
     match base {

@@ -67,8 +67,8 @@ fn wanted<'a>(header: &'a Header, marks: &'a Marks, member: u32) -> Option<Asked
     })
 }
 
-/// How many elements hyperslabs pick, or one more than a leaf may have.
-fn count_within(slabs: &[Slab]) -> u64
+/// How many elements hyperslabs pick, or one more than a leaf may have (DAP 2.0, arrays).
+pub fn count_within(slabs: &[Slab]) -> u64
     ensures { result ≡ min (count_of slabs.now) 2147483648 }
 {
     let mut total: u64 = 1;
