@@ -2,7 +2,6 @@ pub mod PickParts
 pub mod Sending
 pub mod Walk
 pub mod Shapes
-pub mod Around
 pub mod Files
 pub mod Streaming
 pub mod Within

@@ -9,7 +9,7 @@ use std::alloc::Global;
 use xdr_encode::zeros_before;
 
 /// The count of an array: once before texts, and else twice.
-#[tactic(auto, using(crate::proofs::Around::texts))]
+#[tactic(auto, unfolding(xdr_encode::specs::Leaves::counts_of))]
 pub fn counts(alloc: Global, base: BaseType, count: u32) -> Result<Bytes, Memory>
     ensures { IfOk result (λ text. text ≡ counts_of base count) }
 {
