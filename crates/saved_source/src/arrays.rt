@@ -17,7 +17,7 @@ use crate::elements::{behind, elements};
 use crate::value::{fill, put_word, split};
 use dap_outside::{Buffer, Failed, Sink};
 use dap_types::{ArrayDecl, BaseType, Dim, Slab};
-use xdr_encode::padding;
+use xdr_encode::filler;
 
 /// How many bytes the counts before the elements have: one count before strings, and else two.
 #[tactic(auto, unfolding(xdr_encode::specs::Leaves::counts_of))]
@@ -85,17 +85,6 @@ fn put_counts<O: Sink>(
     match base {
         BaseType::Text | BaseType::Url => put_word(buffer, out, count),
         _ => put_twice(buffer, out, count),
-    }
-}
-
-/// The zero bytes behind so many elements of an array.
-#[tactic(auto, unfolding(xdr_encode::specs::Leaves::filler_of))]
-fn filler(base: BaseType, count: u32) -> &'static [u8]
-    ensures { result.now ≡ filler_of base count }
-{
-    match base {
-        BaseType::Byte => padding(count as usize),
-        _ => b"",
     }
 }
 
