@@ -1,7 +1,8 @@
 -- A body that is read into memory, up to a limit on its bytes, and what is told of it. The limit is this project's.
-use Rattle.std.specs.Prelude.{◌≡◌, ℕ, ◌<◌, ◌≤◌, ◌⊎◌, ⊤, Bool, false, List, ◌++◌, length, take}
+use Rattle.std.specs.Prelude.{◌≡◌, ℕ, ◌<◌, ◌≤◌, ◌⊎◌, ⊤, Bool, false, true, List, ◌++◌, length, take}
 use Rattle.reply_faults.specs.declared.bad.BadField.{BadField}
-use Rattle.dap_http.specs.Delivered.{BreaksOff, Delivers}
+use Rattle.dap_http.specs.Delivered.{BreaksOff, Delivers, HasCoding}
+use Rattle.dap_http.specs.declared.coding.Coding.{Coding}
 use Rattle.dap_client.specs.Answered.{IsLasting}
 use Rattle.dap_client.specs.Replies.{BringsFirst, first_of}
 use Rattle.dap_client.specs.Verdict.{Form, Verdict, IsVerdict, bad, good, good_das, good_dds, is_final, server_error}
@@ -56,3 +57,10 @@ abbrev pub IsTold : BodyOutcome → BodyOutcome → Type 0
 IsTold outcome ReadFault = ⊤
 IsTold outcome Memory = ⊤
 IsTold outcome told = told ≡ outcome
+
+-- whatever is so of a whole reply is what the outcome tells, but for a fault or want of memory
+pub record IsExact (form : Form) (limit : ℕ) (reply : List ℕ) (outcome : BodyOutcome) : Type 0 where
+  pub too_large : (body : List ℕ) → BringsFirst reply body → IsLong form limit body → IsTold TooLarge outcome
+  pub whole : (body rest : List ℕ) (v : Verdict) → Delivers reply true body rest → IsVerdict form body v → ¬ (IsLong form limit body) → IsTold (told_of body v) outcome
+  pub broken : (behind body : List ℕ) (coding : Coding) (wrong : BadField) (v : Verdict) → HasCoding reply coding behind → BreaksOff reply true body wrong
+      → IsVerdict form body v → ¬ (IsLong form limit body) → IsTold (told_of body (first_of v wrong)) outcome

@@ -28,7 +28,8 @@ use Rattle.dap_gateway.specs.Backed as backing
 use Rattle.dap_gateway.specs.Steady.{IsSteady}
 use Rattle.dap_gateway.specs.Turns.{Asks, IsTurn, Turn, early, hit, miss, no_memory}
 use Rattle.dap_gateway.specs.Turns as turns
-use Rattle.dap_gateway.specs.Upstream.{Dials, IsAsked, IsAskedOver, IsExact, IsUnasked}
+use Rattle.dap_client.specs.Held.{IsExact}
+use Rattle.dap_gateway.specs.Upstream.{Dials, IsAsked, IsAskedOver, IsUnasked}
 use Rattle.dap_gateway.specs.declared.relayed.Relayed.{Relayed}
 use Rattle.dap_gateway.specs.declared.relayed.Relayed.TheVariants as endings
 use Rattle.dap_gateway.specs.declared.wanted.Wanted.{Wanted}

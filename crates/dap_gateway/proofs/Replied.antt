@@ -7,7 +7,7 @@ use Rattle.std.proofs.lemmas.List.Elements.{All-head, All-tail, Contains-append_
 use Rattle.std.proofs.lemmas.Slice.Eq.{bytes_eq-Decides}
 use Rattle.plain_lemmas.proofs.Options.{same_value}
 use Rattle.dap_types.specs.Limits.{most_body, most_kept}
-use Rattle.dap_client.specs.Held.{IsLong, IsTold}
+use Rattle.dap_client.specs.Held.{IsLong, IsTold, IsExact}
 use Rattle.dap_client.specs.Replies.{form_of}
 use Rattle.dap_client.specs.Verdict.{Form}
 use Rattle.dap_client.specs.declared.body_outcome.BodyOutcome.{BodyOutcome}
@@ -17,7 +17,6 @@ use Rattle.dap_gateway.proofs.OneKind.{same-kind}
 use Rattle.dap_gateway.proofs.Worth.{has-name}
 use Rattle.dap_gateway.specs.Backed.{Exchange, IsBacked, IsGoodReply, IsLast}
 use Rattle.dap_gateway.specs.Steady.{HitIsMiss, HitIsReplied, HitIsTold}
-use Rattle.dap_gateway.specs.Upstream.{IsExact}
 use Rattle.dap_gateway.specs.declared.wanted.Wanted.{Wanted}
 
 abbrev Pair : Type 0

@@ -4,13 +4,12 @@ use Rattle.std.specs.List.{Contains}
 use Rattle.std.specs.Map.{lookup}
 use Rattle.std.specs.Str.{bytes_eq}
 use Rattle.dap_types.specs.Limits.{most_body}
-use Rattle.dap_client.specs.Held.{IsTold}
+use Rattle.dap_client.specs.Held.{IsTold, IsExact}
 use Rattle.dap_client.specs.Replies.{form_of}
 use Rattle.dap_client.specs.declared.body_outcome.BodyOutcome.{BodyOutcome}
 use Rattle.dap_client.specs.declared.body_outcome.BodyOutcome.TheVariants.{Good}
 use Rattle.dap_gateway.specs.Backed.{Exchange, IsBacked, IsGoodReply}
 use Rattle.dap_gateway.specs.Turns.{Wants, hit, miss, reply_of, status_in}
-use Rattle.dap_gateway.specs.Upstream.{IsExact}
 use Rattle.dap_gateway.specs.declared.wanted.Wanted.{Wanted}
 
 -- equal requests got equal replies

@@ -6,29 +6,19 @@ use Rattle.dap_types.specs.Limits.{most_body}
 use Rattle.dap_outside.specs.Causes.{Rose}
 use Rattle.dap_outside.specs.Links.{IsNew, LinkState}
 use Rattle.dap_outside.specs.Streams.{AppendsFront}
-use Rattle.dap_http.specs.Delivered.{BreaksOff, Delivers, HasCoding}
 use Rattle.dap_http.specs.Targets.{Asked}
 use Rattle.dap_http.specs.Texts.{request_text}
-use Rattle.dap_http.specs.declared.coding.Coding.{Coding}
-use Rattle.reply_faults.specs.declared.bad.BadField.{BadField}
 use Rattle.dap_client.specs.Fetched.{DialState}
-use Rattle.dap_client.specs.Held.{IsLong, IsTold, Says, told_of}
-use Rattle.dap_client.specs.Replies.{BringsFirst, StopsInTime, first_of}
+use Rattle.dap_client.specs.Held.{IsExact, Says}
+use Rattle.dap_client.specs.Replies.{StopsInTime}
 use Rattle.dap_client.specs.Shows.{Takes}
-use Rattle.dap_client.specs.Verdict.{Form, Verdict, IsVerdict}
+use Rattle.dap_client.specs.Verdict.{Form}
 use Rattle.dap_client.specs.declared.body_outcome.BodyOutcome.{BodyOutcome}
-use Rattle.dap_client.specs.declared.body_outcome.BodyOutcome.TheVariants.{TooLarge, ReadFault}
+use Rattle.dap_client.specs.declared.body_outcome.BodyOutcome.TheVariants.{ReadFault}
 
 -- the request for what a target asks for. Its path is `/` and the target's name
 abbrev pub key_of : List ℕ → ℕ → Asked → List ℕ
 key_of host port a = request_text host port (47 ∷ a.name) a.kind a.query true
-
--- whatever is so of a whole reply is what the outcome tells, but for a fault or want of memory
-pub record IsExact (form : Form) (limit : ℕ) (reply : List ℕ) (outcome : BodyOutcome) : Type 0 where
-  pub too_large : (body : List ℕ) → BringsFirst reply body → IsLong form limit body → IsTold TooLarge outcome
-  pub whole : (body rest : List ℕ) (v : Verdict) → Delivers reply true body rest → IsVerdict form body v → ¬ (IsLong form limit body) → IsTold (told_of body v) outcome
-  pub broken : (behind body : List ℕ) (coding : Coding) (wrong : BadField) (v : Verdict) → HasCoding reply coding behind → BreaksOff reply true body wrong
-      → IsVerdict form body v → ¬ (IsLong form limit body) → IsTold (told_of body (first_of v wrong)) outcome
 
 -- it failed before the request was out: some of it went, from the front, and nothing was read
 pub record IsUnasked (key : List ℕ) (came back : LinkState) (outcome : BodyOutcome) : Type 0 where

@@ -7,17 +7,14 @@ use Rattle.dap_types.specs.Limits.{most_written}
 use Rattle.dap_outside.specs.Causes.{Rose}
 use Rattle.dap_outside.specs.Links.{IsNew, LinkState}
 use Rattle.dap_outside.specs.Streams.{AppendsFront}
-use Rattle.dap_http.specs.Delivered.{BreaksOff, Delivers, HasCoding}
 use Rattle.dap_http.specs.Texts.{request_text}
 use Rattle.dap_http.specs.Urls.{UrlParts}
-use Rattle.dap_http.specs.declared.coding.Coding.{Coding}
 use Rattle.dap_http.specs.declared.kind.Kind.TheVariants.{Dods}
-use Rattle.reply_faults.specs.declared.bad.BadField.{BadField}
 use Rattle.dap_client.specs.Fetched.{DialState, SinkState}
-use Rattle.dap_client.specs.Held.{IsLong, IsTold, Says, told_of}
-use Rattle.dap_client.specs.Replies.{BringsFirst, StopsInTime, first_of}
+use Rattle.dap_client.specs.Held.{IsExact, Says}
+use Rattle.dap_client.specs.Replies.{StopsInTime}
 use Rattle.dap_client.specs.Shows.{Takes}
-use Rattle.dap_client.specs.Verdict.{Verdict, IsVerdict, dods_form}
+use Rattle.dap_client.specs.Verdict.{dods_form}
 use Rattle.dap_client.specs.declared.body_outcome.BodyOutcome.{BodyOutcome}
 use Rattle.dap_client.specs.declared.body_outcome.BodyOutcome.TheVariants as outcomes
 use Rattle.netcdf_writer.specs.Saving.{Judges}
@@ -32,13 +29,6 @@ Becomes (outcomes.Bad field) before now answer = (answer ≡ BadReply field) × 
 Becomes outcomes.TooLarge before now answer = (answer ≡ BodyTooLarge) × (now ≡ before)
 Becomes outcomes.ReadFault before now answer = (answer ≡ ReadFault) × (now ≡ before)
 Becomes outcomes.Memory before now answer = (answer ≡ Memory) × (now ≡ before)
-
--- whatever is so of a whole reply is what is told, but for a fault or want of memory
-pub record IsExact (reply : List ℕ) (outcome : BodyOutcome) : Type 0 where
-  pub too_large : (body : List ℕ) → BringsFirst reply body → IsLong dods_form most_written body → IsTold outcomes.TooLarge outcome
-  pub whole : (body rest : List ℕ) (v : Verdict) → Delivers reply true body rest → IsVerdict dods_form body v → ¬ (IsLong dods_form most_written body) → IsTold (told_of body v) outcome
-  pub broken : (behind body : List ℕ) (coding : Coding) (wrong : BadField) (v : Verdict) → HasCoding reply coding behind → BreaksOff reply true body wrong
-      → IsVerdict dods_form body v → ¬ (IsLong dods_form most_written body) → IsTold (told_of body (first_of v wrong)) outcome
 
 -- the link failed before the request was out: some of it went, from the front, and nothing was read nor put
 pub record IsUnasked (request : List ℕ) (came back : LinkState) (before now : SinkState) (answer : Stored) : Type 0 where
@@ -57,7 +47,7 @@ pub record IsAsked (request : List ℕ) (came back : LinkState) (before now : Si
   pub sent : Appends came.written back.written request
   pub says : (taken : List ℕ) × Consumes came.left back.left taken × Says dods_form most_written taken back.ended outcome
   pub most : Takes came.left back.left (StopsInTime dods_form)
-  pub exact : (reply : List ℕ) → came.left ≡ Some reply → IsExact reply outcome
+  pub exact : (reply : List ℕ) → came.left ≡ Some reply → IsExact dods_form most_written reply outcome
   pub becomes : Becomes outcome before.written now.written answer
   pub read_fault : answer ≡ ReadFault → Rose came.take_faults back.take_faults
   pub write_fault : answer ≡ WriteFault → Rose before.faults now.faults
