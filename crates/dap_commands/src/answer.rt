@@ -3,10 +3,9 @@
 ghost use Rattle.std.specs.Prelude.{◌≡◌, ◌≢◌, ◌+◌, ◌<◌, ◌≤◌, ℕ, List, map, IsSome, Some, false, Result, Ok, Err};
 ghost use Rattle.std.specs.Io.KnownBytes.{Appends};
 ghost use Rattle.dap_errors.specs.declared.cause.Cause.{Cause};
-ghost use Rattle.dap_http.specs.Targets.{target_of};
+ghost use Rattle.dap_http.specs.Targets.{target_of, asked_of};
 ghost use Rattle.dap_outside.specs.Causes.{Rose};
 ghost use Rattle.dap_outside.specs.Streams.{AppendsFront};
-ghost use Rattle.dap_server.specs.Prepared.{asked_of};
 ghost use Rattle.dap_server.specs.Results.{Text};
 ghost use Rattle.xdr_encode.specs.Bodies.{FitsFile, HasNoFile, MayAsk, cost_in, text_in};
 ghost use Rattle.join_source.specs.Bodies.{FitsFiles};

@@ -12,7 +12,7 @@ use Rattle.dap_outside.specs.Links.{LinkState}
 use Rattle.dap_http.proofs.Feeds.{request-feed}
 use Rattle.dap_http.proofs.HeadReading.{none-now}
 use Rattle.dap_http.specs.Requests.{FirstRequest, HasNoRequest, IsBadRequest, is_other}
-use Rattle.dap_http.specs.Targets.{target_of}
+use Rattle.dap_http.specs.Targets.{target_of, asked_of}
 use Rattle.dap_http.specs.Reading.{IsHead}
 use Rattle.dap_http.specs.declared.head_reader.Head.{Head}
 use Rattle.dap_http.specs.declared.kind.Kind.TheVariants.{Ver}
@@ -22,7 +22,7 @@ use Rattle.dap_client.specs.Replies.{form_of}
 use Rattle.dap_client.specs.declared.body_outcome.BodyOutcome.{BodyOutcome}
 use Rattle.dap_client.specs.declared.body_outcome.BodyOutcome.TheVariants.{Memory}
 use Rattle.dap_gateway.specs.Given.{Given, given_for, refused, reply, given_status, text}
-use Rattle.dap_gateway.specs.Turns.{ComesTo, IsAlone, IsEarly, MayPut, Puts, Standing, Wants, asked_of, early, hit, is_head, is_head_method, kept_with, miss, no_memory, wanted_of}
+use Rattle.dap_gateway.specs.Turns.{ComesTo, IsAlone, IsEarly, MayPut, Puts, Standing, Wants, early, hit, is_head, is_head_method, kept_with, miss, no_memory, wanted_of}
 use Rattle.dap_gateway.specs.declared.wanted.Wanted.{Wanted}
 use Rattle.dap_gateway.specs.Upstream.{Dials}
 use Rattle.dap_gateway.specs.declared.relayed.Relayed.{Relayed}

@@ -12,7 +12,7 @@ use Rattle.dap_outside.specs.Links.{LinkState}
 use Rattle.dap_http.specs.Frames.{IsProperFront, framed}
 use Rattle.dap_http.specs.Framings.{front_of}
 use Rattle.dap_http.specs.Requests.{FirstRequest, HasNoRequest, IsBadRequest, IsGone, IsTooLong, is_other}
-use Rattle.dap_http.specs.Targets.{Asked, target_of}
+use Rattle.dap_http.specs.Targets.{Asked, target_of, asked_of}
 use Rattle.dap_http.specs.Texts.{version}
 use Rattle.dap_http.specs.declared.kind.Kind.{Kind}
 use Rattle.dap_http.specs.declared.kind.Kind.TheVariants.{Ver}
@@ -35,10 +35,6 @@ is_head_method method = bytes_eq method (codes "HEAD")
 
 abbrev pub is_head : RequestHead → Bool
 is_head head = is_head_method head.method
-
--- what a target that was read asks for
-abbrev pub asked_of : Target → Asked
-asked_of t = record { name = t.name; kind = t.kind; query = t.query }
 
 abbrev pub wanted_of : List ℕ → ℕ → Target → ℕ → Bool → Wanted
 wanted_of host port target minor head_alone = record { head_alone = head_alone; minor = minor; kind = target.kind; key = key_of host port (asked_of target) }

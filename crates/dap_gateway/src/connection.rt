@@ -7,12 +7,12 @@ ghost use Rattle.dap_outside.specs.Links.{IsNew};
 ghost use Rattle.dap_outside.specs.Causes.{Rose};
 ghost use Rattle.dap_http.specs.Reading.{IsHead};
 ghost use Rattle.dap_http.specs.Requests.{FirstRequest, is_other};
-ghost use Rattle.dap_http.specs.Targets.{target_of};
+ghost use Rattle.dap_http.specs.Targets.{target_of, asked_of};
 ghost use Rattle.dap_http.specs.Urls.{is_host};
 ghost use Rattle.dap_http.specs.declared.kind.Kind.TheVariants.{Ver};
 ghost use Rattle.dap_gateway.specs.Backed.{AreBacked, history};
 ghost use Rattle.dap_gateway.specs.Pairs.{pairs, room_of};
-ghost use Rattle.dap_gateway.specs.Turns.{ComesTo, Relays, Wants, asked_of, is_head_method, wanted_of};
+ghost use Rattle.dap_gateway.specs.Turns.{ComesTo, Relays, Wants, is_head_method, wanted_of};
 ghost use Rattle.dap_client.specs.Fetched.{link_state};
 
 use crate::answering::{relay_hit, relay_outcome};

@@ -1,11 +1,11 @@
 //! What the other server is asked, over a new link.
 
 ghost use Rattle.std.specs.Prelude.{◌≡◌, ◌≢◌, ◌≤◌, ◌⊎◌, ◌∷◌, IfOk, IsTrue};
+ghost use Rattle.dap_http.specs.Targets.{asked_of};
 ghost use Rattle.dap_http.specs.Urls.{is_host};
 ghost use Rattle.dap_http.specs.declared.kind.Kind.TheVariants.{Ver};
 ghost use Rattle.dap_client.specs.Fetched.{link_state};
 ghost use Rattle.dap_client.specs.Replies.{form_of};
-ghost use Rattle.dap_gateway.specs.Turns.{asked_of};
 ghost use Rattle.dap_gateway.specs.Upstream.{Dials, IsAsked, IsUnasked, key_of};
 
 use dap_client::{BodyOutcome, host_text, read_body};

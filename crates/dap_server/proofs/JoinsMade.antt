@@ -1,7 +1,7 @@
 -- From what was made of a list and its files to the answer to a target.
 use Rattle.std.proofs.Common.{◌≡◌, ℕ, List, Option, Some, Result, Ok, Err, IfOk, IfErr, IsTrue, sym, ap, subst}
 use Rattle.std.specs.Prelude.{is_some}
-use Rattle.dap_http.specs.Targets.{Asked}
+use Rattle.dap_http.specs.Targets.{Asked, asked_of}
 use Rattle.dap_http.specs.declared.kind.Kind.{Kind}
 use Rattle.dap_http.specs.declared.kind.Kind.TheVariants.{Dods}
 use Rattle.dap_http.specs.declared.target.Target.{Target}
@@ -9,7 +9,7 @@ use Rattle.dap_outside.specs.Files.{Told}
 use Rattle.join_source.specs.declared.body.JoinBody.{JoinBody}
 use Rattle.dap_server.proofs.Making.{same_asked}
 use Rattle.dap_server.specs.Files.{Form, form_of, joined}
-use Rattle.dap_server.specs.Prepared.{IsJoinedFor, MayGive, WhereJoined, WhereNoShelfFault, asked_of}
+use Rattle.dap_server.specs.Prepared.{IsJoinedFor, MayGive, WhereJoined, WhereNoShelfFault}
 use Rattle.dap_server.specs.Results.{result_text}
 use Rattle.dap_server.specs.inner.Opening.{StaysBut, WhereFault, WhereRefused}
 use Rattle.dap_server.specs.inner.Preparing.{IsMade, MayGiveAs, asked_as, body_prepared, join_prepared, text_prepared}

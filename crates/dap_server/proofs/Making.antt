@@ -5,7 +5,7 @@ use Rattle.std.specs.List.{list_all}
 use Rattle.plain_lemmas.proofs.Options.{without_value}
 use Rattle.viable.specs.Prefix.{is_byte}
 use Rattle.dap_errors.specs.declared.cause.Cause.{Cause}
-use Rattle.dap_http.specs.Targets.{Asked}
+use Rattle.dap_http.specs.Targets.{Asked, asked_of}
 use Rattle.dap_http.specs.declared.kind.Kind.{Kind}
 use Rattle.dap_http.specs.Texts.{version}
 use Rattle.dap_http.specs.declared.kind.Kind.TheVariants.{Das, Dds, Dods, Ver}
@@ -19,7 +19,7 @@ use Rattle.dap_server.proofs.OneAnswer.{answers_one, one_result}
 use Rattle.dap_server.proofs.ListForms.{list_form, no_list_form}
 use Rattle.dap_server.specs.Costs.{IsFormCost, IsFormCostAt, asks_shelf, is_of_file}
 use Rattle.dap_server.specs.Files.{Files, MayHave, Stored, form_of, is_joined, is_read_first, saved}
-use Rattle.dap_server.specs.Prepared.{asked_of, IsFor, IsOver, MayGive, MustGive, WhereBody, WhereNoShelfFault, WhereRefuse, WhereJoined, WhereSaved, WhereText}
+use Rattle.dap_server.specs.Prepared.{IsFor, IsOver, MayGive, MustGive, WhereBody, WhereNoShelfFault, WhereRefuse, WhereJoined, WhereSaved, WhereText}
 use Rattle.dap_server.specs.Results.{AnswersAmong, OpensAmong, Text, das_text, result_text}
 use Rattle.dap_server.specs.Steps.{Is, Then}
 use Rattle.dap_server.proofs.UntoldLists.{untold_list}

@@ -4,7 +4,6 @@ use Rattle.dap_errors.specs.declared.cause.Cause.{Cause}
 use Rattle.dap_http.specs.Targets.{Asked}
 use Rattle.dap_http.specs.declared.kind.Kind.{Kind}
 use Rattle.dap_http.specs.declared.kind.Kind.TheVariants.{Dods}
-use Rattle.dap_http.specs.declared.target.Target.{Target}
 use Rattle.dap_outside.specs.Files.{Told}
 use Rattle.join_source.specs.Bodies.{FitsFiles, MayAsk, cost_in, text_in}
 use Rattle.join_source.specs.Pieces.{AreTold}
@@ -16,9 +15,6 @@ use Rattle.dap_server.specs.Files.{Files, MayHave, form_of, is_read_first, joine
 use Rattle.dap_server.specs.Results.{AnswersAmong, Text, result_text}
 use Rattle.dap_server.specs.declared.prepared.Prepared.{Prepared}
 use Rattle.dap_server.specs.declared.prepared.Prepared.TheVariants as prepared
-
-abbrev pub asked_of : Target → Asked
-asked_of t = record { name = t.name; kind = t.kind; query = t.query }
 
 -- the files that the shelf may have answer so
 abbrev pub MayGive : Told → Asked → Result Text Cause → Type 0

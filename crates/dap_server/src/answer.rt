@@ -2,11 +2,11 @@
 
 ghost use Rattle.std.specs.Prelude.{◌≡◌, ◌≢◌, ◌≤◌, ◌+◌, ◌⊎◌, ℕ, List, Bool, Some, IsSome, IsTrue, Ok, Err, false, ◌||◌};
 ghost use Rattle.dap_http.specs.Requests.{is_other};
-ghost use Rattle.dap_http.specs.Targets.{target_of};
+ghost use Rattle.dap_http.specs.Targets.{target_of, asked_of};
 ghost use Rattle.xdr_encode.specs.Bodies.{FitsFile, HasNoFile, cost_in, text_in};
 ghost use Rattle.dap_server.specs.Costs.{IsCost};
 ghost use Rattle.dap_server.specs.Files.{form_of, is_read_first};
-ghost use Rattle.dap_server.specs.Prepared.{IsOver, MayGive, asked_of};
+ghost use Rattle.dap_server.specs.Prepared.{IsOver, MayGive};
 ghost use Rattle.dap_server.specs.Replies.{is_head, wants_memory};
 ghost use Rattle.dap_server.specs.Results.{result_text};
 ghost use Rattle.dap_server.specs.inner.Serving.{Answers, AnswersWith, Costs, PutsCause, PutsReply, SinkRose, data_front, request_in};

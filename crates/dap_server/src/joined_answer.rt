@@ -2,8 +2,8 @@
 
 ghost use Rattle.std.specs.Prelude.{◌≡◌, ◌≤◌, Some, false};
 ghost use Rattle.dap_http.specs.Requests.{is_other};
-ghost use Rattle.dap_http.specs.Targets.{target_of};
-ghost use Rattle.dap_server.specs.Prepared.{IsJoinedFor, asked_of};
+ghost use Rattle.dap_http.specs.Targets.{target_of, asked_of};
+ghost use Rattle.dap_server.specs.Prepared.{IsJoinedFor};
 ghost use Rattle.dap_server.specs.Replies.{is_head};
 ghost use Rattle.dap_server.specs.inner.Serving.{AnswersWith, Costs, SinkRose, data_front, request_in};
 

@@ -1,13 +1,14 @@
 //! The answer to a target.
 
 ghost use Rattle.std.specs.Prelude.{◌≡◌, ◌≢◌, ◌+◌, ◌<◌, ◌≤◌, ℕ, List, Option, Some, None, IsSome, IsTrue, Result, Ok, Err, false, is_some, length};
+ghost use Rattle.dap_http.specs.Targets.{asked_of};
 ghost use Rattle.dap_errors.specs.declared.cause.Cause.{Cause};
 ghost use Rattle.dap_outside.specs.Causes.{Rose};
 ghost use Rattle.dap_outside.specs.Files.{IsBytes};
 ghost use Rattle.xdr_encode.specs.Bodies.{FitsFile, HasNoFile, MayAsk, cost_in, text_in};
 ghost use Rattle.dap_server.specs.Costs.{IsAskedBefore, IsCost, IsCostAt, asks_shelf, most_first, most_of_joined};
 ghost use Rattle.dap_server.specs.Files.{form_of, is_read_first, joined, saved};
-ghost use Rattle.dap_server.specs.Prepared.{IsFor, IsJoinedFor, IsOver, MayGive, MustGive, WhereBody, WhereJoined, WhereNoShelfFault, WhereRefuse, WhereSaved, WhereShelfFault, WhereText, asked_of};
+ghost use Rattle.dap_server.specs.Prepared.{IsFor, IsJoinedFor, IsOver, MayGive, MustGive, WhereBody, WhereJoined, WhereNoShelfFault, WhereRefuse, WhereSaved, WhereShelfFault, WhereText};
 ghost use Rattle.saved_source.specs.Bodies.{Sends};
 ghost use Rattle.dap_server.specs.Results.{Text, result_text};
 ghost use Rattle.dap_server.specs.inner.Preparing.{IsMade, asked_as, body_prepared, data_prepared, join_prepared, stopped, text_prepared};

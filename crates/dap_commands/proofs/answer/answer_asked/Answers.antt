@@ -2,11 +2,11 @@ use Rattle.std.proofs.Common.{◌∙◌, ap, subst, sym}
 use Rattle.std.specs.Io.KnownBytes.{Appends}
 use Rattle.dap_outside.specs.Causes.{Rose}
 use Rattle.dap_outside.specs.Streams.{AppendsFront}
-use Rattle.dap_server.specs.Prepared.{asked_of}
 use Rattle.dap_server.specs.Results.{result_text}
 use Rattle.dap_http.specs.declared.kind.Kind.TheVariants.{Dods}
 use Rattle.xdr_encode.specs.Bodies.{MayAsk, cost_in, text_in}
 use Rattle.std.specs.Prelude.{map}
+use Rattle.dap_http.specs.Targets.{asked_of}
 use Rattle.join_source.specs.Bodies as join
 use Rattle.join_source.specs.Pieces.{AreTold}
 use Rattle.dap_client.proofs.Told.{rose_later}

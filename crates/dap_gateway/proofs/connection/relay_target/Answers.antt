@@ -1,10 +1,10 @@
 use Rattle.std.proofs.Common.{refl, sym, ap, inr, ◌∙◌, rules}
 use Rattle.dap_http.specs.Requests.{is_other}
-use Rattle.dap_http.specs.Targets.{target_of}
+use Rattle.dap_http.specs.Targets.{target_of, asked_of}
 use Rattle.dap_http.specs.Texts.{version}
 use Rattle.dap_http.specs.declared.kind.Kind.TheVariants.{Ver}
 use Rattle.dap_gateway.specs.Given.{text}
-use Rattle.dap_gateway.specs.Turns.{asked_of, is_head_method}
+use Rattle.dap_gateway.specs.Turns.{is_head_method}
 use Rattle.dap_gateway.proofs.Coming.{early-comes, memory-comes, wanted}
 use Rattle.dap_gateway.proofs.connection.relay_target.Goals as goal
 

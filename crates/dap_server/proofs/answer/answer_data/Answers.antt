@@ -1,8 +1,8 @@
 use Rattle.std.proofs.Common.{None, ◌∙◌, refl, sym, ap, arith}
+use Rattle.dap_http.specs.Targets.{asked_of}
 use Rattle.dap_http.specs.Texts.{description_of, head_text}
 use Rattle.dap_http.specs.declared.kind.Kind.TheVariants.{Dods}
 use Rattle.dap_server.specs.inner.Serving.{Costs, request_in}
-use Rattle.dap_server.specs.Prepared.{asked_of}
 use Rattle.dap_server.proofs.Answered.{head-answer}
 use Rattle.dap_server.proofs.Replying.{memory-answer}
 use Rattle.dap_server.proofs.answer.answer_data.Goals as goal

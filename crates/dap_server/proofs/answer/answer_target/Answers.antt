@@ -1,6 +1,7 @@
 use Rattle.std.proofs.Common.{sym, subst, Ok}
+use Rattle.dap_http.specs.Targets.{asked_of}
 use Rattle.dap_server.specs.inner.Serving.{request_in}
-use Rattle.dap_server.specs.Prepared.{MayGive, asked_of}
+use Rattle.dap_server.specs.Prepared.{MayGive}
 use Rattle.dap_server.specs.Results.{result_text}
 use Rattle.dap_http.specs.declared.kind.Kind.TheVariants.{Dods}
 use Rattle.xdr_encode.specs.Bodies.{text_in}

@@ -1,9 +1,9 @@
 use Rattle.std.proofs.Common.{◌∙◌, subst, refl, arith}
+use Rattle.dap_http.specs.Targets.{asked_of}
 use Rattle.dap_http.specs.Frames.{framed}
 use Rattle.dap_http.specs.Framings.{front_of}
 use Rattle.xdr_encode.specs.Bodies.{HasNoFile, text_in}
 use Rattle.dap_server.specs.inner.Serving.{Costs, PutsValues, request_in}
-use Rattle.dap_server.specs.Prepared.{asked_of}
 use Rattle.dap_server.proofs.Answered.{costs-less}
 use Rattle.dap_server.proofs.Replying.{memory-answer, values-answer}
 use Rattle.dap_server.proofs.answer.answer_values.Goals as goal

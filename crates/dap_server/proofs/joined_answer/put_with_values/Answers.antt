@@ -1,11 +1,11 @@
 use Rattle.std.proofs.Common.{◌∙◌, subst, refl, arith}
 use Rattle.std.specs.Prelude.{map}
+use Rattle.dap_http.specs.Targets.{asked_of}
 use Rattle.dap_http.specs.Frames.{framed}
 use Rattle.dap_http.specs.Framings.{front_of}
 use Rattle.join_source.specs.Bodies.{text_in}
 use Rattle.join_source.specs.Pieces.{AreTold}
 use Rattle.dap_server.specs.inner.Serving.{Costs, PutsValues, request_in}
-use Rattle.dap_server.specs.Prepared.{asked_of}
 use Rattle.dap_server.proofs.Answered.{costs-less}
 use Rattle.dap_server.proofs.JoinedReplies.{joined-answer}
 use Rattle.dap_server.proofs.Replying.{memory-answer}
