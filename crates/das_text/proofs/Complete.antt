@@ -3,10 +3,11 @@ use Rattle.std.proofs.Common.{◌≡◌, List, [], ◌∷◌, ◌++◌, ℕ, ◌
 use Rattle.std.specs.Prelude.{option_map}
 use Rattle.std.specs.Option.{is_some, option_and_then}
 use Rattle.std.proofs.lemmas.Bool.Decides.{nat_tests}
+use Rattle.text_lines.specs.TypeWords.{base_of_word}
 use Rattle.dap_types.specs.declared.declarations.BaseType.{BaseType}
 use Rattle.text_tokens.specs.Tokens.{Token, sign, word, quoted}
 use Rattle.text_tokens.specs.inner.Machines.{run}
-use Rattle.das_text.specs.Grammar.{base_of_word, IsValue, LaterOf, ValuesOf, EntryOf, EntriesOf, IsDas}
+use Rattle.das_text.specs.Grammar.{IsValue, LaterOf, ValuesOf, EntryOf, EntriesOf, IsDas}
 use Rattle.das_text.specs.inner.Machine.{Around, State, start, inside, worded, named, valued, parted, ended, may_begin, attribute_of, with_value, enter, add, step}
 use Rattle.das_text.specs.Model.{Attributes, Entry, attribute, container, Entries, no_entries, entry, entries_of}
 use Rattle.das_text.specs.declared.entries.Attribute.{Attribute}

@@ -6,10 +6,11 @@ use Rattle.std.specs.Option.{is_some}
 use Rattle.std.proofs.lemmas.Option.{option_and_then_some}
 use Rattle.std.proofs.lemmas.Bool.Decides.{nat_tests}
 use Rattle.std.proofs.Common.{append_assoc, append-nil}
+use Rattle.text_lines.specs.TypeWords.{base_of_word}
 use Rattle.dap_types.specs.declared.declarations.BaseType.{BaseType}
 use Rattle.text_tokens.specs.Tokens.{Token, sign, word, is_token}
 use Rattle.text_tokens.specs.inner.Machines.{run, IsMachine}
-use Rattle.das_text.specs.Grammar.{signs, base_of_word, IsDas}
+use Rattle.das_text.specs.Grammar.{signs, IsDas}
 use Rattle.das_text.specs.inner.Machine.{Around, State, start, begun, headed, inside, worded, named, valued, parted, ended, may_begin, attribute_of, with_value, leave, enter, add, step, IsOpenState}
 use Rattle.das_text.specs.Model.{Attributes, Entry, attribute, container, entries_of}
 use Rattle.das_text.specs.declared.entries.Attribute.{Attribute}

@@ -7,11 +7,12 @@ use Rattle.std.proofs.lemmas.List.Folds.{list_all-append}
 use Rattle.dap_types.specs.declared.declarations.BaseType.{BaseType}
 use Rattle.dap_types.specs.declared.declarations.BaseType.TheVariants.{Byte, Int16, UInt16, Int32, UInt32, Float32, Float64, Text, Url}
 use Rattle.dap_model.specs.Dds.{type_word, line, typed}
+use Rattle.text_lines.specs.TypeWords.{base_of_word}
 use Rattle.viable.specs.Quoted.{Piece, is_piece, piece_bytes, piece_value, spelling, quoted_value, escaped_piece, escape}
 use Rattle.text_tokens.specs.Tokens.{Token, sign, word, quoted, is_white, token_bytes, is_token, is_whole, Reads}
 use Rattle.text_tokens.proofs.Spelling.{Spelled, reads_of}
 use Rattle.das_text.specs.Das.{word_text, later_value, values_text, attribute_text, entry_text, entries_text, das}
-use Rattle.das_text.specs.Grammar.{signs, base_of_word, IsValue, LaterOf, ValuesOf, EntryOf, EntriesOf, IsDas}
+use Rattle.das_text.specs.Grammar.{signs, IsValue, LaterOf, ValuesOf, EntryOf, EntriesOf, IsDas}
 use Rattle.das_text.specs.Model.{Attributes, Entry, attribute, container, Entries, no_entries, entry}
 use Rattle.das_text.specs.Reading.{front, limit, DasOf}
 use Rattle.das_text.specs.Words.{IsWord, AreValues, EntryHasWords, HaveWords, HasWords}

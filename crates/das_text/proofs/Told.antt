@@ -4,11 +4,12 @@ use Rattle.std.specs.Prelude.{codes, option_map}
 use Rattle.std.proofs.lemmas.Bool.{eqb-true}
 use Rattle.std.proofs.lemmas.Bool.Decides.{nat_tests}
 use Rattle.std.proofs.lemmas.Slice.Eq.{bytes_eq-Decides}
+use Rattle.text_lines.specs.TypeWords.{base_of_word}
 use Rattle.dap_types.specs.declared.declarations.BaseType.{BaseType}
 use Rattle.viable.specs.Quoted.{quoted_value}
 use Rattle.viable.proofs.Tests.{and_parts}
 use Rattle.text_tokens.specs.Tokens.{Token, sign, word, quoted}
-use Rattle.das_text.specs.Grammar.{base_of_word, IsValue, LaterOf, ValuesOf, EntryOf, EntriesOf, IsDas}
+use Rattle.das_text.specs.Grammar.{IsValue, LaterOf, ValuesOf, EntryOf, EntriesOf, IsDas}
 use Rattle.das_text.specs.inner.Machine.{Around, State, begun, headed, inside, worded, named, valued, parted, ended, may_begin, attribute_of, with_value, begin_attribute, leave, enter, next_when, add, step}
 use Rattle.das_text.specs.Model.{Entry, attribute, container, entries_of}
 use Rattle.das_text.specs.declared.entries.Attribute.{Attribute}

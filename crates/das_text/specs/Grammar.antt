@@ -5,11 +5,8 @@
 --   container = word "{" entry* "}"
 --   entry     = container | type word (value ("," value)*)? ";"
 --   value     = word | quoted
-use Rattle.std.specs.Prelude.{◌≡◌, ℕ, ◌+◌, ◌<◌, List, [], ◌∷◌, ◌++◌, Option, Some, find, codes}
-use Rattle.std.specs.Str.{str_eq_ignore_ascii_case}
-use Rattle.dap_types.specs.declared.declarations.BaseType.{BaseType}
-use Rattle.dap_types.specs.declared.declarations.BaseType.TheVariants.{Byte, Int16, UInt16, Int32, UInt32, Float32, Float64, Text, Url}
-use Rattle.dap_model.specs.Dds.{type_word}
+use Rattle.std.specs.Prelude.{◌≡◌, ℕ, ◌+◌, ◌<◌, List, [], ◌∷◌, ◌++◌, Some, codes}
+use Rattle.text_lines.specs.TypeWords.{base_of_word}
 use Rattle.viable.specs.Characters.{byte}
 use Rattle.viable.specs.Quoted.{quoted_value}
 use Rattle.text_tokens.specs.Tokens.{Token, sign, word, quoted}
@@ -20,10 +17,6 @@ use Rattle.dap_types.specs.Limits.{most_depth}
 
 abbrev pub signs : List ℕ
 signs = codes "{};,"
-
--- the type that a word names, without regard to case
-abbrev pub base_of_word : List ℕ → Option BaseType
-base_of_word w = find (λ base. str_eq_ignore_ascii_case (type_word base) w) (Byte ∷ Int16 ∷ UInt16 ∷ Int32 ∷ UInt32 ∷ Float32 ∷ Float64 ∷ Text ∷ Url ∷ [])
 
 -- the token is a value
 abbrev pub IsValue : Token → Word → Type 0

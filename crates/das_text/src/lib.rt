@@ -13,7 +13,6 @@ mod refusal;
 mod scan;
 mod state;
 mod steps;
-mod words;
 
 pub use dds_tokens::dds_tokens_agree;
 pub use entries::{Attribute, Attributes, Entry, Word};

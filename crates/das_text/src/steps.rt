@@ -8,9 +8,9 @@ ghost use Rattle.das_text.specs.inner.Machine.{add, step};
 
 use crate::levels::Levels;
 use crate::state::State;
-use crate::words::base_of_word;
 use crate::{Attribute, Entry, Word};
 use dap_types::{Bytes, Id, List, Memory, limits};
+use text_lines::base_of_word;
 
 /// Containers are nested no deeper.
 const MOST_DEPTH: usize = limits::MOST_DEPTH;

@@ -12,7 +12,8 @@ use Rattle.dap_model.specs.Dds.{type_word}
 use Rattle.dap_model.specs.Grammar.{Slot, keyword, name, size, sign, spells, is_other, has_dims, StandsFor}
 use Rattle.dap_model.specs.Tokens.{Token}
 use Rattle.dap_model.specs.Tokens as token
-use Rattle.dds_text.specs.inner.Machine.{moved, keeps, step, begin, open_whole, end_size, take_size, open_dim, declare_step, grid_step, base_of_word, kind_word, kind_of_word, size_of_word, Steps}
+use Rattle.text_lines.specs.TypeWords.{base_of_word}
+use Rattle.dds_text.specs.inner.Machine.{moved, keeps, step, begin, open_whole, end_size, take_size, open_dim, declare_step, grid_step, kind_word, kind_of_word, size_of_word, Steps}
 use Rattle.dds_text.specs.inner.States.{Levels, top, within, Role, variable, column, grid_array, grid_map, Stage, typed, named, bracketed, worded, equated, measured, Kind, structures, sequences, grids, GridStage, entered, arrayed, ready, filled, mapping, Whole, whole_structure, whole_sequence, whole_grid, State, begun, headed, inside, declaring, opening, in_sequence, in_grid, in_maps, closed, called, dataset_closed, dataset_called, ended, add, wanted_size, is_out, is_past, depth_of, next_number, members_in, is_name_of, repeats, may_have_dims, most_dims, with_dim, declared, without_dims, behind_array, behind_scalar, behind_declaration, behind_brace, behind_level, with_name}
 use Rattle.dds_text.proofs.Runs.{Spells}
 use Rattle.dds_text.proofs.Spelling.{size_front, dim_spelling, typed_name, grid_front, maps_front, sequence_front, spelling_all, structure_front, dataset_front, level_told, role_told, flat_last, spelling_list, dataset_told}

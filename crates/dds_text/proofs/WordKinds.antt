@@ -16,7 +16,8 @@ use Rattle.dap_types.specs.declared.declarations.BaseType.TheVariants.{Byte, Int
 use Rattle.dap_model.specs.Dds.{type_word}
 use Rattle.dap_model.specs.Grammar.{keyword, size, spells}
 use Rattle.dap_model.specs.Tokens as token
-use Rattle.dds_text.specs.inner.Machine.{base_of_word, kind_word, kind_of_word, is_size_word, size_of_word}
+use Rattle.text_lines.specs.TypeWords.{base_of_word}
+use Rattle.dds_text.specs.inner.Machine.{kind_word, kind_of_word, is_size_word, size_of_word}
 use Rattle.dds_text.specs.inner.States.{Kind, structures, sequences, grids}
 
 -- the same by the word in lower case

@@ -2,11 +2,11 @@
 
 ghost use Rattle.std.specs.Prelude.{◌≡◌};
 ghost use Rattle.std.specs.Str.{str_eq_ignore_ascii_case};
-ghost use Rattle.dds_text.specs.inner.Machine.{base_of_word, kind_of_word, size_of_word};
+ghost use Rattle.dds_text.specs.inner.Machine.{kind_of_word, size_of_word};
 ghost use Rattle.dds_text.specs.inner.Held.{kind_seen};
 
 use crate::state::Kind;
-use dap_types::{BaseType, limits};
+use dap_types::limits;
 use viable::number;
 
 /// The most digits of a size.
@@ -21,40 +21,6 @@ pub fn is_keyword(keyword: &[u8], word: &[u8]) -> bool
     ensures { result ≡ str_eq_ignore_ascii_case keyword.now word.now }
 {
     keyword.eq_ignore_ascii_case(word)
-}
-
-/// The type that the word names.
-pub fn base_of_word(word: &[u8]) -> Option<BaseType>
-    ensures { result ≡ base_of_word word.now }
-{
-    if is_keyword(b"Byte", word) {
-        return Some(BaseType::Byte);
-    }
-    if is_keyword(b"Int16", word) {
-        return Some(BaseType::Int16);
-    }
-    if is_keyword(b"UInt16", word) {
-        return Some(BaseType::UInt16);
-    }
-    if is_keyword(b"Int32", word) {
-        return Some(BaseType::Int32);
-    }
-    if is_keyword(b"UInt32", word) {
-        return Some(BaseType::UInt32);
-    }
-    if is_keyword(b"Float32", word) {
-        return Some(BaseType::Float32);
-    }
-    if is_keyword(b"Float64", word) {
-        return Some(BaseType::Float64);
-    }
-    if is_keyword(b"String", word) {
-        return Some(BaseType::Text);
-    }
-    if is_keyword(b"Url", word) {
-        return Some(BaseType::Url);
-    }
-    None
 }
 
 /// The kind of whole that the word names.

@@ -8,12 +8,13 @@ ghost use Rattle.dds_text.specs.inner.Machine.{open_whole, step};
 ghost use Rattle.dds_text.specs.inner.States.{in_grid, inside, with_name};
 
 use crate::declaring::declare_by_word;
-use crate::keywords::{base_of_word, is_keyword, kind_of_word};
+use crate::keywords::{is_keyword, kind_of_word};
 use crate::level::{Levels, Maps};
 use crate::lists::fitted;
 use crate::roles::begin;
 use crate::state::{GridStage, Kind, Role, State, Whole};
 use dap_types::{Dataset, Decl, Id, List, Memory};
+use text_lines::base_of_word;
 
 /// The word `Structure`, `Sequence` or `Grid` of a member, unless it is too deep or one member too
 /// many.

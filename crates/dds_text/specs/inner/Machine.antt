@@ -10,11 +10,11 @@ use Rattle.dap_types.specs.Limits.{most_elements}
 use Rattle.dap_types.specs.Model.{members_of}
 use Rattle.dap_types.specs.declared.declarations.ArrayDecl.{ArrayDecl}
 use Rattle.dap_types.specs.declared.declarations.BaseType.{BaseType}
-use Rattle.dap_types.specs.declared.declarations.BaseType.TheVariants.{Byte, Int16, UInt16, Int32, UInt32, Float32, Float64, Text, Url}
-use Rattle.dap_model.specs.Dds.{type_word}
+use Rattle.dap_types.specs.declared.declarations.BaseType.TheVariants.{Int32}
 use Rattle.dap_model.specs.Grammar.{Slot, keyword, sign, spells, is_other}
 use Rattle.dap_model.specs.Tokens.{Token}
 use Rattle.dap_model.specs.Tokens as token
+use Rattle.text_lines.specs.TypeWords.{base_of_word}
 use Rattle.dds_text.specs.inner.States.{Levels, top, Role, variable, column, grid_array, grid_map, Stage, typed, named, bracketed, worded, equated, measured, Kind, structures, sequences, grids, GridStage, entered, arrayed, ready, filled, mapping, whole_sequence, whole_grid, State, begun, headed, inside, declaring, opening, in_sequence, in_grid, in_maps, closed, called, dataset_closed, dataset_called, ended, depth_of, next_number, members_in, add, is_name_of, repeats, is_past, wanted_size, is_out, may_have_dims, most_dims, with_dim, declared, behind_declaration, behind_brace, behind_level, with_name}
 
 -- the state behind a token, which may break a rule
@@ -28,10 +28,6 @@ keeps s = record { next = s; breaks = false }
 
 abbrev pub moved : State → Bool → Moved
 moved s b = record { next = s; breaks = b }
-
--- what a word is
-abbrev pub base_of_word : List ℕ → Option BaseType
-base_of_word w = find (λ base. str_eq_ignore_ascii_case (type_word base) w) (Byte ∷ Int16 ∷ UInt16 ∷ Int32 ∷ UInt32 ∷ Float32 ∷ Float64 ∷ Text ∷ Url ∷ [])
 
 abbrev pub kind_word : Kind → List ℕ
 kind_word structures = codes "Structure"
