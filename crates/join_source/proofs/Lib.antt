@@ -26,3 +26,4 @@ pub mod Alike
 pub mod Named
 pub mod FitsTogether
 pub mod Halves
+pub mod EmptyFiles

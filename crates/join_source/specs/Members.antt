@@ -1,6 +1,6 @@
 -- Files that are joined along the record dimension (netCDF classic format): what their headers say
 -- together, and the dataset that they give.
-use Rattle.std.specs.Prelude.{◌≡◌, ◌≢◌, ℕ, ◌≤◌, List, [], ◌∷◌, map, All, None, option_map}
+use Rattle.std.specs.Prelude.{◌≡◌, ◌≢◌, ℕ, ◌≤◌, List, [], ◌∷◌, ◌++◌, map, All, None, option_map}
 use Rattle.std.specs.List.{sum_by, AllZip}
 use Rattle.dap_types.specs.Limits.{most_elements}
 use Rattle.dap_types.specs.Model.{Dataset}
@@ -55,3 +55,9 @@ LeavesAreAlike = (cs : List Contents) (leaf : ℕ) → CanJoin cs → All (λ c.
 -- with another number of records a leaf keeps its number and its variable
 abbrev pub NumbersAreKept : Type 0
 NumbersAreKept = (c : Contents) (records leaf : ℕ) → c.records ≤ most_elements → records ≤ most_elements → leaf_variable (with_records records c) leaf ≡ leaf_variable c leaf
+
+-- With a file behind them that has the shape of the first one and no records, the same is joined, and can be where it
+-- could. So a list of fewer lines gives what some list of more lines gives.
+abbrev pub EmptyAddsNothing : Type 0
+EmptyAddsNothing = (c : Contents) (cs : List Contents) → (joined_contents ((c ∷ cs) ++ with_records 0 c ∷ []) ≡ joined_contents (c ∷ cs))
+    × (CanJoin (c ∷ cs) → CanJoin ((c ∷ cs) ++ with_records 0 c ∷ [])) × (CanJoin ((c ∷ cs) ++ with_records 0 c ∷ []) → CanJoin (c ∷ cs))

@@ -3,7 +3,7 @@
 ghost use Rattle.join_source.specs.Alone.{OneIsItself};
 ghost use Rattle.join_source.specs.Cutting.{JoinedCuts};
 ghost use Rattle.join_source.specs.Halves.{HalvesAreTheWhole};
-ghost use Rattle.join_source.specs.Members.{LeavesAreAlike, NumbersAreKept};
+ghost use Rattle.join_source.specs.Members.{EmptyAddsNothing, LeavesAreAlike, NumbersAreKept};
 ghost use Rattle.join_source.specs.Sent.{LeavesAreSent};
 ghost use Rattle.join_source.specs.Served.{JoinedFits, JoinedHasWords};
 
@@ -47,4 +47,9 @@ pub fn joined_has_words()
 /// A file that was cut in two along its records is given back where both are joined.
 pub fn halves_are_the_whole()
     ensures law { HalvesAreTheWhole }
+{}
+
+/// A file without records, of the shape of the first one, adds nothing to joined files.
+pub fn empty_adds_nothing()
+    ensures law { EmptyAddsNothing }
 {}
