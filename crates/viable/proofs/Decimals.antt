@@ -1,12 +1,12 @@
 -- Numbers only grow with more digits, and are those that std reads.
-use Rattle.std.proofs.Common.{◌≡◌, ℕ, ◌+◌, ◌-◌, ◌*◌, ◌<◌, ◌≤◌, ◌^◌, List, [], ◌∷◌, length, drop, take, get_or, refl, sym, ap, ◌∙◌, arith, drop-cons, add-one, IsTrue}
+use Rattle.std.proofs.Common.{◌≡◌, ℕ, ◌+◌, ◌-◌, ◌*◌, ◌<◌, ◌≤◌, List, [], ◌∷◌, length, drop, get_or, refl, sym, ap, ◌∙◌, arith, drop-cons, add-one, IsTrue}
 use Rattle.std.specs.Char.{is_ascii_digit, digit_value}
 use Rattle.std.specs.List.{list_all}
 use Rattle.std.specs.Str.Parse.{digits_value, digits_value_after}
-use Rattle.std.proofs.lemmas.List.{drop_all, take_all}
+use Rattle.std.proofs.lemmas.List.{drop_all}
 use Rattle.std.proofs.lemmas.Str.{digit_value_digit}
 use Rattle.viable.specs.Numerals.{decimal, decimal_from}
-use Rattle.viable.proofs.Digits.{in_range, number_bound}
+use Rattle.viable.proofs.Digits.{in_range}
 use Rattle.viable.proofs.Tests.{and_parts}
 
 pub decimal_grows : (n : ℕ) (digits : List ℕ) → n ≤ decimal_from n digits
@@ -36,9 +36,3 @@ value_from n (d ∷ ds) all =
 
 pub decimal_is : (ds : List ℕ) → IsTrue (list_all is_ascii_digit ds) → decimal ds ≡ digits_value 10 ds
 decimal_is ds all = value_from 0 ds all
-
--- so few digits write so small a number
-pub value_below : (ds : List ℕ) (most : ℕ) → IsTrue (list_all is_ascii_digit ds) → length ds ≤ most → digits_value 10 ds < 10 ^ most
-value_below ds most all le =
-    let whole : take (length ds) ds ≡ ds = take_all (length ds) ds (omega arith) in
-    rw whole at (number_bound ds (length ds) most all le)

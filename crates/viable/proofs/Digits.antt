@@ -8,7 +8,6 @@ use Rattle.std.proofs.lemmas.Bool.Decides.{nat_tests}
 use Rattle.std.proofs.lemmas.Int.Digits.{digits_value-lt}
 use Rattle.std.proofs.lemmas.Str.{digit_value_digit}
 use Rattle.std.proofs.Math.Nat.{pow-le-pow_right, pow-suc}
-use Rattle.std.proofs.Common.{length-take}
 use Rattle.viable.specs.Numerals.{is_numeral}
 use Rattle.viable.proofs.Runs.{run_valid}
 use Rattle.viable.proofs.Tests.{and_parts}
@@ -19,16 +18,15 @@ in_range c h = grind (arith, nat_tests)
 digit_small : (c : ℕ) → IsTrue (is_ascii_digit c) → digit_value c < 10
 digit_small c h = let v : digit_value c + 48 ≡ c = digit_value_digit c (in_range c h) in let r : c ≤ 57 = (in_range c h).1 in omega (arith, v, r)
 
-digits_taken : (ds : List ℕ) (i : ℕ) → IsTrue (list_all is_ascii_digit ds) → AllDigits 10 (take i ds)
-digits_taken ds zero all = tt
-digits_taken [] (suc i) all = tt
-digits_taken (d ∷ ds) (suc i) all = (digit_small d (and_parts _ _ all).0, digits_taken ds i (and_parts _ _ all).1)
+in_base : (ds : List ℕ) → IsTrue (list_all is_ascii_digit ds) → AllDigits 10 ds
+in_base [] all = tt
+in_base (d ∷ ds) all = (digit_small d (and_parts _ _ all).0, in_base ds (and_parts _ _ all).1)
 
-pub number_bound : (ds : List ℕ) (i k : ℕ) → IsTrue (list_all is_ascii_digit ds) → i ≤ k → digits_value 10 (take i ds) < 10 ^ k
-number_bound ds i k all le =
-    let n : length (take i ds) ≤ k = omega (arith, length-take i ds) in
-    let a : digits_value 10 (take i ds) < 10 ^ length (take i ds) = digits_value-lt 10 (take i ds) (digits_taken ds i all) in
-    let b : 10 ^ length (take i ds) ≤ 10 ^ k = pow-le-pow_right (let z : 0 < 10 = omega arith in z) n in
+-- so few digits write so small a number
+pub value_below : (ds : List ℕ) (most : ℕ) → IsTrue (list_all is_ascii_digit ds) → length ds ≤ most → digits_value 10 ds < 10 ^ most
+value_below ds most all few =
+    let a : digits_value 10 ds < 10 ^ length ds = digits_value-lt 10 ds (in_base ds all) in
+    let b : 10 ^ length ds ≤ 10 ^ most = pow-le-pow_right (let z : 0 < 10 = omega arith in z) few in
     omega (arith, a, b)
 
 -- more digits write no smaller number

@@ -1,6 +1,6 @@
 use Rattle.std.proofs.Common.{◌≡◌, ◌<◌, ◌^◌, arith}
 use Rattle.std.specs.Str.Parse.{digits_value}
-use Rattle.viable.proofs.Decimals.{value_below}
+use Rattle.viable.proofs.Digits.{value_below}
 use Rattle.viable.proofs.numeral.value_of.Goals as goal
 
 pub overflow_cast-result : goal.overflow_cast-result

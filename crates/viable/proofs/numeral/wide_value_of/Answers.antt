@@ -1,7 +1,8 @@
 use Rattle.std.proofs.Common.{◌≡◌, ◌<◌, ◌^◌, ◌∙◌, arith}
 use Rattle.std.specs.Str.Parse.{digits_value}
 use Rattle.viable.specs.Numerals.{decimal}
-use Rattle.viable.proofs.Decimals.{decimal_is, value_below}
+use Rattle.viable.proofs.Decimals.{decimal_is}
+use Rattle.viable.proofs.Digits.{value_below}
 use Rattle.viable.proofs.numeral.wide_value_of.Goals as goal
 
 pub unreachable-requires : goal.unreachable-requires
