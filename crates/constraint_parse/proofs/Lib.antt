@@ -2,7 +2,6 @@ pub mod Answer
 pub mod Bytes
 pub mod Calls
 pub mod Complete
-pub mod Decimals
 pub mod Ends
 pub mod Judged
 pub mod Lists

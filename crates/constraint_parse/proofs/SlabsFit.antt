@@ -1,8 +1,9 @@
 -- The slabs of a constraint that is read have no negative number.
 use Rattle.std.proofs.Common.{◌≡◌, List, [], ◌∷◌, ◌++◌, ℕ, map, refl, Bool, true, false, IsTrue, pos, nat_lt, ◌^◌, if◌then◌else◌}
 use Rattle.std.specs.List.{list_all}
+use Rattle.viable.specs.Numerals.{decimal}
 use Rattle.constraint_parse.specs.Language.{SlabTree, index, range, strided, ItemTree, path, call, ItemsTree, no_items, some_items}
-use Rattle.constraint_parse.specs.Values.{decimal, number_value, slab_value, step_value, item_value, items_value}
+use Rattle.constraint_parse.specs.Values.{number_value, slab_value, step_value, item_value, items_value}
 use Rattle.constraint_parse.specs.Slabs.{is_index, slab_fits, has_slabs}
 use Rattle.constraint_parse.specs.declared.constraint.Number.TheVariants.{Small, Big}
 

@@ -1,6 +1,7 @@
 -- What the trees stand for.
-use Rattle.std.specs.Prelude.{◌≡◌, ℕ, ◌+◌, ◌-◌, ◌*◌, ◌^◌, pos, neg_ℤ, ◌&&◌, List, [], ◌∷◌, ◌++◌, map, ◌==◌, nat_lt, nat_le, if◌then◌else◌, Option, Some, None}
+use Rattle.std.specs.Prelude.{◌≡◌, ℕ, ◌^◌, pos, neg_ℤ, ◌&&◌, List, [], ◌∷◌, ◌++◌, map, ◌==◌, nat_lt, nat_le, if◌then◌else◌, Option, Some, None}
 use Rattle.viable.specs.Characters.{byte}
+use Rattle.viable.specs.Numerals.{decimal}
 use Rattle.viable.specs.Quoted.{quoted_value}
 use Rattle.dap_types.specs.Names.{constraint_id}
 use Rattle.constraint_parse.specs.Language.{Operator, equal, not_equal, less, less_equal, greater, greater_equal, matches, SlabTree, index, range, strided, StepTree, ItemTree, path, call, ValueTree, text, bare, ClauseTree, compare, among, call_clause, ItemsTree, no_items, some_items, ConstraintTree, is_digit, IsTextOf}
@@ -18,14 +19,6 @@ use Rattle.constraint_parse.specs.declared.constraint.Constant.TheVariants as co
 use Rattle.constraint_parse.specs.declared.constraint.Clause.{Clause}
 use Rattle.constraint_parse.specs.declared.constraint.Clause.TheVariants as clauses
 use Rattle.constraint_parse.specs.declared.constraint.Constraint.{Constraint}
-
--- the number that digits stand for, behind the digits of a number
-abbrev pub decimal_from : ℕ → List ℕ → ℕ
-decimal_from n [] = n
-decimal_from n (digit ∷ digits) = decimal_from (n * 10 + (digit - byte "0")) digits
-
-abbrev pub decimal : List ℕ → ℕ
-decimal digits = decimal_from 0 digits
 
 -- up to 2^127 - 1
 abbrev pub number_value : List ℕ → Number

@@ -1,31 +1,11 @@
 //! What digits and words stand for.
 
-ghost use Rattle.std.specs.Prelude.{◌≡◌, ◌+◌, ◌-◌, ◌*◌, ◌^◌, ◌<◌, SomeIff};
-ghost use Rattle.constraint_parse.specs.Values.{decimal, number_value, negative_value, signed_value, word_value};
+ghost use Rattle.std.specs.Prelude.{◌≡◌};
+ghost use Rattle.constraint_parse.specs.Values.{number_value, negative_value, signed_value, word_value};
 
 use crate::scan::all_digits;
 use crate::{Constant, Number};
-
-fn with_digit(value: u128, digit: u8) -> Option<u128>
-    ensures { SomeIff result (value * 10 + (digit - 48) < 2 ^ 128) (value * 10 + (digit - 48)) }
-{
-    let shifted = value.checked_mul(10)?;
-    shifted.checked_add(digit.saturating_sub(b'0') as u128)
-}
-
-/// The number that digits stand for, unless it has more than 128 bits.
-fn magnitude(digits: &[u8]) -> Option<u128>
-    ensures { SomeIff result (decimal digits.now < 2 ^ 128) (decimal digits.now) }
-{
-    let mut value: u128 = 0;
-    for digit in digits {
-        let Some(next) = with_digit(value, *digit) else {
-            return None;
-        };
-        value = next;
-    }
-    Some(value)
-}
+use viable::magnitude;
 
 const LARGEST: u128 = 0x7fff_ffff_ffff_ffff_ffff_ffff_ffff_ffff;
 

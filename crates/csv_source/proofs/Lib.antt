@@ -1,7 +1,6 @@
 mod CellFacts
 mod Columns
 mod Datasets
-mod Digits
 mod FieldBytes
 mod FirstCauses
 pub mod Fitting
@@ -14,6 +13,7 @@ mod Recorded
 mod RowCauses
 mod Rows
 mod Sizes
+mod Spaces
 mod Standings
 mod TableFacts
 pub mod TableNames

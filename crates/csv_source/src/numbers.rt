@@ -1,12 +1,11 @@
 //! The numbers that the cells of a column write.
 
-ghost use Rattle.std.specs.Prelude.{◌≡◌, ◌≤◌, ◌<◌, ◌^◌, ◌⊎◌, pos, neg_ℤ, ◌≤ℤ◌, ◌<ℤ◌, true, false, length, MatchOption, IfSome};
-ghost use Rattle.std.specs.Char.{digit_value, is_ascii_hexdigit};
-ghost use Rattle.std.specs.List.{list_all};
+ghost use Rattle.std.specs.Prelude.{◌≡◌, ◌≤◌, ◌<◌, ◌^◌, ◌⊎◌, pos, neg_ℤ, ◌≤ℤ◌, ◌<ℤ◌, true, false, MatchOption, IfSome};
 ghost use Rattle.std.specs.Str.Parse.{digits_value, signed_digits_value, starts_with_minus, without_leading_sign};
 ghost use Rattle.csv_source.specs.Cells.{are_digits, bits_of, is_bits, is_in, is_whole, least, limit, trimmed, whole_of, without_end_spaces, without_front_spaces};
 
 use dap_types::BaseType;
+use viable::{all_hex_digits, hex_value_of, number_within};
 
 /// The greatest number without its sign: that of an UInt32.
 const GREATEST: u64 = 4_294_967_295;
@@ -31,24 +30,6 @@ fn without_end_spaces(text: &[u8]) -> &[u8]
     &text[..end]
 }
 
-/// The number that digits write, where it is no greater than that of any type.
-fn magnitude(digits: &[u8]) -> Option<u64>
-    ensures number { MatchOption result ((are_digits digits.now ≡ false) ⊎ (4294967295 < digits_value 10 digits.now)) (λ n. (are_digits digits.now ≡ true) × (n ≡ digits_value 10 digits.now)) }
-    ensures bound { IfSome result (λ n. n < 2 ^ 40) }
-{
-    if digits.is_empty() {
-        return None;
-    }
-    let mut value = 0u64;
-    for digit in digits {
-        if !digit.is_ascii_digit() || value > GREATEST {
-            return None;
-        }
-        value = value * 10 + u64::from(*digit - b'0');
-    }
-    Some(value)
-}
-
 fn without_sign(text: &[u8]) -> &[u8]
     ensures { result.now ≡ without_leading_sign text.now }
 {
@@ -69,11 +50,12 @@ fn has_minus(text: &[u8]) -> bool
 }
 
 /// The number that an optional sign and digits write, where it is no greater than that of any type.
+#[tactic(auto, unfolding(crate::specs::Cells::are_digits))]
 fn signed(text: &[u8]) -> Option<i64>
     ensures number { MatchOption result ((are_digits (without_leading_sign text.now) ≡ false) ⊎ (4294967295 < digits_value 10 (without_leading_sign text.now))) (λ z. (are_digits (without_leading_sign text.now) ≡ true) × (z ≡ signed_digits_value 10 text.now)) }
     ensures small { IfSome result (λ z. (neg_ℤ (pos (2 ^ 40)) ≤ℤ z) × (z <ℤ pos (2 ^ 40))) }
 {
-    let magnitude = magnitude(without_sign(text))? as i64;
+    let magnitude = number_within(without_sign(text), GREATEST)? as i64;
     if has_minus(text) {
         Some(-magnitude)
     } else {
@@ -122,38 +104,6 @@ pub(crate) fn whole(base: BaseType, field: &[u8]) -> Option<i64>
     }
 }
 
-fn hex_value(digit: u8) -> u8
-    requires { is_ascii_hexdigit digit ≡ true }
-    ensures value { result ≡ digit_value digit }
-    ensures small { result < 16 }
-{
-    match digit {
-        b'0'..=b'9' => digit - b'0',
-        b'A'..=b'F' => digit - 55,
-        _ => digit - 87,
-    }
-}
-
-fn are_hex_digits(digits: &[u8]) -> bool
-    ensures { result ≡ list_all is_ascii_hexdigit digits.now }
-{
-    digits.iter().all(|digit| digit.is_ascii_hexdigit())
-}
-
-/// The number that hexadecimal digits write.
-fn hex(digits: &[u8]) -> u64
-    requires digits { list_all is_ascii_hexdigit digits.now ≡ true }
-    requires few { length digits.now ≤ 16 }
-    ensures value { result ≡ digits_value 16 digits.now }
-    ensures bound { result < 16 ^ length digits.now }
-{
-    let mut value = 0u64;
-    for digit in digits {
-        value = value * 16 + u64::from(hex_value(*digit));
-    }
-    value
-}
-
 /// The bits that `0x` and so many hexadecimal digits write.
 pub(crate) fn bits(field: &[u8], count: usize) -> Option<u64>
     requires { count ≤ 16 }
@@ -161,8 +111,8 @@ pub(crate) fn bits(field: &[u8], count: usize) -> Option<u64>
     ensures bound { IfSome result (λ n. n < 16 ^ count) }
 {
     let digits = field.strip_prefix(b"0x")?;
-    if digits.len() == count && are_hex_digits(digits) {
-        Some(hex(digits))
+    if digits.len() == count && all_hex_digits(digits) {
+        Some(hex_value_of(digits))
     } else {
         None
     }

@@ -7,6 +7,7 @@ use Rattle.std.proofs.lemmas.Bool.{and_parts, lt-ltb}
 use Rattle.std.proofs.lemmas.Fmt.{decimal_is_IsNumeral, digits_decimal, digits_value-decimal}
 use Rattle.std.proofs.lemmas.Str.Parse.{IsNumeralModel, numerals_by_fold}
 use Rattle.dap_types.specs.Names.{constraint_id}
+use Rattle.viable.specs.Numerals as numerals
 use Rattle.viable.specs.Runs.{is_run}
 use Rattle.constraint_parse.specs.Language.{ConstraintTree, IsSpaced, IsTextOf, Token, constraint_tokens, is_digit, is_token, path as steps, range, some_items, strided, token_bytes}
 use Rattle.constraint_parse.specs.Values as values
@@ -39,8 +40,8 @@ text_is records = refl
 
 -- ---- the numbers
 
-pub digits : IsNumeralModel (λ ds. list_all is_digit ds ≡ true) (values.decimal_from 0)
-digits = numerals_by_fold _ (search rules) values.decimal_from (search rules)
+pub digits : IsNumeralModel (λ ds. list_all is_digit ds ≡ true) (numerals.decimal_from 0)
+digits = numerals_by_fold _ (search rules) numerals.decimal_from (search rules)
 
 is-run : (ds : List ℕ) → 0 < length ds → list_all is_digit ds ≡ true → is_run is_digit ds ≡ true
 is-run [] some e = absurd (omega arith)
@@ -51,7 +52,7 @@ decimal-run n lt = is-run (decimal n) (decimal_is_IsNumeral n lt).0.0 (digits_de
 
 number-is : (n : ℕ) → n < 2 ^ 64 → values.number_value (decimal n) ≡ Small (pos n)
 number-is n lt =
-    let is : values.decimal (decimal n) ≡ n = digits_value-decimal digits n lt in
+    let is : numerals.decimal (decimal n) ≡ n = digits_value-decimal digits n lt in
     let fits : ltb n (2 ^ 127) ≡ true = lt-ltb n (2 ^ 127) (omega arith) in
     rw is (rw fits refl)
 

@@ -3,7 +3,7 @@ use Rattle.std.specs.Prelude.{◌==◌}
 use Rattle.std.proofs.lemmas.Bool.Decides.{nat_tests}
 use Rattle.std.proofs.lemmas.List.{take_more}
 use Rattle.csv_source.specs.Cells.{without_end_spaces}
-use Rattle.csv_source.proofs.Digits.{end-none, end-other, end-space}
+use Rattle.csv_source.proofs.Spaces.{end-none, end-other, end-space}
 use Rattle.csv_source.proofs.numbers.without_end_spaces.Goals as goal
 use Rattle.csv_source.proofs.numbers.without_end_spaces.Goals.{then-loop-end-test+else-text-end-eq32, else-loop-end-test}
 

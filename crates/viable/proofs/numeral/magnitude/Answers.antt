@@ -1,7 +1,7 @@
 use Rattle.std.proofs.Common.{◌≡◌, ◌^◌}
-use Rattle.constraint_parse.specs.Values.{decimal}
-use Rattle.constraint_parse.proofs.Decimals.{decimal_exceeds, decimal_ends}
-use Rattle.constraint_parse.proofs.numbers.magnitude.Goals as goal
+use Rattle.viable.specs.Numerals.{decimal}
+use Rattle.viable.proofs.Decimals.{decimal_exceeds, decimal_ends}
+use Rattle.viable.proofs.numeral.magnitude.Goals as goal
 
 pub returns-in_default : goal.returns-in_default
 returns-in_default c = decimal_exceeds c.loop-digit.value c.loop-digit.digit-index (2 ^ 128) c.args.digits.now c.loop-digit-test.true c.loop-digit.invariant.value c.in_default.ensures

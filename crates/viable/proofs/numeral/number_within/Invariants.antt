@@ -1,12 +1,12 @@
-use Rattle.std.proofs.Common.{◌≡◌, ◌<◌, ◌^◌, take, true}
+use Rattle.std.proofs.Common.{◌≡◌, ◌≤◌, take, true}
 use Rattle.std.specs.Char.{is_ascii_digit}
 use Rattle.std.specs.List.{list_all}
 use Rattle.std.specs.Str.Parse.{digits_value}
-use Rattle.csv_source.proofs.numbers.magnitude.Given as goal
+use Rattle.viable.proofs.numeral.number_within.Given as goal
 
 abbrev pub invariant-loop-digit : goal.invariant-loop-digit
 invariant-loop-digit l = record {
   digits : list_all is_ascii_digit (take l.digit-index l.digits) ≡ true;
   value : l.value ≡ digits_value 10 (take l.digit-index l.digits);
-  bound : l.value < 2 ^ 40;
+  bound : l.value ≤ l.most;
 }
