@@ -1,11 +1,11 @@
 -- Quoted texts.
 use Rattle.viable.specs.Quoted.{spelling, ArePieces, IsOpen}
 use Rattle.viable.proofs.Pieces.{pieces_unique, pieces_open}
-use Rattle.viable.proofs.Runs.{drop_next}
 use Rattle.std.proofs.Common.{◌≡◌, List, [], ◌∷◌, ◌++◌, ℕ, ◌+◌, ◌<◌, length, drop, get_or, refl, sym, ap, subst, ◌∙◌, append_assoc, append-nil, Some, IsTrue, arith, inl, inr, length-append}
 use Rattle.std.specs.List.{list_all}
 use Rattle.std.proofs.lemmas.List.Folds.{list_all-append}
 use Rattle.std.proofs.lemmas.Grind.{flat_map-append}
+use Rattle.plain_lemmas.proofs.Lists.{drop_next}
 use Rattle.viable.specs.Prefix.{is_byte}
 use Rattle.viable.proofs.Standing.{faults_inside}
 use Rattle.viable.specs.Quoted.{Piece, escaped, is_piece}

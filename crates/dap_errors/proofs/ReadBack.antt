@@ -1,5 +1,5 @@
 -- A printed Error object is read back.
-use Rattle.std.proofs.Common.{◌≡◌, List, [], ◌∷◌, ◌++◌, ℕ, ◌<◌, ◌≤◌, ◌^◌, length, map, refl, sym, ap, subst, ◌∙◌, append_assoc, Bool, true, false, ◌||◌, ◌==◌, nat_le, IsTrue, arith, inr, pos}
+use Rattle.std.proofs.Common.{◌≡◌, List, [], ◌∷◌, ◌++◌, ℕ, ◌<◌, ◌≤◌, ◌^◌, length, refl, sym, ap, subst, ◌∙◌, append_assoc, Bool, true, false, ◌==◌, nat_le, IsTrue, arith, inr, pos}
 use Rattle.std.specs.Prelude.{codes}
 use Rattle.std.specs.Char.{is_ascii_digit}
 use Rattle.std.specs.Fmt.{decimal}
@@ -10,7 +10,8 @@ use Rattle.std.proofs.lemmas.Bool.Decides.{nat_tests}
 use Rattle.std.proofs.lemmas.Fmt.{decimal_is_IsNumeral, length-decimal-le}
 use Rattle.std.proofs.lemmas.List.{take_all}
 use Rattle.std.proofs.lemmas.Str.Parse.{digit_from_value}
-use Rattle.viable.specs.Quoted.{Piece, is_piece, piece_bytes, piece_value, spelling, quoted_value, escaped_piece, escape}
+use Rattle.viable.proofs.Escaped.{pieces_of, escape_is, pieces_fit, pieces_value}
+use Rattle.viable.specs.Quoted.{spelling, escape}
 use Rattle.viable.specs.Runs.{is_run}
 use Rattle.viable.proofs.Tests.{and_parts}
 use Rattle.text_tokens.specs.Tokens.{Token, is_word_byte, Reads}
@@ -19,33 +20,6 @@ use Rattle.text_tokens.proofs.Spelling.{Spelled, reads_of}
 use Rattle.dap_errors.specs.Printed.{error_text}
 use Rattle.dap_errors.specs.Reading.{front, limit, ErrorOf}
 use Rattle.dap_errors.specs.declared.object.ErrorObject.{ErrorObject}
-
--- the message between its quotes
-
-pieces_of : List ℕ → List Piece
-pieces_of message = map escaped_piece message
-
-escape_is : (message : List ℕ) → escape message ≡ spelling (pieces_of message)
-unfolding pieces_of escape
-escape_is [] = refl
-escape_is (b ∷ message) = ap (λ (z : List ℕ). piece_bytes (escaped_piece b) ++ z) (escape_is message)
-
-one_piece : (b : ℕ) → IsTrue (is_piece (escaped_piece b)) × (piece_value (escaped_piece b) ≡ b ∷ [])
-one_piece b = on (b == 34 || b == 92) refl
-  where
-    on : (c : Bool) → (b == 34 || b == 92) ≡ c → IsTrue (is_piece (escaped_piece b)) × (piece_value (escaped_piece b) ≡ b ∷ [])
-    on true e = (rw e refl, rw e (rw e refl))
-    on false e = (rw e (rw e refl), rw e refl)
-
-pieces_fit : (message : List ℕ) → IsTrue (list_all is_piece (pieces_of message))
-unfolding pieces_of
-pieces_fit [] = refl
-pieces_fit (b ∷ message) = rw ((one_piece b).0, pieces_fit message) refl
-
-pieces_value : (message : List ℕ) → quoted_value (pieces_of message) ≡ message
-unfolding pieces_of
-pieces_value [] = refl
-pieces_value (b ∷ message) = ap (λ (z : List ℕ). z ++ quoted_value (pieces_of message)) (one_piece b).1 ∙ ap (λ (z : List ℕ). b ∷ z) (pieces_value message)
 
 -- the digits of the code
 

@@ -1,8 +1,8 @@
 -- What stands behind an object, as a reader finds it.
 use Rattle.std.proofs.Common.{◌≡◌, ◌≢◌, List, ◌∷◌, ◌++◌, ℕ, ◌+◌, ◌<◌, ◌≤◌, length, drop, get_or, refl, sym, ap, ◌∙◌, append_assoc, append-nil, not, IsTrue, arith, inl, inr, length-append}
 use Rattle.std.proofs.lemmas.List.{drop_all}
+use Rattle.plain_lemmas.proofs.Lists.{drop_next}
 use Rattle.viable.specs.Runs.{IsRunTo}
-use Rattle.viable.proofs.Runs.{drop_next}
 use Rattle.text_tokens.specs.Tokens.{is_white}
 use Rattle.dap_errors.specs.Reading.{IsEnd, IsStray}
 

@@ -1,15 +1,11 @@
 -- What stands behind an object is its end or has one first stray byte.
-use Rattle.std.proofs.Common.{◌≡◌, List, [], ◌∷◌, ◌++◌, ℕ, length, refl, sym, ap, subst, ◌∙◌, append_assoc, Bool, true, false, not, IsTrue, inl, inr}
+use Rattle.std.proofs.Common.{◌≡◌, List, ◌∷◌, ◌++◌, ℕ, length, refl, sym, ap, subst, ◌∙◌, append_assoc, not, IsTrue, inl, inr}
 use Rattle.std.specs.List.{list_all}
-use Rattle.viable.proofs.Tests.{and_parts}
+use Rattle.plain_lemmas.proofs.Lists.{has_item}
 use Rattle.viable.proofs.Runs.{run_unique}
 use Rattle.text_tokens.specs.Tokens.{is_white}
 use Rattle.dap_errors.specs.Reading.{IsEnd, IsStray}
 use Rattle.text_tokens.proofs.Unique.{false_true}
-
-has_byte : (a : List ℕ) (c : ℕ) (b : List ℕ) → IsTrue (list_all is_white (a ++ c ∷ b)) → IsTrue (is_white c)
-has_byte [] c b h = (and_parts _ _ h).0
-has_byte (x ∷ a) c b h = has_byte a c b (and_parts _ _ h).1
 
 -- white space up to a byte that is none
 head_same : (a b : List ℕ) (c d : ℕ) (x y : List ℕ) → IsTrue (list_all is_white a) → IsTrue (list_all is_white b) → IsTrue (not (is_white c)) → IsTrue (not (is_white d)) → a ++ c ∷ x ≡ b ++ d ∷ y → (a ≡ b) × (c ≡ d) × (x ≡ y)
@@ -18,7 +14,7 @@ head_same a b c d x y wa wb nc nd e =
     (same, (let g : c ≡ d = cc in g), (let g : x ≡ y = cc in g))
 
 all_white_no : (xs a : List ℕ) (c : ℕ) (x : List ℕ) → IsTrue (list_all is_white xs) → xs ≡ a ++ c ∷ x → IsTrue (not (is_white c)) → ⊥
-all_white_no xs a c x all e n = false_true (is_white c) (has_byte a c x (subst (λ (z : List ℕ). IsTrue (list_all is_white z)) e all)) n
+all_white_no xs a c x all e n = false_true (is_white c) (has_item is_white a c x (subst (λ (z : List ℕ). IsTrue (list_all is_white z)) e all)) n
 
 -- behind one semicolon
 seam : (before after : List ℕ) (b : ℕ) (rest : List ℕ) → (before ++ 59 ∷ after) ++ b ∷ rest ≡ before ++ 59 ∷ (after ++ b ∷ rest)

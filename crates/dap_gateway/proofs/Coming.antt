@@ -1,15 +1,14 @@
 -- What a connection comes to, from the reply that was put and the cache behind it.
-use Rattle.std.proofs.Common.{◌≡◌, ◌≢◌, ◌∷◌, ◌++◌, ◌⊎◌, ◌<◌, ℕ, inl, inr, Bool, true, false, List, [], length, Option, Some, None, refl, sym, ap, ◌∙◌, subst, arith, length-append}
+use Rattle.std.proofs.Common.{◌≡◌, ◌≢◌, ◌++◌, ◌⊎◌, ℕ, inl, inr, Bool, true, false, List, [], Option, Some, None, refl, sym, ap, ◌∙◌, subst}
 use Rattle.std.specs.Prelude.{is_some}
 use Rattle.std.specs.Io.KnownBytes.{Consumes}
 use Rattle.std.specs.Map.{lookup}
 use Rattle.std.specs.Str.{bytes_eq}
 use Rattle.plain_lemmas.proofs.Lists.{nothing_in_front}
-use Rattle.httparse.specs.Grammar.{RequestHead, print_request}
+use Rattle.httparse.specs.Grammar.{RequestHead}
 use Rattle.lru.specs.LruCache.{promoted}
 use Rattle.dap_errors.specs.declared.cause.Cause.TheVariants.{OutOfMemory}
 use Rattle.dap_outside.specs.Links.{LinkState}
-use Rattle.dap_http.proofs.Feeds.{request-feed}
 use Rattle.dap_http.proofs.HeadReading.{none-now}
 use Rattle.dap_http.specs.Requests.{FirstRequest, HasNoRequest, IsBadRequest, is_other}
 use Rattle.dap_http.specs.Targets.{target_of, asked_of}
@@ -34,14 +33,6 @@ abbrev pub Pairs : Type 0
 Pairs = List (List ℕ × List ℕ)
 
 -- ---- before anything was taken
-
-pub no-head : (head : RequestHead) (rest : List ℕ) → FirstRequest [] head rest → ⊥
-no-head head rest first =
-    let long : length (print_request head ++ rest) ≡ 0 = sym (ap length first.0.0.1) in
-    omega (arith, long, length-append (print_request head) rest, some-bytes head)
-  where
-    some-bytes : (h : RequestHead) → 0 < length (print_request h)
-    some-bytes h = let (front, ends) = request-feed h in let long : length (print_request h) ≡ length (front ++ 10 ∷ []) = ap length ends in omega (arith, long, length-append front (10 ∷ []))
 
 pub nothing-taken : (old new : Told) → new ≡ old → Consumes old new []
 nothing-taken None new e = tt

@@ -6,7 +6,7 @@ use Rattle.std.proofs.lemmas.Bool.{false≢true}
 use Rattle.std.proofs.lemmas.List.{append_cancel_left, append_cancel_right, map-append}
 use Rattle.std.proofs.lemmas.List.Elements.{All-head, All-tail}
 use Rattle.std.proofs.lemmas.Bool.{cases_lt}
-use Rattle.plain_lemmas.proofs.Lists.{cons_first, cons_rest, last_part}
+use Rattle.plain_lemmas.proofs.Lists.{cons_first, cons_rest, last_part, shorter_front}
 use Rattle.plain_lemmas.proofs.Truths.{both_true}
 use Rattle.dap_types.specs.Model.{Dataset, Tree}
 use Rattle.dap_model.proofs.Following.{dataset_same}
@@ -92,17 +92,9 @@ same_text xs u d e a b =
         let (v, is) = last_part xs cs w c 59 last in
         absurd (holds_token f n v (ap (λ x. bare (tokens_from f n x)) (sym is) ∙ empty))
 
--- of two fronts of the same bytes the shorter one begins the longer one
-front_of : (xs ys rs ss : List ℕ) → xs ++ rs ≡ ys ++ ss → length xs ≤ length ys → (u : List ℕ) × (ys ≡ xs ++ u)
-front_of [] ys rs ss e le = (ys, refl)
-front_of (x ∷ xs) [] rs ss e le = absurd (omega arith)
-front_of (x ∷ xs) (y ∷ ys) rs ss e le =
-    let (u, is) = front_of xs ys rs ss (cons_rest x y (xs ++ rs) (ys ++ ss) e) (omega arith) in
-    (u, ap (λ z. z ∷ ys) (sym (cons_first x y (xs ++ rs) (ys ++ ss) e)) ∙ ap (λ zs. x ∷ zs) is)
-
 longer_text : (xs ys rs ss : List ℕ) (d e : Dataset) → DdsOf xs d → DdsOf ys e → xs ++ rs ≡ ys ++ ss → length xs ≤ length ys → (xs ≡ ys) × (d ≡ e)
 longer_text xs ys rs ss d e a b same le =
-    let (u, is) = front_of xs ys rs ss same le in
+    let (u, is) = shorter_front xs ys rs ss same le in
     let one = same_text xs u d e a (subst (λ zs. DdsOf zs e) is b) in
     (sym (append-nil xs) ∙ ap (λ z. xs ++ z) (sym one.0) ∙ sym is, one.1)
 

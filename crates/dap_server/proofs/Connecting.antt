@@ -1,13 +1,11 @@
 -- The steps of a connection, together.
-use Rattle.std.proofs.Common.{◌≡◌, ◌≢◌, ℕ, ◌+◌, ◌<◌, ◌≤◌, Bool, false, true, ◌||◌, ◌==◌, List, [], ◌∷◌, ◌++◌, length, Option, Some, None, IsSome, IsTrue, refl, sym, ap, ◌∙◌, subst, arith, append_assoc, length-append, inl, inr}
+use Rattle.std.proofs.Common.{◌≡◌, ◌≢◌, ℕ, ◌+◌, ◌<◌, ◌≤◌, Bool, false, true, ◌||◌, ◌==◌, List, [], ◌∷◌, ◌++◌, Option, Some, None, IsSome, IsTrue, refl, sym, ap, ◌∙◌, subst, arith, append_assoc, inl, inr}
 use Rattle.std.proofs.lemmas.Bool.{cases_lt, true≢false}
 use Rattle.std.specs.Io.KnownBytes.{Appends, Consumes, IsAtEnd}
 use Rattle.std.specs.Prelude.{is_some}
-use Rattle.httparse.specs.Grammar.{RequestHead, print_request}
+use Rattle.dap_http.proofs.HeadReading.{no-head}
 use Rattle.dap_errors.specs.declared.cause.Cause.TheVariants.{OutOfMemory}
-use Rattle.dap_http.specs.Requests.{FirstRequest}
 use Rattle.dap_http.specs.declared.head_reader.Head.{Head}
-use Rattle.dap_http.proofs.Feeds.{request-feed}
 use Rattle.dap_outside.specs.Causes.{Rose}
 use Rattle.dap_outside.specs.Files.{Told}
 use Rattle.dap_server.specs.Connections.{ArePut, Behind, Connection, ConnectionMayAsk, FailedBy, IsConnectionServed, IsPut, RoseFor, behind_text, failures, leaves_open, nothing, part_of_refusal, part_of_reply, put_from, refusal}
@@ -67,14 +65,6 @@ pub refusal-rose : (cause : Rattle.dap_errors.specs.declared.cause.Cause.Cause) 
 refusal-rose cause n before old new served t t1 t' p p1 p' (final, why, puts) took takes same rose = last-rose _ _ n before old new served t t1 t' p p1 p' puts took takes same rose
 
 -- ---- the whole connection
-
-no-head : (head : RequestHead) (rest : List ℕ) → FirstRequest [] head rest → ⊥
-no-head head rest first =
-    let long : length (print_request head ++ rest) ≡ 0 = sym (ap length first.0.0.1) in
-    omega (arith, long, length-append (print_request head) rest, some-bytes head)
-  where
-    some-bytes : (h : RequestHead) → 0 < length (print_request h)
-    some-bytes h = let (front, ends) = request-feed h in let long : length (print_request h) ≡ length (front ++ 10 ∷ []) = ap length ends in omega (arith, long, length-append front (10 ∷ []))
 
 -- it was refused before anything was taken
 pub never-read : (told : Told) (l l1 w w1 : Option (List ℕ)) (f s : ℕ) (ended : Bool) (bytes : List ℕ) (served : Served) → l1 ≡ l → bytes ≡ Rattle.dap_http.specs.Texts.memory_text false → PutsLast bytes 503 0 0 w w1 served

@@ -1,14 +1,14 @@
 -- Printed attributes are read back.
-use Rattle.std.proofs.Common.{◌≡◌, List, [], ◌∷◌, ◌++◌, ℕ, zero, suc, ◌+◌, ◌*◌, ◌≤◌, length, map, refl, sym, ap, subst, ◌∙◌, append_assoc, append-nil, Bool, true, false, ◌||◌, ◌==◌, IsTrue, Some}
+use Rattle.std.proofs.Common.{◌≡◌, List, [], ◌∷◌, ◌++◌, ℕ, zero, suc, ◌+◌, ◌*◌, ◌≤◌, length, refl, sym, ap, subst, ◌∙◌, append_assoc, append-nil, IsTrue, Some}
 use Rattle.std.specs.Prelude.{codes, replicate}
 use Rattle.std.specs.List.{flat_map, list_all}
 use Rattle.std.proofs.lemmas.List.{take_all}
 use Rattle.std.proofs.lemmas.List.Folds.{list_all-append}
+use Rattle.viable.proofs.Escaped.{pieces_of, escape_is, pieces_fit, pieces_value}
 use Rattle.dap_types.specs.declared.declarations.BaseType.{BaseType}
 use Rattle.dap_types.specs.declared.declarations.BaseType.TheVariants.{Byte, Int16, UInt16, Int32, UInt32, Float32, Float64, Text, Url}
 use Rattle.dap_model.specs.Dds.{type_word, line, typed}
 use Rattle.text_lines.specs.TypeWords.{base_of_word}
-use Rattle.viable.specs.Quoted.{Piece, is_piece, piece_bytes, piece_value, spelling, quoted_value, escaped_piece, escape}
 use Rattle.text_tokens.specs.Tokens.{Token, sign, word, quoted, is_white, token_bytes, is_token, is_whole, Reads}
 use Rattle.text_tokens.proofs.Spelling.{Spelled, reads_of}
 use Rattle.das_text.specs.Das.{word_text, later_value, values_text, attribute_text, entry_text, entries_text, das}
@@ -19,33 +19,6 @@ use Rattle.das_text.specs.Words.{IsWord, AreValues, EntryHasWords, HaveWords, Ha
 use Rattle.das_text.specs.declared.entries.Attribute.{Attribute}
 use Rattle.das_text.specs.declared.entries.Word.{Word}
 use Rattle.das_text.specs.declared.entries.Word.TheVariants.{Plain, Quoted}
-
--- a text between its quotes
-
-pieces_of : List ℕ → List Piece
-pieces_of text = map escaped_piece text
-
-escape_is : (text : List ℕ) → escape text ≡ spelling (pieces_of text)
-unfolding pieces_of escape
-escape_is [] = refl
-escape_is (b ∷ text) = ap (λ (z : List ℕ). piece_bytes (escaped_piece b) ++ z) (escape_is text)
-
-one_piece : (b : ℕ) → IsTrue (is_piece (escaped_piece b)) × (piece_value (escaped_piece b) ≡ b ∷ [])
-one_piece b = on (b == 34 || b == 92) refl
-  where
-    on : (c : Bool) → (b == 34 || b == 92) ≡ c → IsTrue (is_piece (escaped_piece b)) × (piece_value (escaped_piece b) ≡ b ∷ [])
-    on true e = (rw e refl, rw e (rw e refl))
-    on false e = (rw e (rw e refl), rw e refl)
-
-pieces_fit : (text : List ℕ) → IsTrue (list_all is_piece (pieces_of text))
-unfolding pieces_of
-pieces_fit [] = refl
-pieces_fit (b ∷ text) = rw ((one_piece b).0, pieces_fit text) refl
-
-pieces_value : (text : List ℕ) → quoted_value (pieces_of text) ≡ text
-unfolding pieces_of
-pieces_value [] = refl
-pieces_value (b ∷ text) = ap (λ (z : List ℕ). z ++ quoted_value (pieces_of text)) (one_piece b).1 ∙ ap (λ (z : List ℕ). b ∷ z) (pieces_value text)
 
 -- the tokens of printed attributes
 

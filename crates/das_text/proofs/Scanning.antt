@@ -3,8 +3,8 @@ use Rattle.std.proofs.Common.{◌≡◌, ℕ, ◌+◌, ◌<◌, ◌≤◌, List,
 use Rattle.std.specs.Prelude.{option_map}
 use Rattle.std.specs.List.{list_all}
 use Rattle.std.proofs.lemmas.List.{drop_all}
+use Rattle.plain_lemmas.proofs.Lists.{drop_next}
 use Rattle.viable.specs.Runs.{IsRunTo}
-use Rattle.viable.proofs.Runs.{drop_next}
 use Rattle.text_tokens.specs.Tokens.{Token, Next, NoToken, is_white}
 use Rattle.text_tokens.proofs.Machines.{moves, starts, spells_of, bad_of, breaks_of}
 use Rattle.das_text.specs.Grammar.{signs, IsDas}

@@ -1,8 +1,8 @@
 -- A text is one thing alone: a DAS, bad at one place, followed at one place, or cut.
-use Rattle.std.proofs.Common.{◌≡◌, ℕ, ◌+◌, List, [], ◌∷◌, ◌++◌, length, drop, sym, ap, subst, ◌∙◌, Bool, true, false, not, IsTrue, arith, inl, inr}
+use Rattle.std.proofs.Common.{◌≡◌, ℕ, ◌+◌, List, ◌∷◌, length, drop, sym, ap, subst, ◌∙◌, IsTrue, arith, inl, inr}
 use Rattle.std.specs.List.{list_all}
+use Rattle.plain_lemmas.proofs.Lists.{has_item}
 use Rattle.viable.proofs.Runs.{run_unique}
-use Rattle.viable.proofs.Tests.{and_parts}
 use Rattle.text_tokens.specs.Languages.{tokens_of}
 use Rattle.text_tokens.specs.Tokens.{Placed, is_white}
 use Rattle.text_tokens.proofs.Languages.{IsPrefixFree, same_end, spells_no_bad, spells_no_break, bads_same, bad_no_break}
@@ -17,13 +17,9 @@ use Rattle.text_tokens.proofs.Unique.{false_true}
 free : IsPrefixFree IsDas
 free = prefix_free signs IsDas step start ended IsOpenState machine
 
-has_byte : (a : List ℕ) (c : ℕ) (b : List ℕ) → IsTrue (list_all is_white (a ++ c ∷ b)) → IsTrue (is_white c)
-has_byte [] c b h = (and_parts _ _ h).0
-has_byte (x ∷ a) c b h = has_byte a c b (and_parts _ _ h).1
-
 white_no_more : (text : List ℕ) (behind place : ℕ) → IsTrue (list_all is_white (drop behind text)) → HasBehind text behind place → ⊥
 white_no_more text behind place all h =
-    false_true (is_white h.byte) (has_byte h.white h.byte h.rest (subst (λ (z : List ℕ). IsTrue (list_all is_white z)) h.bytes_are all)) h.other
+    false_true (is_white h.byte) (has_item is_white h.white h.byte h.rest (subst (λ (z : List ℕ). IsTrue (list_all is_white z)) h.bytes_are all)) h.other
 
 behind_same : (text : List ℕ) (behind place other : ℕ) → HasBehind text behind place → HasBehind text behind other → place ≡ other
 behind_same text behind place other h k =

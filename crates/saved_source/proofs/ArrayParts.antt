@@ -3,7 +3,7 @@ use Rattle.std.proofs.Common.{◌≡◌, ℕ, ◌+◌, ◌*◌, ◌<◌, ◌≤�
 use Rattle.std.specs.List.{zip}
 use Rattle.std.proofs.lemmas.Nat.{mul-le}
 use Rattle.dap_model.proofs.Counts.{few_picked}
-use Rattle.xdr_encode.proofs.ArrayParts.{last}
+use Rattle.xdr_encode.proofs.ArrayParts.{last, two_counts}
 use Rattle.xdr_decode.proofs.Arrays.{fields_of_bytes}
 use Rattle.dap_types.specs.Model.{Tree, product, sizes}
 use Rattle.dap_types.specs.declared.declarations.ArrayDecl.{ArrayDecl}
@@ -24,7 +24,6 @@ use Rattle.saved_source.proofs.Cutting.{run}
 use Rattle.saved_source.proofs.Exact.{AllSingle, elements_single, fields_exact, single-append}
 use Rattle.saved_source.specs.Walked.{StandElements, StandsArray}
 
-two_counts : (n : ℕ) (fs : List Field) → bytes_of (count n ∷ count n ∷ fs) ≡ (word n ++ word n) ++ bytes_of fs
 unfolding bytes_of field_bytes
 two_counts n fs = sym (append_assoc (word n) (word n) (bytes_of fs))
 

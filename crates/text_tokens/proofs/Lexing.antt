@@ -3,10 +3,11 @@ use Rattle.std.proofs.Common.{◌≡◌, List, [], ◌∷◌, ◌++◌, ℕ, ◌
 use Rattle.std.proofs.lemmas.Bool.{ne_eqb, cases_lt}
 use Rattle.std.proofs.lemmas.List.{drop_all}
 use Rattle.std.proofs.Common.{append-nil}
+use Rattle.plain_lemmas.proofs.Lists.{drop_next}
 use Rattle.viable.specs.Quoted.{Piece, spelling, ArePieces, IsOpen, Stops}
 use Rattle.viable.specs.Runs.{ends_with, IsRunTo}
 use Rattle.text_tokens.specs.Tokens.{Token, sign, word, quoted, is_white, is_sign, is_word_byte, TokenAt, Next, NoToken, IsPart}
-use Rattle.viable.proofs.Runs.{drop_next, run_is}
+use Rattle.viable.proofs.Runs.{run_is}
 
 -- the quoted text whose last quote stands at a place
 pub quoted_token : (signs text : List ℕ) (place end : ℕ) → place < length text → get_or text place 0 ≡ 34 → (p : (pieces : List Piece) × ArePieces text (place + 1) end pieces) → end < length text → get_or text end 0 ≡ 34

@@ -5,3 +5,4 @@ pub mod Runs
 pub mod Standing
 pub mod Tests
 pub mod Words
+pub mod Escaped

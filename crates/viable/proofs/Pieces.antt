@@ -6,9 +6,9 @@ use Rattle.std.proofs.lemmas.Bool.{eqb-true, eqb-false, ne_eqb}
 use Rattle.std.proofs.lemmas.List.{drop_all}
 use Rattle.std.proofs.lemmas.List.Folds.{list_all-append}
 use Rattle.std.proofs.lemmas.Grind.{flat_map-append}
+use Rattle.plain_lemmas.proofs.Lists.{drop_next}
 use Rattle.viable.specs.Quoted.{Piece, plain, escaped, piece_bytes, is_piece, piece_value, spelling, quoted_value, unescaped_from, unescape, ArePieces, IsOpen}
 use Rattle.viable.proofs.Tests.{and_parts}
-use Rattle.viable.proofs.Runs.{drop_next}
 
 pub no_pieces : (text : List ℕ) (from : ℕ) → ArePieces text from from []
 no_pieces text from = record { whole = refl; to_is = omega arith; each = refl }

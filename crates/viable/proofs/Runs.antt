@@ -1,16 +1,14 @@
 -- Runs of bytes, as a scanner finds them, and that a text has one of them.
-use Rattle.std.proofs.Common.{◌≡◌, List, [], ◌∷◌, ◌++◌, ℕ, ◌+◌, ◌-◌, ◌<◌, ◌≤◌, ◌==◌, length, take, drop, get_or, refl, sym, ap, subst, ◌∙◌, append_assoc, Bool, true, false, not, IsTrue, arith, drop-cons, add-one, length-append}
+use Rattle.std.proofs.Common.{◌≡◌, List, [], ◌∷◌, ◌++◌, ℕ, ◌+◌, ◌-◌, ◌<◌, ◌≤◌, ◌==◌, length, take, drop, get_or, refl, sym, ap, subst, ◌∙◌, append_assoc, Bool, true, false, not, IsTrue, arith, length-append}
 use Rattle.std.proofs.lemmas.List.{drop_all}
 use Rattle.std.proofs.lemmas.Bool.{eqb-true}
 use Rattle.std.proofs.Math.Seq.{take-append_seam}
 use Rattle.std.specs.List.{list_all}
 use Rattle.std.proofs.lemmas.List.Folds.{list_all-append}
+use Rattle.plain_lemmas.proofs.Lists.{drop_next}
 use Rattle.viable.specs.Runs.{is_run, ends_with, IsRunOf, IsRunTo}
 use Rattle.viable.specs.inner.Standing.{SameHead}
 use Rattle.viable.proofs.Tests.{and_parts}
-
-pub drop_next : (text : List ℕ) (i : ℕ) → i < length text → drop i text ≡ get_or text i 0 ∷ drop (i + 1) text
-drop_next text i h = rw add-one (drop-cons text i 0 h)
 
 pub run_starts : (test : ℕ → Bool) (text : List ℕ) (from : ℕ) → IsRunOf test text from from []
 run_starts test text from = record { whole = refl; to_is = omega arith; of_class = refl }

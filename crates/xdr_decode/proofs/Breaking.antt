@@ -2,12 +2,12 @@
 use Rattle.std.proofs.Common.{◌≡◌, ℕ, ◌<◌, ◌≤◌, ◌⊎◌, List, [], ◌∷◌, ◌++◌, length, take, drop, take-append-drop, All, Some, None, inl, inr, ⊎_elim, refl, ap, ◌∙◌, sym, subst, arith, append_assoc, append-nil}
 use Rattle.std.proofs.lemmas.Grind.{flat_map-append}
 use Rattle.std.specs.List.{flat_map}
-use Rattle.plain_lemmas.proofs.Lists.{cons_first, cons_rest}
+use Rattle.plain_lemmas.proofs.Lists.{cons_first, shorter_front}
 use Rattle.dap_types.specs.Model.{Dataset, Tree}
 use Rattle.dap_model.proofs.Values.{all_back}
 use Rattle.dap_model.specs.Received.{Fault, ValuesEndAt, IsBadField, IsPrefix}
 use Rattle.dap_model.specs.Shown.{shown_byte}
-use Rattle.dap_model.specs.Xdr.{Field, text, field_bytes, SpellsField, SpellsFields}
+use Rattle.dap_model.specs.Xdr.{Field, text, SpellsFields}
 use Rattle.xdr_fields.proofs.Fronts.{IsPart, shows}
 use Rattle.xdr_fields.proofs.Growing.{prefix_trans, said_join, prefix_more, text_bytes}
 use Rattle.xdr_fields.proofs.Judged.{ended_at, is_bad, judge, steps_join}
@@ -23,13 +23,6 @@ spells_join : (fs gs : List Field) (a b : List ℕ) → SpellsFields fs a → Sp
 spells_join [] gs a b none good = subst (λ l. SpellsFields gs (l ++ b)) (sym none) good
 spells_join (f ∷ fs) gs a b (x, y, parts, one, more) good = (x, y ++ b, ap (λ l. l ++ b) parts ∙ append_assoc x y b, one, spells_join fs gs y b more good)
 
-prefix_of : (own x rest z : List ℕ) → own ++ rest ≡ x ++ z → length own ≤ length x → (k : List ℕ) × (x ≡ own ++ k)
-prefix_of [] x rest z same le = (x, refl)
-prefix_of (o ∷ own) [] rest z same le = absurd (omega (arith, le))
-prefix_of (o ∷ own) (b ∷ x) rest z same le =
-    let (k, is) = prefix_of own x rest z (cons_rest o b (own ++ rest) (x ++ z) same) (omega (arith, le)) in
-    (k, ap (λ c. c ∷ x) (sym (cons_first o b (own ++ rest) (x ++ z) same)) ∙ ap (λ l. o ∷ l) is)
-
 -- a string that goes on is shown further
 first_text : (n : ℕ) (us : List Want) (own rest front tail : List ℕ) (f : Field) (fs : List Field) (vs : List Want) → length own ≤ n → Steps (a_text n ∷ us) (f ∷ fs) vs → SpellsFields (f ∷ fs) front → own ++ rest ≡ front ++ tail
     → IsPrefix (flat_map shown_byte own) (said (a_text n ∷ us) (f ∷ fs))
@@ -37,7 +30,7 @@ unfolding Steps said
 first_text n us own rest front tail (text b) fs vs le steps (x, y, parts, one, more) same =
     let is : x ≡ b = text_bytes b x one in
     let long : length own ≤ length x = omega (arith, le, steps.0, ap length is) in
-    let (k, whole) = prefix_of own x rest (y ++ tail) (same ∙ ap (λ l. l ++ tail) parts ∙ append_assoc x y tail) long in
+    let (k, whole) = shorter_front own x rest (y ++ tail) (same ∙ ap (λ l. l ++ tail) parts ∙ append_assoc x y tail) long in
     let later' = said (becomes (a_text n) (text b) ++ us) fs in
     (flat_map shown_byte k ++ later', ap (λ l. flat_map shown_byte l ++ later') (sym is ∙ whole) ∙ ap (λ l. l ++ later') (flat_map-append shown_byte own k) ∙ append_assoc (flat_map shown_byte own) (flat_map shown_byte k) later')
 first_text n us own rest front tail f fs vs le steps good same = absurd steps.0

@@ -36,9 +36,9 @@ plain base vs element_same =
     sym (append_assoc (word (length vs)) (word (length vs)) (bytes_of (flat_map (value_fields base) vs)))
     ∙ ap (λ bs. (word (length vs) ++ word (length vs)) ++ bs) (ap bytes_of (sym (same-flat (element_fields base) (value_fields base) element_same vs)) ∙ sym (append-nil (bytes_of (flat_map (element_fields base) vs))))
 
-pub counts : (n : ℕ) (fs : List Field) → bytes_of (count n ∷ count n ∷ fs) ≡ (word n ++ word n) ++ bytes_of fs
+pub two_counts : (n : ℕ) (fs : List Field) → bytes_of (count n ∷ count n ∷ fs) ≡ (word n ++ word n) ++ bytes_of fs
 unfolding bytes_of field_bytes
-counts n fs = sym (append_assoc (word n) (word n) (bytes_of fs))
+two_counts n fs = sym (append_assoc (word n) (word n) (bytes_of fs))
 
 pub last : (n : ℕ) → bytes_of (filler n ∷ []) ≡ zeros n
 unfolding bytes_of field_bytes
@@ -46,7 +46,7 @@ last n = append-nil (zeros n)
 
 packed-array : (vs : List Value) → bytes_of (array_fields Byte vs) ≡ (word (length vs) ++ word (length vs)) ++ (bytes_of (flat_map (element_fields Byte) vs) ++ zeros (length vs))
 packed-array vs =
-    counts (length vs) (map packed vs ++ filler (length vs) ∷ [])
+    two_counts (length vs) (map packed vs ++ filler (length vs) ∷ [])
     ∙ ap (λ bs. (word (length vs) ++ word (length vs)) ++ bs)
     (bytes_of-append (map packed vs) (filler (length vs) ∷ []) ∙ ap (λ bs. bytes_of (map packed vs) ++ bs) (last (length vs)) ∙ ap (λ fs. bytes_of fs ++ zeros (length vs)) (sym (all-packed vs)))
 

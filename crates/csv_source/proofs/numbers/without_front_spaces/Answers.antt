@@ -2,7 +2,7 @@ use Rattle.std.proofs.Common.{arith, sym, ◌∙◌, ◌≡◌, ◌+◌, ◌-◌
 use Rattle.std.specs.Prelude.{◌==◌}
 use Rattle.std.proofs.lemmas.Bool.Decides.{nat_tests}
 use Rattle.std.proofs.lemmas.List.{drop_all, length-drop, take_all}
-use Rattle.viable.proofs.Runs.{drop_next}
+use Rattle.plain_lemmas.proofs.Lists.{drop_next}
 use Rattle.csv_source.proofs.Spaces.{front-none, front-other, front-space}
 use Rattle.csv_source.proofs.numbers.without_front_spaces.Goals as goal
 use Rattle.csv_source.proofs.numbers.without_front_spaces.Goals.{then-loop-start-test+else-text-start-eq32, else-loop-start-test}

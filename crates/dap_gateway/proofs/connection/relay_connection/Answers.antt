@@ -1,9 +1,10 @@
 use Rattle.std.proofs.Common.{refl, ap, subst, inl, inr, [], false, List, ℕ}
+use Rattle.dap_http.proofs.HeadReading.{no-head}
 use Rattle.plain_lemmas.proofs.Lists.{nothing_in_front}
 use Rattle.dap_errors.specs.declared.cause.Cause.TheVariants.{BadRequest, HeadTooLong}
 use Rattle.dap_http.specs.Requests.{FirstRequest, IsBadRequest, IsTooLong}
 use Rattle.dap_gateway.specs.Given.{refused}
-use Rattle.dap_gateway.proofs.Coming.{comes-from, early-comes, first-from, memory-comes, no-head, nothing-taken}
+use Rattle.dap_gateway.proofs.Coming.{comes-from, early-comes, first-from, memory-comes, nothing-taken}
 use Rattle.dap_gateway.proofs.Worth.{backed-comes}
 use Rattle.dap_gateway.proofs.connection.relay_connection.Goals as goal
 
