@@ -4,6 +4,7 @@ ghost use Rattle.std.specs.Io.KnownBytes.{Appends};
 ghost use Rattle.dap_outside.specs.Causes.{HasCause};
 ghost use Rattle.dap_http.specs.inner.UnderWay.{InFrames, body_of, end_of, frames_of, front_before, gained_of, has_room, head_of};
 
+use crate::intake::keep;
 use crate::last_chunk::ended;
 use dap_outside::{Failed, Sink, put_all};
 use dap_types::{Memory, limits};
@@ -200,7 +201,7 @@ impl Gathered {
         self.whole = self.whole.and(&self.frame, &self.from);
         self.frame.clear();
         let head = head(self.chunked);
-        fill(&mut self.frame, head);
+        keep(&mut self.frame, head);
         self.from = head.len();
         self.sent = 0;
     }
@@ -215,9 +216,9 @@ impl Gathered {
         ensures same { (self.new.chunked ≡ self.old.chunked) × (front_in self.new ≡ front_in self.old) }
     {
         let count = bytes.len().min(PIECE - (self.frame.len() - self.from));
-        fill(&mut self.frame, &bytes[..count]);
+        keep(&mut self.frame, &bytes[..count]);
         if self.frame.len() - self.from == PIECE {
-            fill(&mut self.frame, line_end(self.chunked));
+            keep(&mut self.frame, line_end(self.chunked));
         }
         count
     }
@@ -246,16 +247,4 @@ fn begun(alloc: Global, chunked: bool, front: &[u8]) -> Result<Vec<u8>, Memory>
     frame.extend_from_slice(front)?;
     frame.extend_from_slice(head(chunked))?;
     Ok(frame)
-}
-
-/// Appends bytes for which there is room.
-pub fn fill(frame: &mut Vec<u8>, bytes: &[u8])
-    requires { length frame.old.items + length bytes.now ≤ vec_capacity frame.old }
-    ensures items { frame.new.items ≡ frame.old.items ++ bytes.now }
-    ensures room { vec_capacity frame.old ≤ vec_capacity frame.new }
-{
-    match frame.extend_from_slice(bytes) {
-        Ok(()) => {}
-        Err(_) => unreachable!(),
-    }
 }

@@ -5,7 +5,7 @@ ghost use Rattle.std.specs.Fmt.{digits};
 ghost use Rattle.dap_http.specs.Frames.{chunked, framed};
 ghost use Rattle.dap_http.specs.inner.UnderWay.{full_head, head_of};
 
-use crate::gathered::fill;
+use crate::intake::keep;
 use text_lines::hex_digit;
 
 /// Ends a body whose last bytes stand behind a place, with room for the head of a chunk before them. What stands
@@ -36,7 +36,7 @@ fn end_alone(frame: &mut Vec<u8>, lead: usize) -> usize
     ensures ended { drop result frame.new.items ≡ take lead frame.old.items ++ chunked (drop (lead + 7) frame.old.items) }
 {
     frame.truncate(lead);
-    fill(frame, b"0\r\n\r\n");
+    keep(frame, b"0\r\n\r\n");
     0
 }
 
@@ -52,7 +52,7 @@ fn end_chunk(frame: &mut Vec<u8>, lead: usize) -> usize
     let size = (frame.len() - lead - 7) as u64;
     let at = write_size(frame, lead + 5, size);
     frame.copy_within(0..lead, at - lead);
-    fill(frame, b"\r\n0\r\n\r\n");
+    keep(frame, b"\r\n0\r\n\r\n");
     at - lead
 }
 

@@ -1,7 +1,6 @@
 //! The bytes of the values of a variable.
 
-ghost use Rattle.std.specs.Prelude.{◌≡◌, ◌*◌, ◌^◌, ◌<◌, ◌≤◌, map, min};
-ghost use Rattle.dap_types.specs.Model.{product};
+ghost use Rattle.std.specs.Prelude.{◌≡◌, ◌*◌, ◌^◌, ◌<◌, ◌≤◌, map};
 ghost use Rattle.netcdf_source.specs.Parts.{inner};
 ghost use Rattle.netcdf_writer.specs.Variables.{is_empty_dim, is_record, part, room, room_in_record, width_of};
 ghost use Rattle.netcdf_writer.specs.inner.Tables.{variable_view};
@@ -10,6 +9,7 @@ ghost use Rattle.dap_model.specs.Xdr.{padded};
 
 use crate::lent::Lent;
 use dap_types::{BaseType, Dim};
+use xdr_decode::elements;
 
 /// The bytes of a value (netCDF classic format, nc_type).
 pub fn width_of(base: BaseType) -> u64
@@ -22,17 +22,6 @@ pub fn width_of(base: BaseType) -> u64
         BaseType::Int32 | BaseType::UInt32 | BaseType::Float32 => 4,
         BaseType::Float64 => 8,
     }
-}
-
-/// The product of the sizes, or 2^32 where it is more.
-fn elements(dims: &[Dim]) -> u64
-    ensures { result ≡ min (product (map (λ dim. dim.size) dims.now)) (2 ^ 32) }
-{
-    if dims.is_empty() {
-        return 1;
-    }
-    let behind = elements(&dims[1..]);
-    (u64::from(dims[0].size) * behind).min(1 << 32)
 }
 
 /// The dimensions inside one record.

@@ -13,10 +13,11 @@ ghost use Rattle.xdr_decode.specs.inner.Taken.{elements_fields, sizes_of};
 ghost use Rattle.xdr_encode.specs.Leaves.{counts_of, filler_of};
 
 use crate::cut::put_cut;
-use crate::elements::{behind, elements};
+use crate::elements::behind;
 use crate::value::{fill, put_word, split};
 use dap_outside::{Buffer, Failed, Sink};
 use dap_types::{ArrayDecl, BaseType, Dim, Slab};
+use xdr_decode::elements;
 use xdr_encode::filler;
 
 /// How many bytes the counts before the elements have: one count before strings, and else two.

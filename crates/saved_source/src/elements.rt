@@ -4,25 +4,13 @@ ghost use Rattle.std.specs.Prelude.{◌≡◌, ◌≤◌, ◌<◌, ◌^◌, ◌+
 ghost use Rattle.dap_model.specs.Fits.{IsOf};
 ghost use Rattle.dap_model.specs.Laws.{element_width};
 ghost use Rattle.dap_model.specs.Xdr as xdr;
-ghost use Rattle.dap_types.specs.Model.{product};
 ghost use Rattle.dap_types.specs.declared.values.Value.{Value};
 ghost use Rattle.saved_source.specs.Walked.{StandElements};
-ghost use Rattle.xdr_decode.specs.inner.Taken.{elements_fields, sizes_of};
+ghost use Rattle.xdr_decode.specs.inner.Taken.{elements_fields};
 ghost use Rattle.xdr_fields.specs.Wants.{IsTextType};
 
 use crate::value::value;
-use dap_types::{BaseType, Dim};
-
-/// The number of elements of an array, or 2^32 where there are more.
-pub fn elements(dims: &[Dim]) -> u64
-    ensures { result ≡ min (product (sizes_of dims.now)) 4294967296 }
-{
-    if dims.is_empty() {
-        return 1;
-    }
-    let behind = elements(&dims[1..]);
-    (u64::from(dims[0].size) * behind).min(4294967296)
-}
+use dap_types::BaseType;
 
 /// How many bytes an element has in an array of numbers; 1 for a text.
 fn width(base: BaseType) -> usize

@@ -24,5 +24,6 @@ pub use check::{Checked, check_all};
 pub use decode::decode_all;
 pub use decoder::{Decoder, Pushed};
 pub use filled::{AllRefusal, Filled};
+pub use place::elements;
 pub use reply_faults::{Bad, BadField};
 pub use value_text::put_shown_text;

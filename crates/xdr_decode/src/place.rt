@@ -71,7 +71,7 @@ pub enum Next {
     Bytes(u32),
 }
 
-/// The number of elements of an array, or 2^32 where there are more.
+/// The number of elements of an array of these sizes, or 2^32 where there are more.
 pub fn elements(dims: &[Dim]) -> u64
     ensures { result ≡ min (product (map (λ dim. dim.size) dims.now)) (2 ^ 32) }
 {

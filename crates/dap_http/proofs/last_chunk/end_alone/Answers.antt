@@ -8,4 +8,4 @@ pub returns-clause-ended : goal.returns-clause-ended
 returns-clause-ended c =
     let f = c.args.frame.now.items in
     let none : drop (c.args.lead + 7) f ≡ [] = drop_all (c.args.lead + 7) f (omega (arith, c.requires.headed)) in
-    c.fill.ensures.items ∙ ap (λ t. t ++ last_chunk) c.truncate.ensures.items ∙ ap (λ t. take c.args.lead f ++ t) (sym (ap chunked none ∙ chunked-none [] refl))
+    c.keep.ensures.items ∙ ap (λ t. t ++ last_chunk) c.truncate.ensures.items ∙ ap (λ t. take c.args.lead f ++ t) (sym (ap chunked none ∙ chunked-none [] refl))

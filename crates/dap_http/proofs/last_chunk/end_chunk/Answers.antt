@@ -29,8 +29,8 @@ copy_within-requires-clause-dest_in_bounds c =
     let few = four size (omega (arith, c.len.ensures, c.requires.few)) in
     omega (arith, few, c.write_size-at.ensures.place, c.write_size-at.ensures.len, c.requires.headed)
 
-pub fill-requires : goal.fill-requires
-fill-requires c = omega (arith, c.copy_within.ensures.len, c.copy_within.ensures.capacity, c.write_size-at.ensures.len, c.write_size-at.ensures.room, c.requires.few, c.requires.room)
+pub keep-requires : goal.keep-requires
+keep-requires c = omega (arith, c.copy_within.ensures.len, c.copy_within.ensures.capacity, c.write_size-at.ensures.len, c.write_size-at.ensures.room, c.requires.few, c.requires.room)
 
 pub overflow_sub-result : goal.overflow_sub-result
 overflow_sub-result c =
@@ -41,7 +41,7 @@ pub returns-clause-inside : goal.returns-clause-inside
 returns-clause-inside c =
     let size = (c.len.result - c.args.lead) - 7 in
     let few = four size (omega (arith, c.len.ensures, c.requires.few)) in
-    let long = ap length c.fill.ensures.items ∙ length-append c.copy_within.new.self.items (crlf_bytes ++ last_chunk) in
+    let long = ap length c.keep.ensures.items ∙ length-append c.copy_within.new.self.items (crlf_bytes ++ last_chunk) in
     omega (arith, long, c.copy_within.ensures.len, few, c.write_size-at.ensures.place, c.write_size-at.ensures.len, c.requires.headed)
 
 pub returns-clause-ended : goal.returns-clause-ended
@@ -65,7 +65,7 @@ returns-clause-ended c =
     c.write_size-at.ensures.behind ∙ ap (λ n. digits 16 false n ++ drop (l + 5) f) size_is ∙ ap (λ t. digits 16 false (length held) ++ t) line in
     let long : from ≤ length c.copy_within.new.self.items = omega (arith, c.copy_within.ensures.len, inside, on) in
     let end = crlf_bytes ++ last_chunk in
-    ap (drop from) c.fill.ensures.items
+    ap (drop from) c.keep.ensures.items
     ∙ drop-append-le from c.copy_within.new.self.items end long
     ∙ ap (λ t. t ++ end) (moved ∙ ap (λ t. t ++ drop at d) front ∙ ap (λ t. take l f ++ t) tail)
     ∙ together (take l f) (digits 16 false (length held)) crlf_bytes held last_chunk
