@@ -3,7 +3,6 @@ use Rattle.std.proofs.Common.{◌≡◌, List, [], ◌∷◌, ◌++◌, ℕ, len
 use Rattle.std.specs.Prelude.{option_map}
 use Rattle.std.proofs.lemmas.List.{map-append, reverse-append}
 use Rattle.text_lines.specs.TypeWords.{base_of_word}
-
 use Rattle.das_text.specs.inner.Held.{around_view}
 use Rattle.das_text.specs.inner.Machine.{Around, inside, named, attribute_of, begin_attribute, leave}
 use Rattle.das_text.specs.Model.{entries_of, container}

@@ -26,7 +26,7 @@ with_one : (c : Contents) (cs : List Contents) → CanJoin (c ∷ cs) → CanJoi
 with_one c cs can = record {
   record_dimension = can.record_dimension;
   same = All-append (HaveSameShape c) (c ∷ cs) (with_records 0 c ∷ []) can.same
-    (All-cons (HaveSameShape c) (with_records 0 c) [] (record { dimensions = refl; variables = refl }) (All-nil (HaveSameShape c)));
+      (All-cons (HaveSameShape c) (with_records 0 c) [] (record { dimensions = refl; variables = refl }) (All-nil (HaveSameShape c)));
   few = subst (λ n. n ≤ most_elements) (sym (no_more_records c cs)) can.few;
 }
 

@@ -5,8 +5,8 @@ ghost use Rattle.netcdf_source.specs.Parts.{length_at};
 ghost use Rattle.netcdf_source.specs.inner.Reading.{Gives, Reads, new_name_at, judged_at, dimension_at, next_dimension, times, list_at};
 
 use crate::Dimension;
-use crate::names::Names;
 use crate::failure::{Failure, Stop};
+use crate::names::Names;
 use crate::version::Width;
 use crate::words::{bad, head, name_length, number, run};
 use dap_types::{Id, List};

@@ -7,9 +7,9 @@ ghost use Rattle.netcdf_source.specs.inner.Reading.{Gives, Reads, judged_at, nex
 
 use crate::attributes::attributes;
 use crate::dimensions::{length_of, new_name};
+use crate::failure::{Failure, Stop};
 use crate::names::Names;
 use crate::parts::grown;
-use crate::failure::{Failure, Stop};
 use crate::version::{Version, Width};
 use crate::words::{bad, begin, external_type, head, number};
 use crate::{Dimension, ExternalType, Shape, Variable};

@@ -12,8 +12,8 @@ ghost use Rattle.xdr_decode.specs.inner.Turning.{IsGoneThrough, Stays};
 ghost use Rattle.xdr_decode.specs.Shown.{ShowsFront, ShowsSome};
 
 use crate::buffer::Buffer;
-use crate::place::{Next, Place};
 use crate::next_field::Turn;
+use crate::place::{Next, Place};
 use crate::{Bad, BadField};
 use arrayvec::ArrayVec;
 use dap_outside::{Failed, Sink};

@@ -7,7 +7,6 @@ use Rattle.dap_types.specs.declared.declarations.BaseType.{BaseType}
 use Rattle.viable.specs.Characters.{byte}
 use Rattle.viable.specs.Quoted.{quoted_value}
 use Rattle.text_tokens.specs.Tokens.{Token, sign, word, quoted}
-
 use Rattle.das_text.specs.Model.{Attributes, Entry, attribute, container, entries_of}
 use Rattle.das_text.specs.declared.entries.Attribute.{Attribute}
 use Rattle.das_text.specs.declared.entries.Word.{Word}
