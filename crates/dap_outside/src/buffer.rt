@@ -1,31 +1,32 @@
-ghost use Rattle.std.specs.Prelude.{◌≡◌, ◌≤◌, ◌+◌, ℕ, [], ◌++◌, length, IfOk, OnErr, OnOk, vec_len, vec_capacity};
+ghost use Rattle.std.specs.Prelude.{◌≡◌, ◌≤◌, ◌+◌, ℕ, [], ◌++◌, length, OnErr, OnOk};
+ghost use Rattle.arrayvec.specs.ArrayVec.{array_vec_len};
 ghost use Rattle.std.specs.Io.KnownBytes.{Appends};
 ghost use Rattle.dap_outside.specs.Buffered.{Puts};
 ghost use Rattle.dap_outside.specs.Causes.{HasCause};
 ghost use Rattle.dap_outside.specs.Streams.{AppendsFront};
 
 use crate::{Failed, Sink, put_all};
-use dap_types::{Memory, limits};
-use std::alloc::Global;
+use arrayvec::ArrayVec;
+use dap_types::limits;
 
 /// How many bytes a buffer holds.
 const ROOM: usize = limits::MOST_PIECE;
 
-/// Bytes on their way to a sink, at most 64 KiB. It takes memory only when it is made.
+/// Bytes on their way to a sink, at most 64 KiB. They lie in the value itself, so it takes no memory, and
+/// is best lent and not moved.
 #[derive(Debug, Drop)]
 pub struct Buffer {
-    bytes: Vec<u8>,
-    ghost within: { vec_len bytes ≤ 65536 },
-    ghost reserved: { 65536 ≤ vec_capacity bytes },
+    bytes: ArrayVec<u8, ROOM>,
 }
 
 impl Buffer {
-    /// An empty buffer. Fails where memory is wanted.
-    pub fn new(alloc: Global) -> Result<Buffer, Memory>
-        ensures { IfOk result (λ b. b.bytes.items ≡ []) }
+    /// An empty buffer.
+    pub fn new() -> Buffer
+        ensures { result.bytes.items ≡ [] }
     {
-        let bytes = Vec::with_capacity(alloc, ROOM)?;
-        Ok(Buffer { bytes })
+        Buffer {
+            bytes: ArrayVec::new(),
+        }
     }
 
     /// Forgets what it holds.
@@ -49,6 +50,7 @@ impl Buffer {
     }
 
     /// Puts a text behind the bytes that it holds.
+    #[inline(always)]
     pub fn put<O: Sink>(&mut self, out: &mut O, text: &[u8]) -> Result<(), Failed>
         ensures puts { Puts (O.written out.old) self.old.bytes.items (O.written out.new) self.new.bytes.items result text.now }
         ensures cause { HasCause (O.put_faults out.old) (O.put_faults out.new) result }
@@ -67,11 +69,12 @@ impl Buffer {
     }
 
     /// Keeps a text for which there is room.
+    #[inline(always)]
     fn keep(&mut self, text: &[u8])
-        requires { vec_len self.old.bytes + length text.now ≤ 65536 }
+        requires { array_vec_len self.old.bytes + length text.now ≤ 65536 }
         ensures { self.new.bytes.items ≡ self.old.bytes.items ++ text.now }
     {
-        match self.bytes.extend_from_slice(text) {
+        match self.bytes.try_extend_from_slice(text) {
             Ok(()) => {}
             Err(_) => unreachable!(),
         }

@@ -1,7 +1,6 @@
 ghost use Rattle.std.specs.Prelude.{◌≡◌, vec_len};
 
 use crate::piece::Piece;
-use dap_outside::Buffer;
 use dap_types::{Bytes, List};
 
 /// The body of the data response for what a constraint leaves of joined files, and the rooms in which values
@@ -15,7 +14,6 @@ pub struct JoinBody {
     pub(crate) dds_len: usize,
     /// What stands behind the head.
     pub(crate) pieces: List<Piece>,
-    pub(crate) buffer: Buffer,
     pub(crate) raw: Vec<u8>,
     pub(crate) sent: Vec<u8>,
     ghost raw_room: { vec_len raw ≡ 65536 },

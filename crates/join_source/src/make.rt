@@ -17,7 +17,6 @@ ghost use Rattle.join_source.specs.Trees.{joined_trees};
 use crate::piece::Piece;
 use crate::pieces::marked_pieces;
 use crate::{JoinBody, Joined};
-use dap_outside::Buffer;
 use dap_types::{Dataset, List, Memory};
 use grid_projection::Marks;
 use std::alloc::Global;
@@ -30,14 +29,12 @@ fn body_of(alloc: Global, text: &[u8], pieces: List<Piece>) -> Result<JoinBody, 
     ensures pieces { IfOk result (λ b. b.pieces ≡ pieces) }
 {
     let head = head_of(alloc, text)?;
-    let buffer = Buffer::new(alloc)?;
     let raw = room(alloc)?;
     let sent = room(alloc)?;
     Ok(JoinBody {
         head,
         dds_len: text.len(),
         pieces,
-        buffer,
         raw,
         sent,
     })

@@ -125,13 +125,13 @@ impl JoinBody {
         ensures cause { HasStreamCauses result (S.faults shelf.old) (S.faults shelf.new) (O.put_faults out.old) (O.put_faults out.new) }
         ensures beside { O.beside_writing out.new ≡ O.beside_writing out.old }
     {
+        let mut buffer = Buffer::new();
         let raw = &mut self.raw;
         let sent = &mut self.sent;
-        let buffer = &mut self.buffer;
         let head = self.head.bytes();
         let pieces = self.pieces.items();
         send_in_rooms(
-            rt, shelf, files, out, buffer, head, pieces, raw, sent, workers, gate,
+            rt, shelf, files, out, &mut buffer, head, pieces, raw, sent, workers, gate,
         )
     }
 }

@@ -62,10 +62,7 @@ fn write_planned<O: Sink>(alloc: Global, plan: &Plan<'_>, out: &mut O) -> Stored
         return Stored::HeaderTooLong;
     };
     let header = head.as_slice();
-    let Ok(buffer) = Buffer::new(alloc) else {
-        return Stored::Memory;
-    };
-    let mut buffer = buffer;
+    let mut buffer = Buffer::new();
     match send(&mut buffer, out, header, variables) {
         Ok(()) => Stored::Written {
             bytes: header.len() as u64 + fixed_bytes(variables),

@@ -74,7 +74,6 @@ impl SavedBody {
             saved,
             marks: marks.try_clone(alloc)?,
             tests: Tests::of_dataset(alloc, dataset, index, constraint)?,
-            buffer: Buffer::new(alloc)?,
         })
     }
 
@@ -92,12 +91,11 @@ impl SavedBody {
             saved,
             marks,
             tests,
-            buffer,
         } = self;
-        buffer.clear();
+        let mut buffer = Buffer::new();
         buffer.put(out, head.bytes())?;
         put_members(
-            buffer,
+            &mut buffer,
             out,
             marks,
             tests,

@@ -11,12 +11,11 @@ ghost use Rattle.xdr_decode.specs.inner.Pushing.{IsAnswer, IsPushed, state_behin
 ghost use Rattle.xdr_decode.specs.inner.Turning.{IsGoneThrough, Stays};
 ghost use Rattle.xdr_decode.specs.Shown.{ShowsFront, ShowsSome};
 
-use crate::buffer::Buffer;
 use crate::next_field::Turn;
 use crate::place::{Next, Place};
 use crate::{Bad, BadField};
 use arrayvec::ArrayVec;
-use dap_outside::{Failed, Sink};
+use dap_outside::{Buffer, Failed, Sink};
 use dap_types::Dataset;
 
 /// What a decoder says of the bytes so far.

@@ -5,7 +5,6 @@
 //! verdict that `specs/Verdict` and `specs/After` define.
 #![tactic(auto)]
 
-mod buffer;
 mod check;
 mod data_line;
 mod decode;

@@ -8,12 +8,11 @@ ghost use Rattle.xdr_fields.specs.Wants.{index_texts};
 ghost use Rattle.dap_outside.specs.Buffered.{Puts};
 ghost use Rattle.xdr_decode.specs.inner.Lines.{array_text, cell_text, column_text, path_text, shown_token, stage_text, token_text};
 
-use crate::buffer::Buffer;
 use crate::field::Token;
 use crate::path::array_at;
 use crate::place::{Stage, elements};
 use crate::value_text::{put_double, put_number, put_whole, put_word};
-use dap_outside::{Failed, Sink};
+use dap_outside::{Buffer, Failed, Sink};
 use dap_types::{ArrayDecl, Column, Decl, Dim, Id};
 
 /// Puts an index and a bracket.

@@ -13,14 +13,13 @@ ghost use Rattle.xdr_decode.specs.inner.Places.{IsPlaced, text_behind, wants_lef
 ghost use Rattle.xdr_decode.specs.inner.Turning.{Falls, MayBeEmpty, Stays, Turns, rank, weight};
 
 use crate::BadField;
-use crate::buffer::Buffer;
 use crate::decoder::Decoder;
 use crate::field::{Ask, Token, judge};
 use crate::line::{put_path, put_value};
 use crate::place::{Next, Place, Text};
 use crate::value_text::put_escaped;
 use arrayvec::ArrayVec;
-use dap_outside::{Failed, Sink};
+use dap_outside::{Buffer, Failed, Sink};
 use dap_types::Decl;
 
 /// How far a decoder came with the next field, or with the bytes of a string.

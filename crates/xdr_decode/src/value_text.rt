@@ -8,8 +8,7 @@ ghost use Rattle.dap_outside.specs.Causes.{HasCause};
 ghost use Rattle.dap_outside.specs.Streams.{AppendsFront};
 ghost use Rattle.std.specs.Io.KnownBytes.{Appends};
 
-use crate::buffer::Buffer;
-use dap_outside::{Failed, Sink};
+use dap_outside::{Buffer, Failed, Sink};
 use text_lines::hex_digit;
 
 /// Whether a byte of a text stands for itself.

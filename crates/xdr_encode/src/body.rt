@@ -2,7 +2,6 @@ ghost use Rattle.std.specs.Prelude.{◌≡◌, vec_len};
 
 use crate::kept::Rows;
 use crate::leaf::Leaf;
-use dap_outside::Buffer;
 use dap_types::{Bytes, List};
 
 /// The body of the data response for what a constraint leaves of a netCDF file or of a table, and the
@@ -18,7 +17,6 @@ pub struct Body {
     pub(crate) rows: Option<Rows>,
     /// What is sent of a netCDF file.
     pub(crate) leaves: List<Leaf>,
-    pub(crate) buffer: Buffer,
     pub(crate) raw: Vec<u8>,
     pub(crate) sent: Vec<u8>,
     ghost raw_room: { vec_len raw ≡ 65536 },

@@ -25,7 +25,6 @@ use crate::leaf::Leaf;
 use crate::refusal::BodyRefusal;
 use crate::wanted::marked_leaves;
 use csv_source::Table;
-use dap_outside::Buffer;
 use dap_types::{Bytes, Dataset, List, Memory, limits};
 use dds_text::{PrintRefusal, print_short};
 use grid_projection::Marks;
@@ -138,7 +137,6 @@ fn body_of(
     ensures leaves { IfOk result (λ b. b.leaves ≡ leaves) }
 {
     let head = head_of(alloc, text)?;
-    let buffer = Buffer::new(alloc)?;
     let raw = room(alloc)?;
     let sent = room(alloc)?;
     Ok(Body {
@@ -146,7 +144,6 @@ fn body_of(
         dds_len: text.len(),
         rows,
         leaves,
-        buffer,
         raw,
         sent,
     })

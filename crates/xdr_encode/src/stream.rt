@@ -134,14 +134,14 @@ impl Body {
         // A body without values of a file goes out whatever the shelf tells, and asks it nothing.
         ensures alone { HasNoFile self.old → (shelf.new ≡ shelf.old) × ((bytes : List ℕ) → StreamsAlone result (O.written out.old) (O.written out.new) (text_in self.old bytes)) }
     {
+        let mut buffer = Buffer::new();
         let raw = &mut self.raw;
         let sent = &mut self.sent;
-        let buffer = &mut self.buffer;
         let head = self.head.bytes();
         let rows = &self.rows;
         let leaves = self.leaves.items();
         send_in_rooms(
-            rt, shelf, file, out, buffer, head, rows, leaves, raw, sent, workers, gate,
+            rt, shelf, file, out, &mut buffer, head, rows, leaves, raw, sent, workers, gate,
         )
     }
 }
