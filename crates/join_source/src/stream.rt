@@ -131,7 +131,17 @@ impl JoinBody {
         let head = self.head.bytes();
         let pieces = self.pieces.items();
         send_in_rooms(
-            rt, shelf, files, out, &mut buffer, head, pieces, raw, sent, workers, gate,
+            rt,
+            shelf,
+            files,
+            out,
+            &mut buffer,
+            head,
+            pieces,
+            raw,
+            sent,
+            workers,
+            gate,
         )
     }
 }

@@ -141,7 +141,18 @@ impl Body {
         let rows = &self.rows;
         let leaves = self.leaves.items();
         send_in_rooms(
-            rt, shelf, file, out, &mut buffer, head, rows, leaves, raw, sent, workers, gate,
+            rt,
+            shelf,
+            file,
+            out,
+            &mut buffer,
+            head,
+            rows,
+            leaves,
+            raw,
+            sent,
+            workers,
+            gate,
         )
     }
 }
