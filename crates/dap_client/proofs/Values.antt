@@ -107,6 +107,7 @@ good_before d bs good whole more fault place has front bad = ⊎_elim
     sym (take-append_seam good has.rest) ∙ ap (take (length good)) (sym has.parts) ∙ ap (λ n. take n bs) places)
     has.whole
 
+-- ---- what may be shown
 lines_within : (text whole more lines : List ℕ) → IsPrefix lines (whole ++ more) → IsPrefix (text ++ lines) (text ++ whole ++ more)
 lines_within text whole more lines (rest, is) = (rest, append_assoc text whole more ∙ ap (λ l. text ++ l) is ∙ sym (append_assoc text lines rest))
 

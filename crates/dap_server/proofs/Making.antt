@@ -50,6 +50,7 @@ stops told name next Memory x = tt
 pub same_asked : (t : Target) (k : Kind) (name query : List ℕ) → t.kind ≡ k → name ≡ t.name → query ≡ t.query → asked_as k name query ≡ asked_of t
 same_asked t k name query is is_name is_query = ap (λ n. asked_as k n query) is_name ∙ ap (asked_as k t.name) is_query ∙ ap (λ kind. asked_as kind t.name t.query) (sym is)
 
+-- the name of what is asked does not say how a file is read
 pub no_form : (t : Target) (k : Kind) (name : List ℕ) → t.kind ≡ k → name ≡ t.name → is_of_file k ≡ true → asks_shelf (asked_of t) ≡ false → form_of name ≡ None
 no_form t k name is is_name of_file none =
     let asks : asks_shelf (asked_of t) ≡ is_some (form_of name) = rw (is, sym is_name, of_file) refl in

@@ -11,17 +11,15 @@ use Rattle.netcdf_source.proofs.Joined.{has_sizes}
 use Rattle.dap_types.proofs.Views.{items-trees_of}
 use Rattle.dap_types.specs.Model.{Tree, array, grid, kids, many, members_of, one, scalar, sizes, trees_of}
 use Rattle.dap_types.specs.Names.{file_id}
-use Rattle.dap_types.specs.declared.declarations.ArrayDecl.{ArrayDecl}
 use Rattle.dap_types.specs.declared.declarations.BaseType.{BaseType}
 use Rattle.dap_model.specs.Fits.{Fits, FitsAll, FitsArray}
 use Rattle.netcdf_source.proofs.Fitting.{values_fit, FitsIts}
 use Rattle.netcdf_source.proofs.Good.{stands_sound}
 use Rattle.netcdf_source.proofs.GridMaps.{at_front, coordinate_found, grid_array, own_offered}
-use Rattle.netcdf_source.proofs.Placed.{element_record, plain_sizes, record_sizes, turn_positive}
 use Rattle.netcdf_source.proofs.WellFormed.{dims_sizes}
 use Rattle.netcdf_source.specs.Laws.{HasHeader}
 use Rattle.netcdf_source.specs.Layouts.{element_sizes}
-use Rattle.netcdf_source.specs.Mapping.{HaveSameShape, array_of, base_of, column_of, coordinate_at, element_dimensions, has_texts, is_empty, is_grid, is_offered, is_over_records, maps_of, member_of, size_at, with_records}
+use Rattle.netcdf_source.specs.Mapping.{HaveSameShape, array_of, base_of, column_of, coordinate_at, element_dimensions, is_empty, is_grid, is_offered, is_over_records, maps_of, member_of, size_at, with_records}
 use Rattle.netcdf_source.specs.Parts.{inner, lengths}
 use Rattle.netcdf_source.specs.Values.{map_variables, member_tree, tree_of}
 use Rattle.netcdf_source.specs.declared.header.Contents.{Contents}
@@ -78,14 +76,6 @@ module _ (c : Contents) (file : List ℕ) where
 pub header-sound : (c : Contents) (file : List ℕ) → HasHeader c file → IsSound c
 header-sound c file (bytes, (tree, rest, stands, says, past)) =
     subst IsSound says (stands_sound tree (take 1048576 file) rest (omega (arith, length-take 1048576 file)) stands)
-
-unfolding element_dimensions has_texts
-has_sizes c k v sound at =
-    let positive = turn_positive c [] c.variables k v sound.variables at in
-    record {
-      over_records = λ e records. record_sizes (with_records records c) (element_dimensions c v) (element_record c v ∙ e) positive;
-      fixed = λ e records. (plain_sizes (with_records records c) (element_dimensions c v) (element_record c v ∙ e) positive).0;
-    }
 
 -- ---- the variable of each file
 

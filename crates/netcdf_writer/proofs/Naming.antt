@@ -56,9 +56,6 @@ undone_escaped : (c d : ℕ) (xs : List ℕ) → undone (37 ∷ c ∷ d ∷ xs) 
 unfolding undone
 undone_escaped c d xs = refl
 
-unfolding undone
-undone_end = refl
-
 -- the escape of bytes is undone to them
 pub escape_undone : (bytes : List ℕ) → All (λ b. b < 256) bytes → undone (file_id bytes) ≡ Some bytes
 escape_undone [] all = undone_end

@@ -24,15 +24,10 @@ use Rattle.saved_source.proofs.Cutting.{run}
 use Rattle.saved_source.proofs.Exact.{AllSingle, elements_single, fields_exact, single-append}
 use Rattle.saved_source.specs.Walked.{StandElements, StandsArray}
 
-unfolding bytes_of field_bytes
-two_counts n fs = sym (append_assoc (word n) (word n) (bytes_of fs))
-
+-- ---- the bytes of an array in three parts
 one_count : (n : ℕ) (fs : List Field) → bytes_of (count n ∷ fs) ≡ word n ++ bytes_of fs
 unfolding bytes_of field_bytes
 one_count n fs = refl
-
-unfolding bytes_of field_bytes
-last n = append-nil (zeros n)
 
 plain : (n : ℕ) (fs : List Field) → bytes_of (count n ∷ count n ∷ fs) ≡ (word n ++ word n) ++ (bytes_of fs ++ [])
 plain n fs = two_counts n fs ∙ ap (λ l. (word n ++ word n) ++ l) (sym (append-nil (bytes_of fs)))
@@ -118,6 +113,7 @@ counts_long Float64 m n = refl
 counts_long Text m n = refl
 counts_long Url m n = refl
 
+-- ---- how many elements hyperslabs pick
 pub count_few : (slabs : List Slab) (ns : List ℕ) → AreWithin slabs ns → count_of slabs ≤ product ns
 count_few [] [] w = omega arith
 count_few [] (n ∷ ns) w = absurd w

@@ -69,6 +69,8 @@ first_stand base ns us i bytes rest all is = record {
   parts = is ∙ ap (λ l. l ++ rest) (run_parts base us i) ∙ append_assoc (run base (values_of (take i us))) (run base (values_of (drop i us))) rest;
 }
 
+-- ---- the indexes of a hyperslab
+
 -- what it picks from its k-th index on, m items
 abbrev pub picks_from : {X : Type 0} → Slab → List X → ℕ → ℕ → List X
 picks_from s us k m = filter_map (slice_get us) (map (λ k. s.start + k * s.stride) (range_with_len k m))

@@ -1,5 +1,5 @@
 -- The arrays of a Grid in the bytes of a response, and what goes out of them.
-use Rattle.std.proofs.Common.{◌≡◌, ℕ, ◌+◌, List, [], ◌∷◌, ◌++◌, Option, refl, sym, subst}
+use Rattle.std.proofs.Common.{◌≡◌, ℕ, ◌+◌, List, [], ◌∷◌, ◌++◌, Option, sym, subst}
 use Rattle.saved_source.proofs.Putting.{no_bytes}
 use Rattle.dap_types.specs.Model.{Tree}
 use Rattle.dap_types.specs.declared.declarations.ArrayDecl.{ArrayDecl}
@@ -73,9 +73,6 @@ module _ (a b c : Option (List ℕ)) (held mid after : List ℕ) (marks : Marks)
 none_more : (marks : Marks) (n : ℕ) (ts : List Tree) (left rest : List ℕ) → StandArrays marks n [] ts left rest → left ≡ rest
 none_more marks n [] left rest st = spelt_none left rest st.spelt
 none_more marks n (t ∷ ts) left rest st = absurd st.fit
-
-unfolding bytes_of
-no_bytes = refl
 
 nothing : (marks : Marks) (n : ℕ) (ts : List Tree) → bytes_of (arrays_sent marks n [] ts) ≡ []
 nothing marks n ts = no_bytes

@@ -16,6 +16,7 @@ use Rattle.saved_source.specs.declared.refusal.SavedRefusal.{SavedRefusal}
 use Rattle.saved_source.specs.declared.refusal.SavedRefusal.TheVariants.{TooLong, BadBody, RepeatedName, Memory}
 use Rattle.saved_source.specs.declared.saved.Saved.{Saved}
 
+-- ---- the response
 wrong_good : (d : Dataset) (ts : List Tree) (kind : Bad) (place : ℕ) → good d ts ≡ wrong kind place → ⊥
 wrong_good d ts kind place e = cc
 

@@ -108,9 +108,6 @@ module _ (a b d : Option (List ℕ)) (held mid after : List ℕ) (marks : Marks)
       let f = cell_first c columns v.cells left rest v.stand in
       way_failed a b d held mid _ _ _ text (sent_parts v.cells f) v.way (puts f.value f.mid f.first)
 
-unfolding bytes_of
-no_bytes = refl
-
 pub cells_end : (a b : Option (List ℕ)) (held after : List ℕ) (marks : Marks) (n : ℕ) (columns : List Column) (left rest text : List ℕ) → columns ≡ [] → CellsWay a held b after marks n columns left rest text → Passes a held b after text
 cells_end a b held after marks n columns left rest text none w = way_ends a b held after _ text (nothing w.cells) w.way
   where
@@ -234,9 +231,6 @@ module _ (a b d : Option (List ℕ)) (held mid after : List ℕ) (marks : Marks)
   rows_failed w puts =
       let f = is_first columns w.rows left rest is tells is_yes w.stand in
       way_failed a b d held mid _ _ _ text (sent_here w.rows f) w.way (puts (kids f.row) f.mid (cells_here w.rows f))
-
-unfolding bytes_of field_bytes
-end-bytes = refl
 
 module _ (a b d : Option (List ℕ)) (held mid after : List ℕ) (marks : Marks) (keeps : Keeps) (n : ℕ) (columns : List Column) (left rest text : List ℕ) (is : Bool) (tells : TellsRow left is) (is_no : is ≡ false) where
   ends_with : (rows : List Tree) → StandRows columns rows left rest → bytes_of (rows_sent marks keeps n columns rows) ≡ (0xa5 ∷ 0 ∷ 0 ∷ 0 ∷ []) ++ []

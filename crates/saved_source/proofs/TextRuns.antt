@@ -76,9 +76,6 @@ some_left base n left rest txt some w = go w.values w.long w.stand
         let is : IsOf base v = all_first (IsOf base) v vs st.are_of in
         omega (arith, ap length (first_parts base v vs left rest txt st), length-append (bytes_of (value_fields base v)) (bytes_of (elements_fields base vs) ++ rest), value_some base v txt is)
 
-unfolding bytes_of
-no_bytes = refl
-
 pub elements_end : (base : BaseType) (n : ℕ) (left rest : List ℕ) → n ≡ 0 → ElementsLeft base n left rest → left ≡ rest
 elements_end base n left rest is w = go w.values w.long w.stand
   where

@@ -44,6 +44,7 @@ arrays_stand marks n name a maps t bytes rest st = record { fit = st.fit.1; suit
 pub rows_stand : (marks : Marks) (n : ℕ) (name : List ℕ) (columns : List Column) (t : Tree) (bytes rest : List ℕ) → StandsMember marks n (sequence name columns) t bytes rest → StandRows columns (kids t) bytes rest
 rows_stand marks n name columns t bytes rest st = record { fit = st.fit.1; spelt = st.spelt }
 
+-- ---- what goes out of a Structure and of a Sequence
 none_left : (marks : Marks) (n : ℕ) (ms : Members) → any_has_mark marks n ms ≡ false → filtered_all marks n ms ≡ no_members
 none_left marks n no_members e = refl
 none_left marks n (member m ms) e =
@@ -138,9 +139,6 @@ module _ (a b c : Option (List ℕ)) (held mid after : List ℕ) (marks : Marks)
 none_more : (marks : Marks) (n : ℕ) (ts : List Tree) (left rest : List ℕ) → StandMembers marks n no_members ts left rest → left ≡ rest
 none_more marks n [] left rest st = spelt_none left rest st.spelt
 none_more marks n (t ∷ ts) left rest st = absurd st.fit
-
-unfolding bytes_of
-no_bytes = refl
 
 pub members_end : (a b : Option (List ℕ)) (held after : List ℕ) (marks : Marks) (keeps : Keeps) (n : ℕ) (ms : Members) (left rest text : List ℕ) → ms ≡ no_members → MembersWay a held b after marks keeps n ms left rest text
     → Passes a held b after text × (left ≡ rest)

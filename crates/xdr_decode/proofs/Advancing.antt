@@ -16,13 +16,6 @@ use Rattle.xdr_decode.proofs.Rooms.{grid_room, many, parts_room, room_from}
 use Rattle.xdr_decode.proofs.Spots.{from-drop, inside, past, scalar_alone, array_alone, sequence_alone}
 use Rattle.xdr_decode.specs.inner.Places.{AreEmpty, HasRoom, HaveRoom, IsBehind, IsBehindIn, IsEntered, IsLast, IsLastIn, Spot, followed, from_start, members_from, of_grid, spot, spot_first, spot_of}
 
-value_or : {X : Type 0} → X → Option X → X
-value_or d None = d
-value_or d (Some x) = x
-
-unfolding value_or
-same_value x y is = ap (value_or x) is
-
 -- where a map gives something, it was given something
 pub mapped : {X Y : Type 0} (f : X → Y) (o : Option X) (y : Y) → option_map f o ≡ Some y → (x : X) × (o ≡ Some x) × (f x ≡ y)
 mapped f None y is = cc

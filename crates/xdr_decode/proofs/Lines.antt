@@ -69,6 +69,7 @@ indexes_put dims rest n c i k some is small count first others =
     ap (λ x. index_text x ++ index_texts (sizes_of rest) k) (first ∙ one) ∙ ap (λ x. index_text (n / product (sizes_of rest)) ++ index_texts (sizes_of rest) x) (others ∙ two)
     ∙ ap (λ ds. index_text (n / product (sizes_of ds)) ++ index_texts (sizes_of ds) (n % product (sizes_of ds))) is ∙ sym (indexes_more dims n some)
 
+-- the path of an element, by the first index
 pub path_none : (ms : Members) (path : List ℕ) (s : Stage) → length path ≡ 0 → [] ≡ path_text ms path s
 path_none ms [] s none = refl
 path_none ms (i ∷ path) s none = absurd (omega (arith, none))

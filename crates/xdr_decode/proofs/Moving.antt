@@ -31,21 +31,6 @@ use Rattle.xdr_decode.specs.declared.place.Stage.{Stage}
 use Rattle.xdr_decode.specs.declared.place.Stage.TheVariants as stage
 use Rattle.xdr_decode.specs.declared.place.Text.TheVariants as texts
 
--- the first and the others of equal lists
-first_or : {X : Type 0} → X → List X → X
-first_or d [] = d
-first_or d (x ∷ xs) = x
-
-rest_of : {X : Type 0} → List X → List X
-rest_of [] = []
-rest_of (x ∷ xs) = xs
-
-unfolding first_or
-cons_first x y xs ys is = ap (first_or x) is
-
-unfolding rest_of
-cons_rest x y xs ys is = ap rest_of is
-
 -- the elements of an array
 left_step : (want : List ℕ → Want) (path ns : List ℕ) (at count : ℕ) → at < count → elements_left want path ns at (count - at) ≡ want (path ++ index_texts ns at) ∷ elements_left want path ns (at + 1) (count - (at + 1))
 unfolding elements_left
