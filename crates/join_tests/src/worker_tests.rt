@@ -7,10 +7,9 @@ use crate::testing::{body_of, file_of, joined, put_of, r};
 use slab_fill::Gate;
 use std::alloc::Global;
 use std::process::Abort;
-use std::sync::atomic::{AtomicU64, Ordering};
 use std::test::Fail;
 use std::thread::Threads;
-use worker_gates::Meeting;
+use worker_gates::{Meeting, Roll};
 
 /// The body of two files of 14 records each goes out, by so many workers.
 fn expect_sent<R: Threads + Abort + Sync, G: Gate>(
@@ -31,22 +30,6 @@ fn expect_sent<R: Threads + Abort + Sync, G: Gate>(
     Ok(())
 }
 
-/// Which workers came, a bit for each number, and how often one came.
-#[derive(Drop)]
-struct Roll {
-    seen: AtomicU64,
-    count: AtomicU64,
-}
-
-impl Gate for Roll {
-    fn enter(&self, worker: u32) {
-        if worker < 64 {
-            self.seen.fetch_or(1 << worker, Ordering::SeqCst);
-        }
-        self.count.fetch_add(1, Ordering::SeqCst);
-    }
-}
-
 /// So many workers are asked for, and these come, once for each of the two files.
 fn expect_workers<R: Threads + Abort + Sync>(
     rt: &R,
@@ -57,13 +40,9 @@ fn expect_workers<R: Threads + Abort + Sync>(
     requires some { 1 ≤ workers }
     requires many { workers ≤ 64 }
 {
-    let roll = Roll {
-        seen: AtomicU64::new(0),
-        count: AtomicU64::new(0),
-    };
+    let roll = Roll::new();
     expect_sent(rt, alloc, workers, &roll)?;
-    assert_eq!(rt; roll.seen.load(Ordering::SeqCst), numbers);
-    assert_eq!(rt; roll.count.load(Ordering::SeqCst), 2 * u64::from(workers));
+    assert_eq!(rt; roll.told(), (numbers, 2 * u64::from(workers)));
     Ok(())
 }
 

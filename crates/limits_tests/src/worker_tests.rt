@@ -4,44 +4,11 @@ use crate::building::{append_times, append_words};
 use crate::sending::{cut_body, sent_of};
 use crate::table_limits::{kept_rows, tall_table};
 use dap_types::Memory;
-use slab_fill::Gate;
 use std::alloc::Global;
 use std::process::Abort;
-use std::sync::atomic::{AtomicU64, Ordering};
 use std::test::Fail;
 use std::thread::Threads;
-
-/// Which workers came, a bit for each number, and how often one came.
-#[derive(Drop)]
-struct Roll {
-    seen: AtomicU64,
-    count: AtomicU64,
-}
-
-impl Roll {
-    fn new() -> Roll {
-        Roll {
-            seen: AtomicU64::new(0),
-            count: AtomicU64::new(0),
-        }
-    }
-
-    fn told(&self) -> (u64, u64) {
-        (
-            self.seen.load(Ordering::SeqCst),
-            self.count.load(Ordering::SeqCst),
-        )
-    }
-}
-
-impl Gate for Roll {
-    fn enter(&self, worker: u32) {
-        if worker < 64 {
-            self.seen.fetch_or(1 << worker, Ordering::SeqCst);
-        }
-        self.count.fetch_add(1, Ordering::SeqCst);
-    }
-}
+use worker_gates::Roll;
 
 /// How many are asked for, over how many elements or rows, and how many come: as many as there are parts of
 /// `ceil(elements / workers)`.

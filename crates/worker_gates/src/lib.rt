@@ -2,5 +2,7 @@
 #![tactic(auto)]
 
 mod meeting;
+mod roll;
 
 pub use meeting::Meeting;
+pub use roll::Roll;

@@ -7,10 +7,9 @@ use sequence_select::{Tests, keep, mask};
 use slab_fill::{Gate, NoGate};
 use std::alloc::Global;
 use std::process::Abort;
-use std::sync::atomic::{AtomicBool, Ordering};
 use std::test::Fail;
 use std::thread::Threads;
-use worker_gates::Meeting;
+use worker_gates::{Meeting, Roll};
 
 const BUOYS: &[u8] =
     b"station,depth:Int32,salt:Float32\nA1,5,0x3f800000\nB22,-7,0x00000000\nA1,30,0x40000000\nb,5,0x00000001\n\"\",0,0x00000000\n";
@@ -255,40 +254,13 @@ fn two_workers_meet(rt: HostRuntime) -> Result<(), Fail> {
     Ok(())
 }
 
-/// Which workers came.
-#[derive(Drop)]
-struct Seen {
-    came: [AtomicBool; 4],
-}
-
-impl Gate for Seen {
-    fn enter(&self, worker: u32) {
-        if worker < 4 {
-            self.came[worker as usize].store(true, Ordering::SeqCst);
-        }
-    }
-}
-
 /// Four workers for five rows: two get two each and one gets one, and they are numbered from 0.
 #[test]
 fn numbers_of_workers(rt: HostRuntime) -> Result<(), Fail> {
     let case = read_case(rt.alloc(), b"buoys.csv", BUOYS, b"&buoys.depth=5")?;
-    let seen = Seen {
-        came: [
-            AtomicBool::new(false),
-            AtomicBool::new(false),
-            AtomicBool::new(false),
-            AtomicBool::new(false),
-        ],
-    };
+    let roll = Roll::new();
     let mut out = [false; 5];
-    write_kept(&rt, &case, &mut out, 4, &seen);
-    let came = [
-        seen.came[0].load(Ordering::SeqCst),
-        seen.came[1].load(Ordering::SeqCst),
-        seen.came[2].load(Ordering::SeqCst),
-        seen.came[3].load(Ordering::SeqCst),
-    ];
-    expect(&rt, came, [true, true, true, false]);
+    write_kept(&rt, &case, &mut out, 4, &roll);
+    expect(&rt, roll.told(), (0b111, 3));
     Ok(())
 }
