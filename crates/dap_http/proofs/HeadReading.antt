@@ -12,8 +12,8 @@ use Rattle.httparse.specs.declared.spans.RequestSpans.{RequestSpans}
 use Rattle.dap_http.specs.Reading.{IsHead}
 use Rattle.dap_http.specs.declared.head_reader.Head.{Head}
 use Rattle.dap_http.specs.inner.Judging.{IsJudged}
-use Rattle.dap_http.specs.declared.head_judge.Judged.TheVariants.{Bad, Partial, Whole}
-use Rattle.dap_http.specs.Requests.{FirstRequest, HasNoHead, NeverHasHead, ReadsHead, IsBadRequest, IsTooLong, IsGone, ends_by, ends_itself, feeds}
+use Rattle.dap_http.specs.declared.head_judge.Judged.TheVariants.{Bad, Memory as Wanted, Partial, Whole}
+use Rattle.dap_http.specs.Requests.{FirstRequest, HasNoHead, HasNoRequest as HasNoFirst, NeverHasHead, ReadsHead, IsBadRequest, IsTooLong, IsGone, ends_by, ends_itself, feeds}
 use Rattle.dap_http.proofs.Feeds.{feeds-append, no-feed, request-feed}
 
 pub no-head : (bytes : List ℕ) → HasNoRequest bytes → HasNoHead bytes
@@ -135,8 +135,8 @@ long-still bytes more long =
     record { many = omega (arith, long.many, length-append bytes more); none = λ head rest first. too-long-still bytes more rest head long first }
 
 -- no bytes hold no request
-pub no-head : (head : RequestHead) (rest : List ℕ) → FirstRequest [] head rest → ⊥
-no-head head rest first =
+pub nothing-requested : (head : RequestHead) (rest : List ℕ) → FirstRequest [] head rest → ⊥
+nothing-requested head rest first =
     let long : length (print_request head ++ rest) ≡ 0 = sym (ap length first.0.0.1) in
     omega (arith, long, length-append (print_request head) rest, some-bytes head)
   where

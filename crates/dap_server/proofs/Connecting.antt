@@ -3,7 +3,7 @@ use Rattle.std.proofs.Common.{◌≡◌, ◌≢◌, ℕ, ◌+◌, ◌<◌, ◌�
 use Rattle.std.proofs.lemmas.Bool.{cases_lt, true≢false}
 use Rattle.std.specs.Io.KnownBytes.{Appends, Consumes, IsAtEnd}
 use Rattle.std.specs.Prelude.{is_some}
-use Rattle.dap_http.proofs.HeadReading.{no-head}
+use Rattle.dap_http.proofs.HeadReading.{nothing-requested}
 use Rattle.dap_errors.specs.declared.cause.Cause.TheVariants.{OutOfMemory}
 use Rattle.dap_http.specs.declared.head_reader.Head.{Head}
 use Rattle.dap_outside.specs.Causes.{Rose}
@@ -70,7 +70,7 @@ refusal-rose cause n before old new served t t1 t' p p1 p' (final, why, puts) to
 pub never-read : (told : Told) (l l1 w w1 : Option (List ℕ)) (f s : ℕ) (ended : Bool) (bytes : List ℕ) (served : Served) → l1 ≡ l → bytes ≡ Rattle.dap_http.specs.Texts.memory_text false → PutsLast bytes 503 0 0 w w1 served
     → ServesFrom 0 0 told [] l l1 (stand w f s) (stand w1 f s) ended served
 never-read told l l1 w w1 f s ended bytes served same is puts =
-    refused 0 0 told [] [] l l1 (stand w f s) (stand w1 f s) ended OutOfMemory served (nothing-taken l l1 same) (inr (inr (refl, no-head)))
+    refused 0 0 told [] [] l l1 (stand w f s) (stand w1 f s) ended OutOfMemory served (nothing-taken l l1 same) (inr (inr (refl, nothing-requested)))
     (last-put bytes _ 503 _ 0 0 w w1 served (is ∙ no-memory) refl puts) refl (omega arith)
   where
     nothing-taken : (old new : Option (List ℕ)) → new ≡ old → Consumes old new []

@@ -24,6 +24,6 @@ pub mod Variables
 pub mod OneVerdict
 pub mod Decoded
 pub mod Lined
-pub mod Elements
+pub mod ArrayElements
 pub mod Arrays
 pub mod Checks

@@ -1,5 +1,5 @@
 use Rattle.std.proofs.Common.{refl, ap, subst, inl, inr, [], false, List, ℕ}
-use Rattle.dap_http.proofs.HeadReading.{no-head}
+use Rattle.dap_http.proofs.HeadReading.{nothing-requested}
 use Rattle.plain_lemmas.proofs.Lists.{nothing_in_front}
 use Rattle.dap_errors.specs.declared.cause.Cause.TheVariants.{BadRequest, HeadTooLong}
 use Rattle.dap_http.specs.Requests.{FirstRequest, IsBadRequest, IsTooLong}
@@ -10,7 +10,7 @@ use Rattle.dap_gateway.proofs.connection.relay_connection.Goals as goal
 
 pub returns-in_default-clause-relays : goal.returns-in_default-clause-relays
 returns-in_default-clause-relays g c =
-    ([], nothing-taken _ _ (g.met.L.Link.keeps_left _ _ c.put_memory.ensures.beside), inr (memory-comes _ _ _ _ _ [] _ _ _ _ c.put_memory.result false (inl (refl, no-head)) c.put_memory.ensures.puts refl refl))
+    ([], nothing-taken _ _ (g.met.L.Link.keeps_left _ _ c.put_memory.ensures.beside), inr (memory-comes _ _ _ _ _ [] _ _ _ _ c.put_memory.result false (inl (refl, nothing-requested)) c.put_memory.ensures.puts refl refl))
 
 pub returns-in-Head-clause-relays : goal.returns-in-Head-clause-relays
 returns-in-Head-clause-relays g c =

@@ -1,7 +1,7 @@
 use Rattle.std.proofs.Common.{arith, get_or, refl, subst, sym}
 use Rattle.std.proofs.lemmas.List.{nil_from_length}
 use Rattle.plain_lemmas.proofs.Options.{if_ok-map, if_err-map}
-use Rattle.xdr_decode.proofs.Elements.{some_is}
+use Rattle.xdr_decode.proofs.ArrayElements.{some_is}
 use Rattle.xdr_decode.proofs.Lined.{end_cut, end_differs, end_feed, end_return, end_stop}
 use Rattle.xdr_decode.proofs.Spots.{none_of, some_of}
 use Rattle.xdr_decode.proofs.Texts.{part-rest}

@@ -3,7 +3,7 @@ use Rattle.std.proofs.lemmas.List.{nil_from_length}
 use Rattle.xdr_decode.proofs.Texts.{part-rest}
 use Rattle.dap_types.specs.Model.{product}
 use Rattle.xdr_fields.specs.Wants.{elements_left}
-use Rattle.xdr_decode.proofs.Elements.{each_push, each_stop, many_fits, many_read, many_stop, one_fits, one_read, one_stop, some_is}
+use Rattle.xdr_decode.proofs.ArrayElements.{each_push, each_stop, many_fits, many_read, many_stop, one_fits, one_read, one_stop, some_is}
 use Rattle.xdr_decode.proofs.Spots.{none_of, some_of}
 use Rattle.xdr_decode.specs.inner.Taken.{Stops, element_want, sizes_of}
 use Rattle.xdr_decode.proofs.trees.+nested.Goals as goal

@@ -1,5 +1,5 @@
 use Rattle.std.proofs.Common.{◌+◌, ◌*◌, length}
-use Rattle.xdr_decode.proofs.Elements.{EachRead}
+use Rattle.xdr_decode.proofs.ArrayElements.{EachRead}
 use Rattle.xdr_decode.specs.inner.Taken.{sizes_of}
 use Rattle.xdr_decode.proofs.trees.+nested.Given as goal
 

@@ -1,6 +1,6 @@
 use Rattle.std.proofs.Common.{◌∷◌, [], rules}
 use Rattle.xdr_fields.specs.Wants.{rows}
-use Rattle.xdr_decode.proofs.Elements.{cells_stop, mark_off, mark_on, rows_end, rows_push, rows_stop}
+use Rattle.xdr_decode.proofs.ArrayElements.{cells_stop, mark_off, mark_on, rows_end, rows_push, rows_stop}
 use Rattle.xdr_decode.specs.inner.Taken.{Stops}
 use Rattle.xdr_decode.proofs.trees.rows.Goals as goal
 

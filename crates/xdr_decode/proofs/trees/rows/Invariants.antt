@@ -1,5 +1,5 @@
 use Rattle.std.proofs.Common.{length}
-use Rattle.xdr_decode.proofs.Elements.{RowsRead}
+use Rattle.xdr_decode.proofs.ArrayElements.{RowsRead}
 use Rattle.xdr_decode.proofs.trees.rows.Given as goal
 
 abbrev pub invariant-loop-rows : goal.invariant-loop-rows

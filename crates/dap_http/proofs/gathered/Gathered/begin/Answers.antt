@@ -11,7 +11,7 @@ invariant_of-self c =
     let m = s.chunked in
     let f = s.frame.items in
     let cs = frames_of s.whole.items in
-    let h = c.keep.new.frame.items in
+    let h = c.keep.new.kept.items in
     let k = length c.head-head.result.now in
     let is : h ≡ head_of m = c.keep.ensures.items ∙ ap (λ t. t ++ c.head-head.result.now) c.clear.ensures.items ∙ c.head-head.ensures in
     let k_is : k ≡ length (head_of m) = ap length c.head-head.ensures in
@@ -35,7 +35,7 @@ invariant_of-self c =
 pub returns-clause-body : goal.returns-clause-body
 returns-clause-body c =
     let s = c.args.self.now in
-    let h = c.keep.new.frame.items in
+    let h = c.keep.new.kept.items in
     let k = length c.head-head.result.now in
     let is : h ≡ head_of s.chunked = c.keep.ensures.items ∙ ap (λ t. t ++ c.head-head.result.now) c.clear.ensures.items ∙ c.head-head.ensures in
     let short : length h ≤ k = omega (arith, ap length is, ap length c.head-head.ensures) in
@@ -45,14 +45,14 @@ returns-clause-body c =
 pub returns-clause-gained : goal.returns-clause-gained
 returns-clause-gained c =
     let s = c.args.self.now in
-    let h = c.keep.new.frame.items in
+    let h = c.keep.new.kept.items in
     let more = ap frames_of c.and-self.ensures ∙ frames-more s.whole.items s.frame s.from in
     ap (λ t. gained_of t h 0) more ∙ gained-begun (frames_of s.whole.items) s.frame.items h s.from s.sent c.requires.put
 
 pub returns-clause-same : goal.returns-clause-same
 returns-clause-same c =
     let s = c.args.self.now in
-    let h = c.keep.new.frame.items in
+    let h = c.keep.new.kept.items in
     let k = length c.head-head.result.now in
     let more = ap frames_of c.and-self.ensures ∙ frames-more s.whole.items s.frame s.from in
     (refl, ap (λ t. front_before s.chunked t h k) more ∙ front-begun s.chunked (frames_of s.whole.items) s.frame.items h s.from k)
