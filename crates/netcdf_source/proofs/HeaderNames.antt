@@ -1,20 +1,22 @@
 -- The names in the dataset of a file are words: a name of a header is not empty and of bytes, and its
 -- escape is made of plain bytes.
-use Rattle.std.proofs.Common.{◌≡◌, ℕ, zero, suc, ◌+◌, ◌-◌, ◌<◌, inl, inr, Bool, true, false, cond, ◌&&◌, eqb, IsTrue, List, [], ◌∷◌, ◌++◌, length, map, take, drop, filter, All, Option, Some, None, Result, Ok, Err, MatchOption, refl, sym, ap, subst, arith}
+use Rattle.std.proofs.Common.{◌≡◌, ℕ, zero, suc, ◌+◌, ◌-◌, ◌<◌, inl, inr, Bool, true, false, cond, ◌&&◌, eqb, ltb, IsTrue, List, [], ◌∷◌, ◌++◌, length, map, take, drop, filter, All, Option, Some, None, Result, Ok, Err, MatchOption, refl, sym, ap, subst, ◌∙◌, arith, length-append}
 use Rattle.std.specs.Prelude.{option_map, option_and_then, slice_get, not}
-use Rattle.std.specs.List.{list_all, cons_option, suffix_len}
+use Rattle.std.specs.List.{list_all, flat_map, cons_option, suffix_len}
 use Rattle.std.specs.Option.{option_map_or}
-use Rattle.std.proofs.lemmas.Bool.{cases_lt, and_from}
+use Rattle.std.proofs.lemmas.Bool.{cases_lt}
+use Rattle.std.proofs.lemmas.Bool.Decides.{nat_tests}
 use Rattle.std.proofs.lemmas.List.{length-take, take-append-drop}
 use Rattle.std.proofs.lemmas.List.Elements.{All-nil, All-cons, All-append}
+use Rattle.std.proofs.lemmas.List.Folds.{list_all-append}
 use Rattle.plain_lemmas.proofs.Lists.{some_length}
 use Rattle.dap_types.specs.Model.{Member, scalar, array, grid, members_of, name_of}
-use Rattle.dap_types.specs.Names.{file_id}
+use Rattle.dap_types.specs.Names.{escaped_byte, file_id}
 use Rattle.dap_types.specs.WellFormed.{Place, place, places, part_places, leaf_places}
 use Rattle.dap_types.specs.declared.declarations.ArrayDecl.{ArrayDecl}
 use Rattle.dap_types.specs.declared.declarations.Dim.{Dim}
 use Rattle.dap_model.specs.Grammar.{are_words}
-use Rattle.dap_model.specs.Tokens.{is_word}
+use Rattle.dap_model.specs.Tokens.{is_word, is_plain}
 use Rattle.file_names.specs.Names.{segment, dataset_name_byte}
 use Rattle.netcdf_source.specs.Fields.{Field, number, run, Fault, failure, Judged, Spells, Ends}
 use Rattle.netcdf_source.specs.Grammar.{VariableTree, HeaderTree, attribute, variable, contents, in_turn, list_fields, dimension_fields, attribute_fields, variable_fields, header_fields, name_fault}
@@ -35,13 +37,29 @@ use Rattle.netcdf_source.proofs.Fitting.{file_bytes}
 use Rattle.netcdf_source.proofs.Good.{bad_if-none, stands_sound}
 use Rattle.netcdf_source.proofs.Headers.{more2, more3}
 use Rattle.netcdf_source.proofs.Singles.{bytes-take}
-use Rattle.file_names.proofs.Words.{dataset_spelled, word_name, file_word}
+use Rattle.file_names.proofs.Words.{Spelled, are_both, both_are, dataset_spelled, escaped_spelled, word_length}
 
 -- ---- bytes of words
 
 -- a name that is not empty and of bytes
 abbrev pub IsName : List ℕ → Type 0
 IsName name = (0 < length name) × IsBytes name
+
+plain_name : (f : ℕ → List ℕ) (name : List ℕ) → Spelled f → IsBytes name → list_all is_plain (flat_map f name) ≡ true
+plain_name f [] spelled bytes = refl
+plain_name f (b ∷ name) spelled bytes =
+    list_all-append is_plain (f b) (flat_map f name)
+    ∙ are_both (list_all is_plain (f b)) (list_all is_plain (flat_map f name)) (both_are (ltb 0 (length (f b))) (list_all is_plain (f b)) (spelled b (bytes 0))).1 (plain_name f name spelled (λ i. bytes (suc i)))
+
+word_name : (f : ℕ → List ℕ) (name : List ℕ) → Spelled f → IsName name → is_word (flat_map f name) ≡ true
+word_name f [] spelled is = absurd (omega (arith, is.0))
+word_name f (b ∷ name) spelled is =
+    let some : 0 < length (f b) = word_length (f b) (spelled b (is.1 0)) in
+    let long : 0 < length (f b ++ flat_map f name) = omega (arith, length-append (f b) (flat_map f name)) in
+    are_both (ltb 0 (length (f b ++ flat_map f name))) (list_all is_plain (f b ++ flat_map f name)) (grind (arith, nat_tests, long)) (plain_name f (b ∷ name) spelled is.1)
+
+pub file_word : (name : List ℕ) → IsName name → is_word (file_id name) ≡ true
+file_word name is = word_name escaped_byte name escaped_spelled is
 
 -- ---- names of a header
 
@@ -186,7 +204,7 @@ is_word_dim d = option_map_or is_word d.name true
 
 dims_words : (c : Contents) (ids : List ℕ) → AreNamed c → Each (λ i. i < length c.dimensions) ids → list_all is_word_dim (map (dim_of c) ids) ≡ true
 dims_words c [] named h = refl
-dims_words c (i ∷ ids) named h = and_from (is_word_dim (dim_of c i)) (list_all is_word_dim (map (dim_of c) ids)) (dimension_word c i named h.0) (dims_words c ids named h.1)
+dims_words c (i ∷ ids) named h = are_both (is_word_dim (dim_of c i)) (list_all is_word_dim (map (dim_of c) ids)) (dimension_word c i named h.0) (dims_words c ids named h.1)
 
 element_ids : (c : Contents) (v : Variable) → Each (λ i. i < length c.dimensions) v.dimensions → Each (λ i. i < length c.dimensions) (element_dimensions c v)
 unfolding element_dimensions
@@ -198,7 +216,7 @@ element_ids c v h = go (has_texts c v)
 
 array_words : (c : Contents) (v : Variable) → AreNamed c → IsOne c v → IsTrue (are_words (array (array_of c v)))
 array_words c v named one =
-    and_from (is_word (file_id v.name)) (list_all is_word_dim (map (dim_of c) (element_dimensions c v))) (file_word v.name one.0) (dims_words c (element_dimensions c v) named (element_ids c v one.1))
+    are_both (is_word (file_id v.name)) (list_all is_word_dim (map (dim_of c) (element_dimensions c v))) (file_word v.name one.0) (dims_words c (element_dimensions c v) named (element_ids c v one.1))
 
 abbrev OfWords : Place → Type 0
 OfWords p = IsTrue (are_words p.variable)
