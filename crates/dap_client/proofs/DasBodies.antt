@@ -3,7 +3,8 @@ use Rattle.std.proofs.Common.{◌≡◌, ℕ, ◌+◌, ◌-◌, ◌<◌, ◌≤�
 use Rattle.std.proofs.lemmas.Grind.{common_steps}
 use Rattle.std.proofs.lemmas.List.Folds.{list_all-append}
 use Rattle.std.specs.List.{AllPass, list_all}
-use Rattle.dap_client.proofs.Objects.{behind_more, front_more, reads_within}
+use Rattle.std.proofs.lemmas.List.{take-append-le}
+use Rattle.dap_client.proofs.Objects.{behind_more, reads_within}
 use Rattle.dap_model.specs.Tokens as dds
 use Rattle.text_tokens.specs.Languages.{BadToken, Breaks, SpellsTo}
 use Rattle.text_tokens.specs.Tokens.{is_white}
@@ -12,6 +13,9 @@ use Rattle.das_text.specs.Model.{Attributes}
 use Rattle.das_text.specs.Reading.{DasOf, DasEndsAt, IsBad, IsTrailing, front, limit}
 use Rattle.dap_client.proofs.Begun.{whites}
 use Rattle.das_text.proofs.SameTokens.{white_same}
+
+front_more : (bytes more : List ℕ) → limit ≤ length bytes → front (bytes ++ more) ≡ front bytes
+front_more bytes more long = take-append-le limit bytes more long
 
 ends_within : (bytes : List ℕ) (at : ℕ) (a : Attributes) → limit ≤ length bytes → DasEndsAt bytes at a → at ≤ length bytes
 ends_within bytes at a long is =

@@ -4,11 +4,12 @@ use Rattle.std.proofs.Common.{◌≡◌, ℕ, zero, suc, ◌+◌, ◌-◌, ◌<�
 use Rattle.std.specs.Prelude.{option_map, option_and_then, slice_get, not}
 use Rattle.std.specs.List.{list_all, flat_map, cons_option, suffix_len}
 use Rattle.std.specs.Option.{option_map_or}
-use Rattle.std.proofs.lemmas.Bool.{cases_lt}
+use Rattle.std.proofs.lemmas.Bool.{cases_lt, and_from}
 use Rattle.std.proofs.lemmas.Bool.Decides.{nat_tests}
 use Rattle.std.proofs.lemmas.List.{length-take, take-append-drop}
 use Rattle.std.proofs.lemmas.List.Elements.{All-nil, All-cons, All-append}
 use Rattle.std.proofs.lemmas.List.Folds.{list_all-append}
+use Rattle.plain_lemmas.proofs.Truths.{both_true}
 use Rattle.plain_lemmas.proofs.Lists.{some_length}
 use Rattle.dap_types.specs.Model.{Member, scalar, array, grid, members_of, name_of}
 use Rattle.dap_types.specs.Names.{escaped_byte, file_id}
@@ -37,7 +38,7 @@ use Rattle.netcdf_source.proofs.Fitting.{file_bytes}
 use Rattle.netcdf_source.proofs.Good.{bad_if-none, stands_sound}
 use Rattle.netcdf_source.proofs.Headers.{more2, more3}
 use Rattle.netcdf_source.proofs.Singles.{bytes-take}
-use Rattle.file_names.proofs.Words.{Spelled, are_both, both_are, dataset_spelled, escaped_spelled, word_length}
+use Rattle.file_names.proofs.Words.{Spelled, dataset_spelled, escaped_spelled, word_length}
 
 -- ---- bytes of words
 
@@ -49,14 +50,14 @@ plain_name : (f : ℕ → List ℕ) (name : List ℕ) → Spelled f → IsBytes 
 plain_name f [] spelled bytes = refl
 plain_name f (b ∷ name) spelled bytes =
     list_all-append is_plain (f b) (flat_map f name)
-    ∙ are_both (list_all is_plain (f b)) (list_all is_plain (flat_map f name)) (both_are (ltb 0 (length (f b))) (list_all is_plain (f b)) (spelled b (bytes 0))).1 (plain_name f name spelled (λ i. bytes (suc i)))
+    ∙ and_from (list_all is_plain (f b)) (list_all is_plain (flat_map f name)) (both_true (ltb 0 (length (f b))) (list_all is_plain (f b)) (spelled b (bytes 0))).1 (plain_name f name spelled (λ i. bytes (suc i)))
 
 word_name : (f : ℕ → List ℕ) (name : List ℕ) → Spelled f → IsName name → is_word (flat_map f name) ≡ true
 word_name f [] spelled is = absurd (omega (arith, is.0))
 word_name f (b ∷ name) spelled is =
     let some : 0 < length (f b) = word_length (f b) (spelled b (is.1 0)) in
     let long : 0 < length (f b ++ flat_map f name) = omega (arith, length-append (f b) (flat_map f name)) in
-    are_both (ltb 0 (length (f b ++ flat_map f name))) (list_all is_plain (f b ++ flat_map f name)) (grind (arith, nat_tests, long)) (plain_name f (b ∷ name) spelled is.1)
+    and_from (ltb 0 (length (f b ++ flat_map f name))) (list_all is_plain (f b ++ flat_map f name)) (grind (arith, nat_tests, long)) (plain_name f (b ∷ name) spelled is.1)
 
 pub file_word : (name : List ℕ) → IsName name → is_word (file_id name) ≡ true
 file_word name is = word_name escaped_byte name escaped_spelled is
@@ -204,7 +205,7 @@ is_word_dim d = option_map_or is_word d.name true
 
 dims_words : (c : Contents) (ids : List ℕ) → AreNamed c → Each (λ i. i < length c.dimensions) ids → list_all is_word_dim (map (dim_of c) ids) ≡ true
 dims_words c [] named h = refl
-dims_words c (i ∷ ids) named h = are_both (is_word_dim (dim_of c i)) (list_all is_word_dim (map (dim_of c) ids)) (dimension_word c i named h.0) (dims_words c ids named h.1)
+dims_words c (i ∷ ids) named h = and_from (is_word_dim (dim_of c i)) (list_all is_word_dim (map (dim_of c) ids)) (dimension_word c i named h.0) (dims_words c ids named h.1)
 
 element_ids : (c : Contents) (v : Variable) → Each (λ i. i < length c.dimensions) v.dimensions → Each (λ i. i < length c.dimensions) (element_dimensions c v)
 unfolding element_dimensions
@@ -216,7 +217,7 @@ element_ids c v h = go (has_texts c v)
 
 array_words : (c : Contents) (v : Variable) → AreNamed c → IsOne c v → IsTrue (are_words (array (array_of c v)))
 array_words c v named one =
-    are_both (is_word (file_id v.name)) (list_all is_word_dim (map (dim_of c) (element_dimensions c v))) (file_word v.name one.0) (dims_words c (element_dimensions c v) named (element_ids c v one.1))
+    and_from (is_word (file_id v.name)) (list_all is_word_dim (map (dim_of c) (element_dimensions c v))) (file_word v.name one.0) (dims_words c (element_dimensions c v) named (element_ids c v one.1))
 
 abbrev OfWords : Place → Type 0
 OfWords p = IsTrue (are_words p.variable)
