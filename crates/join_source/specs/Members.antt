@@ -56,8 +56,7 @@ LeavesAreAlike = (cs : List Contents) (leaf : ℕ) → CanJoin cs → All (λ c.
 abbrev pub NumbersAreKept : Type 0
 NumbersAreKept = (c : Contents) (records leaf : ℕ) → c.records ≤ most_elements → records ≤ most_elements → leaf_variable (with_records records c) leaf ≡ leaf_variable c leaf
 
--- With a file behind them that has the shape of the first one and no records, the same is joined, and can be where it
--- could. So a list of fewer lines gives what some list of more lines gives.
+-- With the header of the first file behind them, without records, the same is joined, and can be where it could.
 abbrev pub EmptyAddsNothing : Type 0
 EmptyAddsNothing = (c : Contents) (cs : List Contents) → (joined_contents ((c ∷ cs) ++ with_records 0 c ∷ []) ≡ joined_contents (c ∷ cs))
     × (CanJoin (c ∷ cs) → CanJoin ((c ∷ cs) ++ with_records 0 c ∷ [])) × (CanJoin ((c ∷ cs) ++ with_records 0 c ∷ []) → CanJoin (c ∷ cs))
