@@ -214,16 +214,6 @@ fn in_object(read: InObject) -> Stage
     }
 }
 
-/// Reads a piece of an Error object, which begins at this place.
-fn read_object(alloc: Global, object: Object, place: u64, piece: &[u8]) -> Stage
-    requires stands { (bytes : List ℕ) × (length bytes ≡ place) × IsObjectOf bytes object }
-    requires small { place + length piece.now < 2 ^ 63 }
-    ensures stage { (bytes : List ℕ) → length bytes ≡ place → IsError (bytes ++ piece.now) → IsObjectOf bytes object → IsStage result (bytes ++ piece.now) [] }
-    ensures cause { WhereFailed ⊥ result }
-{
-    in_object(beginning::read_object(alloc, object, place, piece))
-}
-
 /// Waits for more of the first word, whose piece the reader of the DDS has as well.
 fn wait(word: FirstWord, front: Vec<u8>, reader: DdsReader, piece: &[u8]) -> Stage
     ensures stage { (bytes : List ℕ) → IsOpenWord word (bytes ++ piece.now) → front.items ≡ take limit (bytes ++ piece.now) → HadAll reader bytes →
@@ -313,7 +303,9 @@ impl Stage {
             Stage::First(word, front, reader) => {
                 read_first(alloc, word, front, reader, place, piece, out)
             }
-            Stage::Error(object) => read_object(alloc, object, place, piece),
+            Stage::Error(object) => {
+                in_object(beginning::read_object(alloc, object, place, piece))
+            }
             Stage::Text(reader) => read_text(alloc, reader, place, piece, out),
             Stage::Line(dataset, line) => read_line(alloc, dataset, line, place, piece, out),
             Stage::Values(decoder) => read_values(decoder, place, piece, out),

@@ -60,15 +60,6 @@ fn in_object(read: InObject) -> TextStage
     }
 }
 
-/// Reads a piece of an Error object, which begins at this place.
-fn read_object(alloc: Global, object: Object, place: u64, piece: &[u8]) -> TextStage
-    requires stands { (bytes : List ℕ) × (length bytes ≡ place) × IsObjectOf bytes object }
-    requires small { place + length piece.now < 2 ^ 63 }
-    ensures { (form : Form) (bytes : List ℕ) → length bytes ≡ place → IsError (bytes ++ piece.now) → IsObjectOf bytes object → IsTextStage form result (bytes ++ piece.now) }
-{
-    in_object(beginning::read_object(alloc, object, place, piece))
-}
-
 /// Reads a piece of the text, which begins at this place.
 fn read_text(alloc: Global, text: TextBody, place: u64, piece: &[u8]) -> TextStage
     requires stands { (form : Form) × (bytes : List ℕ) × (length bytes ≡ place) × IsTextBody form text bytes }
@@ -160,7 +151,9 @@ impl TextStage {
             TextStage::First(word, front, text) => {
                 read_first(alloc, word, front, text, place, piece)
             }
-            TextStage::Error(object) => read_object(alloc, object, place, piece),
+            TextStage::Error(object) => {
+                in_object(beginning::read_object(alloc, object, place, piece))
+            }
             TextStage::Text(text) => read_text(alloc, text, place, piece),
             TextStage::Wrong(field) => TextStage::Wrong(field),
             TextStage::Spent => TextStage::Spent,

@@ -1,9 +1,10 @@
 -- From what was opened of a list and its files to what the files of a shelf answer.
-use Rattle.std.proofs.Common.{◌≡◌, ℕ, ◌+◌, ◌≤◌, List, [], ◌∷◌, map, Option, Some, IsSome, Result, Ok, Err, IfOk, IfErr, refl, sym, ap, ◌∙◌, inl, inr, subst}
+use Rattle.std.proofs.Common.{◌≡◌, ℕ, ◌+◌, ◌≤◌, List, [], ◌∷◌, map, Option, Some, IsSome, Result, Ok, Err, IfOk, IfErr, length, refl, sym, ap, ◌∙◌, inl, inr, subst, arith}
 use Rattle.constraint_parse.specs.Values.{Spells}
 use Rattle.constraint_parse.specs.declared.constraint.Constraint.{Constraint}
 use Rattle.dap_errors.specs.declared.cause.Cause.{Cause}
-use Rattle.dap_http.specs.declared.kind.Kind.TheVariants.{Das, Dods}
+use Rattle.dap_http.specs.Texts.{version}
+use Rattle.dap_http.specs.declared.kind.Kind.TheVariants.{Das, Dods, Ver}
 use Rattle.dap_outside.specs.Files.{IsBytes, Told}
 use Rattle.das_text.specs.Das.{das}
 use Rattle.join_source.specs.Asked.{JoinedAsk}
@@ -15,20 +16,21 @@ use Rattle.join_source.specs.Pieces.{AreTold}
 use Rattle.join_source.specs.declared.body.JoinBody.{JoinBody}
 use Rattle.join_source.specs.declared.joined.Joined.{Joined}
 use Rattle.netcdf_source.specs.File.{FileHeader}
-use Rattle.dap_server.proofs.Lying.{same_bytes}
-use Rattle.dap_server.specs.Costs.{IsFormCost, IsFormCostAt, IsListAsked, join_head_len, join_marks}
+use Rattle.dap_server.proofs.JoinedSending.{for_refused}
+use Rattle.dap_server.proofs.Lying.{same_bytes, some_files}
+use Rattle.dap_server.specs.Costs.{IsFormCost, IsFormCostAt, IsListAsked, IsWithinLines, join_head_len, join_marks, most_of_joined}
 use Rattle.dap_server.specs.Files.{Files, MayHave, Stored, form_of, joined}
 use Rattle.dap_server.specs.Joins.{Member, Members, bytes_in, contents_in, joined_stored, stored_together}
-use Rattle.dap_server.specs.Prepared.{IsJoinedFor}
+use Rattle.dap_server.specs.Prepared.{IsJoinedFor, MayGiveWithin}
 use Rattle.dap_server.specs.Results.{DodsAnswers, OpensAmong, Text, das_text, result_text}
 use Rattle.dap_server.specs.Steps.{Is, Then}
-use Rattle.dap_server.specs.inner.Joining.{IsJoinOf}
+use Rattle.dap_server.specs.inner.Joining.{IsJoinOf, MayOpenWithin}
 use Rattle.dap_server.specs.inner.Members.{AreFilesOf, AreHeadersOf}
 use Rattle.dap_server.specs.inner.Opening.{WhereRefused}
 use Rattle.dap_server.specs.inner.Preparing.{asked_as}
 use Rattle.dap_server.specs.declared.no_answer.Stop.{Stop}
 use Rattle.dap_server.specs.declared.no_answer.Stop.TheVariants.{Refused, ShelfFault, Memory}
-use Rattle.dap_server.proofs.OpeningLists.{list_opens, same_contents, ok-of, ok-same}
+use Rattle.dap_server.proofs.OpeningLists.{join_lines, list_opens, same_contents, ok-same}
 
 -- ---- The files of the lines.
 
@@ -91,6 +93,37 @@ have-headers told line (name ∷ names) ms (inl (m, is, inl (others, rest, all))
 
 -- ---- What follows a list that was opened.
 
+-- a list that was not opened answers nothing else
+pub stops_within : (told : Told) (name : List ℕ) (before now : ℕ) (next : Stored → Result Text Cause → Type 0) (s : Stop) → WhereRefused (λ why. MayOpenWithin told name before now (Err why)) s
+    → WhereRefused (λ why. (files : Files) × MayHave told files × Then (OpensAmong told files name) next (Err why) × IsWithinLines files name before now) s
+stops_within told name before now next (Refused why) (files, may, opens, asked) = (files, may, inr (why, opens, refl), asked)
+stops_within told name before now next ShelfFault x = tt
+stops_within told name before now next Memory x = tt
+
+pub das_stops_within : (told : Told) (name : List ℕ) (before now : ℕ) (s : Stop) → WhereRefused (λ why. MayOpenWithin told name before now (Err why)) s
+    → WhereRefused (λ why. (query : List ℕ) → MayGiveWithin told (asked_as Das name query) before now (Err why)) s
+das_stops_within told name before now (Refused why) is = λ query. stops_within told name before now (λ s. Is (das_text s)) (Refused why) is
+das_stops_within told name before now ShelfFault is = tt
+das_stops_within told name before now Memory is = tt
+
+-- by the value, and by the refusal
+pub for_ok : {T : Type 0} {P Q : T → Type 0} → ((t : T) → P t → Q t) → (r : Result T Stop) → IfOk r P → IfOk r Q
+for_ok f (Ok t) p = f t p
+for_ok f (Err stop) p = tt
+
+pub for_err : {T : Type 0} {P Q : Cause → Type 0} → ((why : Cause) → P why → Q why) → (r : Result T Stop) → IfErr r (WhereRefused P) → IfErr r (WhereRefused Q)
+for_err f (Ok t) p = tt
+for_err f (Err (Refused why)) p = f why p
+for_err f (Err ShelfFault) p = tt
+for_err f (Err Memory) p = tt
+
+-- the version, for which nothing is asked
+pub version_within : (told : Told) (name query : List ℕ) (before : ℕ) (r : Result (List ℕ) Stop) → IfOk r (λ text. text ≡ version) → IfOk r (λ text. MayGiveWithin told (asked_as Ver name query) before before (Ok (result_text Ver text)))
+version_within told name query before (Ok text) is =
+    let (files, may) = some_files told in
+    (files, may, ap (λ t. Ok (result_text Ver t)) is, omega arith)
+version_within told name query before (Err stop) is = tt
+
 module _ {F : Type 0} (told : Told) (content : F → Option (List ℕ)) (size_of : F → ℕ) (name : List ℕ) (j : Joined) (fs : List F) (form : form_of name ≡ Some joined) (is : IsJoinOf told content size_of name j fs) where
   abbrev its_stored : Stored
   its_stored = stored_together (name_in j) (members_in j) (bytes_in is.ms)
@@ -107,26 +140,32 @@ module _ {F : Type 0} (told : Told) (content : F → Option (List ℕ)) (size_of
   pub joined_follows : (next : Stored → Result Text Cause → Type 0) (r : Result Text Cause) → next its_stored r → (files : Files) × MayHave told files × Then (OpensAmong told files name) next r
   joined_follows next r n = (is.files, is.may_have, inl (its_stored, joined_opens, n))
 
-  pub das_joined : (text : List ℕ) → text ≡ das (joined_attributes (members_in j)) → (files : Files) × MayHave told files × Then (OpensAmong told files name) (λ s. Is (das_text s)) (Ok (result_text Das text))
-  das_joined text is_text = joined_follows (λ s. Is (das_text s)) _ (ap (λ t. Ok (result_text Das t)) is_text)
+  -- and no more was asked than for the files that are joined
+  module _ (before now : ℕ) (asked : now ≤ before + most_of_joined (length fs)) where
+    follows_within : (next : Stored → Result Text Cause → Type 0) (r : Result Text Cause) → next its_stored r
+        → (files : Files) × MayHave told files × Then (OpensAmong told files name) next r × IsWithinLines files name before now
+    follows_within next r n = (is.files, is.may_have, inl (its_stored, joined_opens, n), omega (arith, asked, join_lines told content size_of name j fs is))
 
-  pub follows_ok : {T : Type 0} (next : Stored → Result Text Cause → Type 0) (answer : T → Text) (r : Result T Stop) → IfOk r (λ t. (files : List (List ℕ)) → next (stored_together (name_in j) (members_in j) files) (Ok (answer t)))
-      → IfOk r (λ t. (files : Files) × MayHave told files × Then (OpensAmong told files name) next (Ok (answer t)))
-  follows_ok next answer (Ok t) n = joined_follows next _ (n (bytes_in is.ms))
-  follows_ok next answer (Err s) n = tt
+    pub das_joined : (query text : List ℕ) → text ≡ das (joined_attributes (members_in j)) → MayGiveWithin told (asked_as Das name query) before now (Ok (result_text Das text))
+    das_joined query text is_text = follows_within (λ s. Is (das_text s)) _ (ap (λ t. Ok (result_text Das t)) is_text)
 
-  pub follows_err : {T : Type 0} (next : Stored → Result Text Cause → Type 0) (r : Result T Stop) → IfErr r (WhereRefused (λ why. (files : List (List ℕ)) → next (stored_together (name_in j) (members_in j) files) (Err why)))
-      → IfErr r (WhereRefused (λ why. (files : Files) × MayHave told files × Then (OpensAmong told files name) next (Err why)))
-  follows_err next (Ok t) n = tt
-  follows_err next (Err (Refused why)) n = joined_follows next _ (n (bytes_in is.ms))
-  follows_err next (Err ShelfFault) n = tt
-  follows_err next (Err Memory) n = tt
+    pub follows_ok : {T : Type 0} (next : Stored → Result Text Cause → Type 0) (answer : T → Text) (r : Result T Stop) → IfOk r (λ t. (files : List (List ℕ)) → next (stored_together (name_in j) (members_in j) files) (Ok (answer t)))
+        → IfOk r (λ t. (files : Files) × MayHave told files × Then (OpensAmong told files name) next (Ok (answer t)) × IsWithinLines files name before now)
+    follows_ok next answer r n = for_ok (λ t given. follows_within next (Ok (answer t)) (given (bytes_in is.ms))) r n
 
-  pub follows_stop : (next : Stored → Result Text Cause → Type 0) (s : Stop) → WhereRefused (λ why. (files : List (List ℕ)) → next (stored_together (name_in j) (members_in j) files) (Err why)) s
-      → WhereRefused (λ why. (files : Files) × MayHave told files × Then (OpensAmong told files name) next (Err why)) s
-  follows_stop next (Refused why) n = joined_follows next _ (n (bytes_in is.ms))
-  follows_stop next ShelfFault n = tt
-  follows_stop next Memory n = tt
+    pub follows_err : {T : Type 0} (next : Stored → Result Text Cause → Type 0) (r : Result T Stop) → IfErr r (WhereRefused (λ why. (files : List (List ℕ)) → next (stored_together (name_in j) (members_in j) files) (Err why)))
+        → IfErr r (WhereRefused (λ why. (files : Files) × MayHave told files × Then (OpensAmong told files name) next (Err why) × IsWithinLines files name before now))
+    follows_err next r n = for_err (λ why given. follows_within next (Err why) (given (bytes_in is.ms))) r n
+
+    pub follows_stop : (next : Stored → Result Text Cause → Type 0) (s : Stop) → WhereRefused (λ why. (files : List (List ℕ)) → next (stored_together (name_in j) (members_in j) files) (Err why)) s
+        → WhereRefused (λ why. (files : Files) × MayHave told files × Then (OpensAmong told files name) next (Err why) × IsWithinLines files name before now) s
+    follows_stop next s n = for_refused (λ why given. follows_within next (Err why) (given (bytes_in is.ms))) s n
+
+    pub dods_joined : (query : List ℕ) → ((files : List (List ℕ)) → (text : List ℕ) × DodsAnswers (stored_together (name_in j) (members_in j) files) query (Ok (result_text Dods text)))
+        → (text : List ℕ) × MayGiveWithin told (asked_as Dods name query) before now (Ok (result_text Dods text))
+    dods_joined query some =
+        let (text, answers) = some (bytes_in is.ms) in
+        (text, follows_within (λ s. DodsAnswers s query) _ answers)
 
   -- their headers, as the body has them
   its_headers : (contents : List (List ℕ)) → TellsBytes content → AreTold (map content fs) contents → HaveHeaders (members_in j) contents

@@ -1,6 +1,7 @@
 -- From what was made of a list and its files to the answer to a target.
 use Rattle.std.proofs.Common.{◌≡◌, ℕ, List, Option, Some, Result, Ok, Err, IfOk, IfErr, IsTrue, sym, ap, subst}
 use Rattle.std.specs.Prelude.{is_some}
+use Rattle.dap_errors.specs.declared.cause.Cause.{Cause}
 use Rattle.dap_http.specs.Targets.{Asked, asked_of}
 use Rattle.dap_http.specs.declared.kind.Kind.{Kind}
 use Rattle.dap_http.specs.declared.kind.Kind.TheVariants.{Dods}
@@ -9,8 +10,8 @@ use Rattle.dap_outside.specs.Files.{Told}
 use Rattle.join_source.specs.declared.body.JoinBody.{JoinBody}
 use Rattle.dap_server.proofs.Making.{same_asked}
 use Rattle.dap_server.specs.Files.{Form, form_of, joined}
-use Rattle.dap_server.specs.Prepared.{IsJoinedFor, MayGive, WhereJoined, WhereNoShelfFault}
-use Rattle.dap_server.specs.Results.{result_text}
+use Rattle.dap_server.specs.Prepared.{IsJoinedFor, MayGive, MayGiveWithin, WhereJoined, WhereNoShelfFault, WhereOfList}
+use Rattle.dap_server.specs.Results.{Text, result_text}
 use Rattle.dap_server.specs.inner.Opening.{StaysBut, WhereFault, WhereRefused}
 use Rattle.dap_server.specs.inner.Preparing.{IsMade, MayGiveAs, asked_as, body_prepared, join_prepared, text_prepared}
 use Rattle.dap_server.specs.declared.data_body.DataBody.{DataBody}
@@ -86,3 +87,23 @@ text_no_files P k (Ok text) p is = rw is tt
 text_no_files P k (Err (Refused why)) p is = rw is tt
 text_no_files P k (Err ShelfFault) p is = rw is tt
 text_no_files P k (Err Memory) p is = rw is tt
+
+-- the answer of a list
+pub list_given : {F : Type 0} (P : Result Text Cause → Type 0) (r : Result (JoinBody × List F) Stop) (p : Prepared F) → p ≡ join_prepared r → IfOk r (λ q. (text : List ℕ) × P (Ok (result_text Dods text)))
+    → IfErr r (WhereRefused (λ why. P (Err why))) → WhereOfList p P
+list_given P (Ok (b, files)) p is gives refuses = rw is gives
+list_given P (Err (Refused why)) p is gives refuses = rw is refuses
+list_given P (Err ShelfFault) p is gives refuses = rw is tt
+list_given P (Err Memory) p is gives refuses = rw is tt
+
+pub list_told : {F : Type 0} (P : Result Text Cause → Type 0) (k : Kind) (r : Result (List ℕ) Stop) (p : Prepared F) → p ≡ text_prepared k r → IfOk r (λ text. P (Ok (result_text k text)))
+    → IfErr r (WhereRefused (λ why. P (Err why))) → WhereOfList p P
+list_told P k (Ok text) p is gives refuses = rw is gives
+list_told P k (Err (Refused why)) p is gives refuses = rw is refuses
+list_told P k (Err ShelfFault) p is gives refuses = rw is tt
+list_told P k (Err Memory) p is gives refuses = rw is tt
+
+-- in the words of the target
+pub list_asked : {F : Type 0} (told : Told) (t : Target) (k : Kind) (name query : List ℕ) (before now : ℕ) (p : Prepared F) → t.kind ≡ k → name ≡ t.name → query ≡ t.query
+    → WhereOfList p (MayGiveWithin told (asked_as k name query) before now) → WhereOfList p (MayGiveWithin told (asked_of t) before now)
+list_asked told t k name query before now p is is_name is_query given = subst (λ a. WhereOfList p (MayGiveWithin told a before now)) (same_asked t k name query is is_name is_query) given

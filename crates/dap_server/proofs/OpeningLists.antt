@@ -21,12 +21,12 @@ use Rattle.join_source.specs.declared.refusal.ListRefusal.TheVariants as lists
 use Rattle.dap_server.proofs.ListNames.{GoodNames, good-names}
 use Rattle.dap_server.proofs.Lying.{same_bytes}
 use Rattle.dap_types.specs.Limits.{most_header}
-use Rattle.dap_server.specs.Costs.{most_first, most_of_file, most_of_form, most_of_joined, most_of_lines, most_of_names}
+use Rattle.dap_server.specs.Costs.{lines_in, lines_of, most_first, most_of_file, most_of_form, most_of_joined, most_of_lines, most_of_names}
 use Rattle.dap_server.specs.Files.{Files, Form, MayHave, Stored, form_of, joined}
 use Rattle.dap_server.specs.Joins.{AreJoined, IsJoined, Lists, Member, Members, contents_in, join_cause, list_cause}
 use Rattle.dap_server.specs.Results.{File, OpensAmong}
 use Rattle.dap_server.specs.Steps.{found_or}
-use Rattle.dap_server.specs.inner.Joining.{IsJoinOf, MayOpen, most_of_size}
+use Rattle.dap_server.specs.inner.Joining.{IsJoinOf, MayOpenWithin, most_of_size}
 use Rattle.dap_server.specs.inner.Members.{AreFilesOf, AreHeadersOf, most_in_lines}
 use Rattle.dap_server.specs.inner.Opening.{IsMissing, IsRead, WhereRefused, stop_of}
 use Rattle.dap_server.specs.declared.no_answer.Stop.{Stop}
@@ -48,35 +48,45 @@ has_list : {F : Type 0} (told : Told) (name_of content : F → Option (List ℕ)
 has_list None name_of content name file bytes finds is_read = ((λ n. Some bytes), tt, refl)
 has_list (Some files) name_of content name file bytes (b, there, named, holds) is_read = (files, refl, there ∙ ap Some (sym (same_bytes (content file) bytes b holds is_read)))
 
--- ---- Why none was opened.
+-- ---- Why none was opened, and what was asked till then.
 
-no_list : (told : Told) (name : List ℕ) → form_of name ≡ Some joined → IsMissing told name → MayOpen told name (Err NoFile)
-no_list None name form is =
-    ((λ n. None), tt, inr (NoFile, sym (ap (λ o. found_or o NoFile) (ap (named_by None) form)), refl))
-no_list (Some files) name form is =
-    (files, refl, inr (NoFile, sym (ap (λ o. found_or o NoFile) (ap (named_by (files name)) form ∙ ap (λ f. named_by f (Some joined)) is)), refl))
+-- the lines of the list that was found
+pub found_lines : (files : Files) (name bytes : List ℕ) (names : Result (List (List ℕ)) ListRefusal) → files name ≡ Some bytes → list_of bytes ≡ names → lines_in files name ≡ lines_of names
+found_lines files name bytes names there l = ap (λ o. option_map_or (λ b. lines_of (list_of b)) o 0) there ∙ ap lines_of l
 
-pub missing_list : (told : Told) (name : List ℕ) (s : Stop) → form_of name ≡ Some joined → WhereRefused (λ cause. (cause ≡ NoFile) × IsMissing told name) s → WhereRefused (λ cause. MayOpen told name (Err cause)) s
-missing_list told name (Refused cause) form (is, m) = rw is (no_list told name form m)
-missing_list told name ShelfFault form x = tt
-missing_list told name Memory form x = tt
+no_list : (told : Told) (name : List ℕ) (before now : ℕ) → form_of name ≡ Some joined → now ≤ before → IsMissing told name → MayOpenWithin told name before now (Err NoFile)
+no_list None name before now form asked is =
+    ((λ n. None), tt, inr (NoFile, sym (ap (λ o. found_or o NoFile) (ap (named_by None) form)), refl), omega (arith, asked))
+no_list (Some files) name before now form asked is =
+    (files, refl, inr (NoFile, sym (ap (λ o. found_or o NoFile) (ap (named_by (files name)) form ∙ ap (λ f. named_by f (Some joined)) is)), refl), omega (arith, asked))
+
+pub missing_list : (told : Told) (name : List ℕ) (before now : ℕ) (s : Stop) → form_of name ≡ Some joined → now ≤ before → WhereRefused (λ cause. (cause ≡ NoFile) × IsMissing told name) s
+    → WhereRefused (λ cause. MayOpenWithin told name before now (Err cause)) s
+missing_list told name before now (Refused cause) form asked (is, m) = rw is (no_list told name before now form asked m)
+missing_list told name before now ShelfFault form asked x = tt
+missing_list told name before now Memory form asked x = tt
 
 -- a list that is opened stops so, behind what was found of it
-pub list_stops : {F : Type 0} (told : Told) (name_of content : F → Option (List ℕ)) (name : List ℕ) (file : F) (P : Cause → List ℕ → Type 0) (s : Stop) → form_of name ≡ Some joined
+pub list_stops : {F : Type 0} (told : Told) (name_of content : F → Option (List ℕ)) (name : List ℕ) (file : F) (before now : ℕ) (P : Cause → List ℕ → Type 0) (s : Stop) → form_of name ≡ Some joined
     → Finds told name_of content name (Some file) → ((cause : Cause) (bytes : List ℕ) → P cause bytes → IsJoined told name bytes (Err cause))
-    → WhereRefused (λ cause. (bytes : List ℕ) × IsRead (content file) bytes × P cause bytes) s → WhereRefused (λ cause. MayOpen told name (Err cause)) s
-list_stops told name_of content name file P (Refused cause) form finds stored (bytes, is_read, is) =
-    let (files, may, there) = has_list told name_of content name file bytes finds is_read in
-    (files, may, list_opens told files name bytes (Err cause) form there (stored cause bytes is))
-list_stops told name_of content name file P ShelfFault form finds stored x = tt
-list_stops told name_of content name file P Memory form finds stored x = tt
+    → ((cause : Cause) (bytes : List ℕ) → P cause bytes → now ≤ before + most_of_joined (lines_of (list_of bytes)))
+    → WhereRefused (λ cause. (bytes : List ℕ) × IsRead (content file) bytes × P cause bytes) s → WhereRefused (λ cause. MayOpenWithin told name before now (Err cause)) s
+list_stops told name_of content name file before now P (Refused cause) form finds stored asked (bytes, is_read, is) =
+    let (files, may, there) = has_list told name_of content name file bytes finds is_read in (
+      files,
+      may,
+      list_opens told files name bytes (Err cause) form there (stored cause bytes is),
+      omega (arith, asked cause bytes is, found_lines files name bytes (list_of bytes) there refl),
+    )
+list_stops told name_of content name file before now P ShelfFault form finds stored asked x = tt
+list_stops told name_of content name file before now P Memory form finds stored asked x = tt
 
-pub not_listed : {F : Type 0} (told : Told) (name_of content : F → Option (List ℕ)) (name : List ℕ) (file : F) (s : Stop) → form_of name ≡ Some joined → Finds told name_of content name (Some file)
-    → WhereRefused (λ cause. (bytes : List ℕ) × IsRead (content file) bytes × Lists bytes (Err cause)) s → WhereRefused (λ cause. MayOpen told name (Err cause)) s
-not_listed told name_of content name file s form finds is =
-    list_stops told name_of content name file (λ cause bytes. Lists bytes (Err cause)) s form finds (λ cause bytes l. inr (cause, l, refl)) is
+pub not_listed : {F : Type 0} (told : Told) (name_of content : F → Option (List ℕ)) (name : List ℕ) (file : F) (before now : ℕ) (s : Stop) → form_of name ≡ Some joined → Finds told name_of content name (Some file)
+    → now ≤ before + 65536 → WhereRefused (λ cause. (bytes : List ℕ) × IsRead (content file) bytes × Lists bytes (Err cause)) s → WhereRefused (λ cause. MayOpenWithin told name before now (Err cause)) s
+not_listed told name_of content name file before now s form finds asked is =
+    list_stops told name_of content name file before now (λ cause bytes. Lists bytes (Err cause)) s form finds (λ cause bytes l. inr (cause, l, refl)) (λ cause bytes l. omega (arith, asked)) is
 
--- the names of a list, of which something is refused
+-- the names of a list, of which something is refused, behind what was asked of them
 abbrev WithNames : (Cause → Type 0) → List (List ℕ) → Cause → List ℕ → Type 0
 WithNames P names cause bytes = (list_of bytes ≡ Ok names) × P cause
 
@@ -86,11 +96,15 @@ with_names content file names P (Refused cause) (bytes, is_read, l) is = (bytes,
 with_names content file names P ShelfFault l is = tt
 with_names content file names P Memory l is = tt
 
-pub bad_line : {F : Type 0} (told told2 : Told) (name_of content : F → Option (List ℕ)) (name : List ℕ) (file : F) (names : List (List ℕ)) (s : Stop) → form_of name ≡ Some joined
-    → Finds told name_of content name (Some file) → (bytes : List ℕ) × IsRead (content file) bytes × (list_of bytes ≡ Ok names) → told2 ≡ told
-    → WhereRefused (λ cause. Members told2 1 names (Err cause)) s → WhereRefused (λ cause. MayOpen told name (Err cause)) s
-bad_line told told2 name_of content name file names s form finds l same is =
-    list_stops told name_of content name file (WithNames (λ cause. Members told 1 names (Err cause)) names) s form finds (λ cause bytes (l, m). inl (names, l, inr (cause, m, refl)))
+asked_names : (names : List (List ℕ)) (bytes : List ℕ) (before now : ℕ) → list_of bytes ≡ Ok names → now ≤ before + most_of_joined (length names) → now ≤ before + most_of_joined (lines_of (list_of bytes))
+asked_names names bytes before now l asked = omega (arith, asked, ap lines_of l)
+
+pub bad_line : {F : Type 0} (told told2 : Told) (name_of content : F → Option (List ℕ)) (name : List ℕ) (file : F) (names : List (List ℕ)) (before now : ℕ) (s : Stop) → form_of name ≡ Some joined
+    → Finds told name_of content name (Some file) → (bytes : List ℕ) × IsRead (content file) bytes × (list_of bytes ≡ Ok names) → told2 ≡ told → now ≤ before + most_of_joined (length names)
+    → WhereRefused (λ cause. Members told2 1 names (Err cause)) s → WhereRefused (λ cause. MayOpenWithin told name before now (Err cause)) s
+bad_line told told2 name_of content name file names before now s form finds l same asked is =
+    list_stops told name_of content name file before now (WithNames (λ cause. Members told 1 names (Err cause)) names) s form finds (λ cause bytes (l, m). inl (names, l, inr (cause, m, refl)))
+    (λ cause bytes (l, m). asked_names names bytes before now l asked)
     (with_names content file names (λ cause. Members told 1 names (Err cause)) s l (subst (λ t. WhereRefused (λ cause. Members t 1 names (Err cause)) s) same is))
 
 -- what was opened of the lines
@@ -104,13 +118,13 @@ not_joined-by told name names ms headers (Refused cause) members are is = (ms, m
 not_joined-by told name names ms headers ShelfFault members are is = tt
 not_joined-by told name names ms headers Memory members are is = tt
 
-pub not_joined : {F : Type 0} (told told2 : Told) (name_of content content3 : F → Option (List ℕ)) (size3 : F → ℕ) (name : List ℕ) (file : F) (names : List (List ℕ)) (headers : List FileHeader) (fs : List F) (s : Stop)
-    → form_of name ≡ Some joined → Finds told name_of content name (Some file) → (bytes : List ℕ) × IsRead (content file) bytes × (list_of bytes ≡ Ok names) → told2 ≡ told
+pub not_joined : {F : Type 0} (told told2 : Told) (name_of content content3 : F → Option (List ℕ)) (size3 : F → ℕ) (name : List ℕ) (file : F) (names : List (List ℕ)) (headers : List FileHeader) (fs : List F) (before now : ℕ) (s : Stop)
+    → form_of name ≡ Some joined → Finds told name_of content name (Some file) → (bytes : List ℕ) × IsRead (content file) bytes × (list_of bytes ≡ Ok names) → told2 ≡ told → now ≤ before + most_of_joined (length names)
     → Lines told2 content3 size3 names headers fs → WhereRefused (λ cause. (ms : List Member) → AreHeadersOf headers ms → AreJoined name ms (Err cause)) s
-    → WhereRefused (λ cause. MayOpen told name (Err cause)) s
-not_joined told told2 name_of content content3 size3 name file names headers fs s form finds l same (ms, members, are, files) is =
-    list_stops told name_of content name file (WithNames (λ cause. (ms : List Member) × Members told 1 names (Ok ms) × AreJoined name ms (Err cause)) names) s form finds
-    (λ cause bytes (l, (ms, m, j)). inl (names, l, inl (ms, m, j)))
+    → WhereRefused (λ cause. MayOpenWithin told name before now (Err cause)) s
+not_joined told told2 name_of content content3 size3 name file names headers fs before now s form finds l same asked (ms, members, are, files) is =
+    list_stops told name_of content name file before now (WithNames (λ cause. (ms : List Member) × Members told 1 names (Ok ms) × AreJoined name ms (Err cause)) names) s form finds
+    (λ cause bytes (l, (ms, m, j)). inl (names, l, inl (ms, m, j))) (λ cause bytes (l, j). asked_names names bytes before now l asked)
     (with_names content file names (λ cause. (ms : List Member) × Members told 1 names (Ok ms) × AreJoined name ms (Err cause)) s l
     (not_joined-by told name names ms headers s (subst (λ t. Members t 1 names (Ok ms)) same members) are is))
 
@@ -252,6 +266,15 @@ pub joined_within : {F : Type 0} (told : Told) (content : F → Option (List ℕ
     → most_of_size size + most_in_lines told names ≤ most_of_joined (length fs)
 joined_within told content size_of names headers fs size (ms, members, are, files) =
     omega (arith, of_any size, lines_within told names, members_long told 1 names ms members, files_long told content size_of fs ms files)
+
+-- the list and the front of each file that a line of it has
+pub names_asked : (told : Told) (names : List (List ℕ)) (size : ℕ) → most_of_size size + most_in_lines told names ≤ most_of_joined (length names)
+names_asked told names size = omega (arith, of_any size, lines_within told names)
+
+-- as many files are joined as the list has lines
+pub join_lines : {F : Type 0} (told : Told) (content : F → Option (List ℕ)) (size_of : F → ℕ) (name : List ℕ) (j : Joined) (fs : List F) (is : IsJoinOf told content size_of name j fs) → lines_in is.files name ≡ length fs
+join_lines told content size_of name j fs is =
+    found_lines is.files name is.bytes (Ok is.names) is.there is.lists ∙ sym (members_long told 1 is.names is.ms is.members) ∙ sym (files_long told content size_of fs is.ms is.are_files)
 
 -- ---- The stops of refusals.
 

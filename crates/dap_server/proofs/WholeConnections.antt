@@ -1,5 +1,5 @@
 -- A connection on which no fault came and memory was had answers all requests of its input.
-use Rattle.std.proofs.Common.{◌≡◌, ◌≢◌, ℕ, zero, suc, ◌+◌, Bool, false, true, ◌||◌, List, [], ◌∷◌, ◌++◌, length, map, Option, Some, IsTrue, Result, Ok, Err, refl, sym, ap, ◌∙◌, subst, arith, append-nil, length-append, inl, inr}
+use Rattle.std.proofs.Common.{◌≡◌, ◌≢◌, ℕ, zero, suc, ◌+◌, Bool, false, true, ◌||◌, List, [], ◌∷◌, ◌++◌, length, map, Option, Some, IsTrue, Result, Ok, Err, refl, sym, ap, ◌∙◌, subst, arith, append-nil, inl, inr}
 use Rattle.std.proofs.lemmas.Bool.{true≢false}
 use Rattle.std.specs.Io.KnownBytes.{Appends, Consumes, IsAtEnd}
 use Rattle.dap_server.proofs.Ends.{no-bad}
@@ -8,7 +8,7 @@ use Rattle.httparse.specs.Grammar.{RequestHead}
 use Rattle.dap_errors.specs.Causes.{http_status}
 use Rattle.dap_errors.specs.declared.cause.Cause.{Cause}
 use Rattle.dap_errors.specs.declared.cause.Cause.TheVariants.{OutOfMemory}
-use Rattle.dap_http.specs.Requests.{FirstRequest, HasNoRequest, IsGone, IsTooLong, Requests, ends_connection}
+use Rattle.dap_http.specs.Requests.{FirstRequest, HasNoRequest, IsGone, Requests, ends_connection}
 use Rattle.dap_http.proofs.HeadReading.{too-long-still, long-still, bad-still}
 use Rattle.dap_outside.specs.Causes.{Rose}
 use Rattle.dap_outside.specs.Files.{Told}

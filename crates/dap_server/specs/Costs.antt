@@ -42,6 +42,19 @@ asks_shelf a = is_of_file a.kind && is_some (form_of a.name)
 abbrev pub most_of_joined : ℕ → ℕ
 most_of_joined count = most_piece + count * most_header
 
+-- the lines of a list, none of one that is refused
+abbrev pub lines_of : Result (List (List ℕ)) ListRefusal → ℕ
+lines_of (Ok names) = length names
+lines_of (Err refusal) = 0
+
+-- the lines of the list of a name, none where no file has it
+abbrev pub lines_in : Files → List ℕ → ℕ
+lines_in files name = option_map_or (λ bytes. lines_of (list_of bytes)) (files name) 0
+
+-- of this list and of the front of a file for each of its lines no more was asked than there is at most
+abbrev pub IsWithinLines : Files → List ℕ → ℕ → ℕ → Type 0
+IsWithinLines files name before now = now ≤ before + most_of_joined (lines_in files name)
+
 -- where a list is refused by itself or by a line, so many lines' files were read: none, those before a line that
 -- names none, and that of a line whose file has no header with them
 abbrev pub IsBehindLines : Cause → ℕ → Type 0

@@ -10,7 +10,7 @@ use Rattle.join_source.specs.Pieces.{AreTold}
 use Rattle.join_source.specs.declared.body.JoinBody.{JoinBody}
 use Rattle.saved_source.specs.declared.body.SavedBody.{SavedBody}
 use Rattle.xdr_encode.specs.declared.body.Body.{Body}
-use Rattle.dap_server.specs.Costs.{IsCost, IsCostAt}
+use Rattle.dap_server.specs.Costs.{IsCost, IsCostAt, IsWithinLines}
 use Rattle.dap_server.specs.Files.{Files, MayHave, form_of, is_read_first, joined}
 use Rattle.dap_server.specs.Results.{AnswersAmong, Text, result_text}
 use Rattle.dap_server.specs.declared.prepared.Prepared.{Prepared}
@@ -19,6 +19,12 @@ use Rattle.dap_server.specs.declared.prepared.Prepared.TheVariants as prepared
 -- the files that the shelf may have answer so
 abbrev pub MayGive : Told → Asked → Result Text Cause → Type 0
 MayGive told a answer = (files : Files) × MayHave told files × AnswersAmong told a.kind files a.name a.query answer
+
+-- The files that the shelf may have answer so, and of the list that they have by this name, and of the files that it
+-- lists, no more was asked than what it has lines for.
+abbrev pub MayGiveWithin : Told → Asked → ℕ → ℕ → Result Text Cause → Type 0
+MayGiveWithin told a before now answer =
+    (files : Files) × MayHave told files × AnswersAmong told a.kind files a.name a.query answer × IsWithinLines files a.name before now
 
 -- all files that it may have answer so
 abbrev pub MustGive : Told → Asked → Result Text Cause → Type 0
@@ -91,6 +97,16 @@ WhereNoShelfFault (prepared.Joined b files) P = P
 WhereNoShelfFault (prepared.Refuse cause) P = P
 WhereNoShelfFault prepared.ShelfFault P = ⊤
 WhereNoShelfFault prepared.Memory P = P
+
+-- by the answer of files that are joined, whose data response has some text
+abbrev pub WhereOfList : {F : Type 0} → Prepared F → (Result Text Cause → Type 0) → Type 0
+WhereOfList (prepared.Text kind text) P = P (Ok (result_text kind text))
+WhereOfList (prepared.Joined b files) P = (text : List ℕ) × P (Ok (result_text Dods text))
+WhereOfList (prepared.Refuse cause) P = P (Err cause)
+WhereOfList (prepared.Body b file) P = ⊤
+WhereOfList (prepared.Saved b) P = ⊤
+WhereOfList prepared.ShelfFault P = ⊤
+WhereOfList prepared.Memory P = ⊤
 
 -- it is this answer, unless the shelf failed or memory was wanted
 abbrev pub IsFor : {F : Type 0} → Result Text Cause → Prepared F → Type 0

@@ -4,9 +4,10 @@ ghost use Rattle.std.specs.Prelude.{◌≡◌, ◌≢◌, ◌+◌, ◌≤◌, �
 ghost use Rattle.dap_outside.specs.Causes.{Rose};
 ghost use Rattle.dap_server.specs.Costs.{IsAskedBefore, most_first};
 ghost use Rattle.dap_server.specs.Files.{form_of, is_joined, joined};
+ghost use Rattle.dap_server.specs.Prepared.{MayGiveWithin};
 ghost use Rattle.dap_server.specs.Results.{result_text};
 ghost use Rattle.dap_server.specs.inner.Opening.{StaysBut, WhereFault, WhereRefused};
-ghost use Rattle.dap_server.specs.inner.Preparing.{MayGiveAs};
+ghost use Rattle.dap_server.specs.inner.Preparing.{MayGiveAs, asked_as};
 
 use crate::answers_by_kind::{das_answer, dds_answer};
 use crate::joined_answers_by_kind::{joined_das, joined_dds};
@@ -40,6 +41,8 @@ pub fn das_by_form<S: Shelf>(alloc: Global, shelf: &mut S, name: &str) -> Result
     ensures files { S.files shelf.new ≡ S.files shelf.old }
     ensures asked { S.asked shelf.new ≤ S.asked shelf.old + most_first (S.files shelf.old) name.now }
     ensures asked_before { form_of name.now ≡ Some joined → IfErr result (WhereRefused (λ why. IsAskedBefore why (S.asked shelf.old) (S.asked shelf.new))) }
+    ensures list_text { form_of name.now ≡ Some joined → IfOk result (λ text. (query : List ℕ) → MayGiveWithin (S.files shelf.old) (asked_as Kind.Das name.now query) (S.asked shelf.old) (S.asked shelf.new) (Ok (result_text Kind.Das text))) }
+    ensures list_refused { form_of name.now ≡ Some joined → IfErr result (WhereRefused (λ why. (query : List ℕ) → MayGiveWithin (S.files shelf.old) (asked_as Kind.Das name.now query) (S.asked shelf.old) (S.asked shelf.new) (Err why))) }
     ensures untouched { form_of name.now ≡ None → shelf.new ≡ shelf.old }
 {
     if is_list(name) {
@@ -63,6 +66,8 @@ pub fn dds_by_form<S: Shelf>(
     ensures files { S.files shelf.new ≡ S.files shelf.old }
     ensures asked { S.asked shelf.new ≤ S.asked shelf.old + most_first (S.files shelf.old) name.now }
     ensures asked_before { form_of name.now ≡ Some joined → IfErr result (WhereRefused (λ why. IsAskedBefore why (S.asked shelf.old) (S.asked shelf.new))) }
+    ensures list_text { form_of name.now ≡ Some joined → IfOk result (λ text. MayGiveWithin (S.files shelf.old) (asked_as Kind.Dds name.now query.now) (S.asked shelf.old) (S.asked shelf.new) (Ok (result_text Kind.Dds text))) }
+    ensures list_refused { form_of name.now ≡ Some joined → IfErr result (WhereRefused (λ why. MayGiveWithin (S.files shelf.old) (asked_as Kind.Dds name.now query.now) (S.asked shelf.old) (S.asked shelf.new) (Err why))) }
     ensures untouched { form_of name.now ≡ None → shelf.new ≡ shelf.old }
 {
     if is_list(name) {

@@ -10,7 +10,7 @@ ghost use Rattle.join_source.specs.Members.{CanJoin, contents_of};
 ghost use Rattle.dap_server.specs.Costs.{IsAskedBefore, most_first, most_of_joined};
 ghost use Rattle.dap_server.specs.Files.{form_of, joined};
 ghost use Rattle.dap_server.specs.Joins.{AreJoined, Lists, Member, contents_in, join_cause, list_cause};
-ghost use Rattle.dap_server.specs.inner.Joining.{IsJoinOf, MayOpen, most_of_size};
+ghost use Rattle.dap_server.specs.inner.Joining.{IsJoinOf, MayOpenWithin, most_of_size};
 ghost use Rattle.dap_server.specs.inner.Members.{AreHeadersOf};
 ghost use Rattle.dap_server.specs.inner.Opening.{IsRead, StaysBut, WhereFault, WhereRefused, stop_of};
 
@@ -109,7 +109,7 @@ pub fn open_joined<S: Shelf>(
 ) -> Result<(Joined, List<S::File>), Stop>
     requires form { form_of name.now ≡ Some joined }
     ensures opened { IfOk result (λ p. IsJoinOf (S.files shelf.old) (S.content shelf.new) (S.size_of shelf.new) name.now p.0 p.1) }
-    ensures refused { IfErr result (WhereRefused (λ cause. MayOpen (S.files shelf.old) name.now (Err cause))) }
+    ensures refused { IfErr result (WhereRefused (λ cause. MayOpenWithin (S.files shelf.old) name.now (S.asked shelf.old) (S.asked shelf.new) (Err cause))) }
     ensures why { IfErr result (WhereFault (Rose (S.faults shelf.old) (S.faults shelf.new))) }
     ensures later { S.faults shelf.old ≤ S.faults shelf.new }
     ensures stays { StaysBut result (S.faults shelf.old) (S.faults shelf.new) }

@@ -8,7 +8,7 @@ ghost use Rattle.dap_outside.specs.Files.{IsBytes};
 ghost use Rattle.xdr_encode.specs.Bodies.{FitsFile, HasNoFile, MayAsk, cost_in, text_in};
 ghost use Rattle.dap_server.specs.Costs.{IsAskedBefore, IsCost, IsCostAt, asks_shelf, most_first, most_of_joined};
 ghost use Rattle.dap_server.specs.Files.{form_of, is_read_first, joined, saved};
-ghost use Rattle.dap_server.specs.Prepared.{IsFor, IsJoinedFor, IsOver, MayGive, MustGive, WhereBody, WhereJoined, WhereNoShelfFault, WhereRefuse, WhereSaved, WhereShelfFault, WhereText};
+ghost use Rattle.dap_server.specs.Prepared.{IsFor, IsJoinedFor, IsOver, MayGive, MayGiveWithin, MustGive, WhereBody, WhereJoined, WhereNoShelfFault, WhereOfList, WhereRefuse, WhereSaved, WhereShelfFault, WhereText};
 ghost use Rattle.saved_source.specs.Bodies.{Sends};
 ghost use Rattle.dap_server.specs.Results.{Text, result_text};
 ghost use Rattle.dap_server.specs.inner.Preparing.{IsMade, asked_as, body_prepared, data_prepared, join_prepared, stopped, text_prepared};
@@ -94,6 +94,7 @@ fn data_answer<R: Threads + Sync, S: Shelf>(
     ensures asked { S.asked shelf.new ≤ S.asked shelf.old + most_first (S.files shelf.old) name.now }
     ensures asked_before { form_of name.now ≡ Some joined → WhereRefuse result (λ cause. IsAskedBefore cause (S.asked shelf.old) (S.asked shelf.new)) }
     ensures asked_lines { WhereJoined result (λ body files. S.asked shelf.new ≤ S.asked shelf.old + most_of_joined (length files)) }
+    ensures of_list { form_of name.now ≡ Some joined → WhereOfList result (MayGiveWithin (S.files shelf.old) (asked_as Kind.Dods name.now query.now) (S.asked shelf.old) (S.asked shelf.new)) }
     ensures untouched { form_of name.now ≡ None → shelf.new ≡ shelf.old }
 {
     if is_list(name) {
@@ -124,6 +125,7 @@ fn answer_of<R: Threads + Sync, S: Shelf>(
     ensures asked { S.asked shelf.new ≤ S.asked shelf.old + most_first (S.files shelf.old) target.now.name }
     ensures asked_before { form_of target.now.name ≡ Some joined → WhereRefuse result (λ cause. IsAskedBefore cause (S.asked shelf.old) (S.asked shelf.new)) }
     ensures asked_lines { WhereJoined result (λ body files. S.asked shelf.new ≤ S.asked shelf.old + most_of_joined (length files)) }
+    ensures of_list { form_of target.now.name ≡ Some joined → WhereOfList result (MayGiveWithin (S.files shelf.old) (asked_of target.now) (S.asked shelf.old) (S.asked shelf.new)) }
     ensures untouched { asks_shelf (asked_of target.now) ≡ false → shelf.new ≡ shelf.old }
 {
     let name = target.name.as_str();
@@ -187,7 +189,11 @@ pub fn prepare<R: Threads + Sync, S: Shelf>(
     ensures files { S.files shelf.new ≡ S.files shelf.old }
     ensures asked { S.asked shelf.new ≤ S.asked shelf.old + most_first (S.files shelf.old) target.now.name }
 
-    // Of joined files no more than their list and the front of each, also where the shelf tells no files.
+    // Of a list no more than its bytes and the front of a file for each of its lines, also where the shelf tells no
+    // files: then the list is one that it may have, with which this is the answer.
+    ensures of_list { form_of target.now.name ≡ Some joined → WhereOfList result (MayGiveWithin (S.files shelf.old) (asked_of target.now) (S.asked shelf.old) (S.asked shelf.new)) }
+
+    // Of joined files no more than their list and the front of each.
     ensures asked_lines { WhereJoined result (λ body files. S.asked shelf.new ≤ S.asked shelf.old + most_of_joined (length files)) }
 
     // Where a line of a list is told, its list and the front of each file up to that line.

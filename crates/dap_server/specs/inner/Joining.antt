@@ -7,6 +7,7 @@ use Rattle.join_source.specs.Joins.{headers_in, name_in}
 use Rattle.join_source.specs.Lists.{list_of}
 use Rattle.join_source.specs.Members.{CanJoin}
 use Rattle.join_source.specs.declared.joined.Joined.{Joined}
+use Rattle.dap_server.specs.Costs.{IsWithinLines}
 use Rattle.dap_server.specs.Files.{Files, MayHave, Stored}
 use Rattle.dap_server.specs.Joins.{Member, Members, contents_in}
 use Rattle.dap_server.specs.Results.{OpensAmong}
@@ -15,6 +16,10 @@ use Rattle.dap_server.specs.inner.Members.{AreFilesOf, AreHeadersOf}
 -- files that the shelf may have are opened so
 abbrev pub MayOpen : Told → List ℕ → Result Stored Cause → Type 0
 MayOpen told name r = (files : Files) × MayHave told files × OpensAmong told files name r
+
+-- and no more was asked than what their list of this name has lines for
+abbrev pub MayOpenWithin : Told → List ℕ → ℕ → ℕ → Result Stored Cause → Type 0
+MayOpenWithin told name before now r = (files : Files) × MayHave told files × OpensAmong told files name r × IsWithinLines files name before now
 
 -- These files of a shelf are those that a list of this name joins, which the shelf may have.
 pub record IsJoinOf {F : Type 0} (told : Told) (content : F → Option (List ℕ)) (size_of : F → ℕ) (name : List ℕ) (j : Joined) (joined_files : List F) : Type 0 where

@@ -1,4 +1,5 @@
 use Rattle.std.proofs.Common.{sym, ◌∙◌}
+use Rattle.dap_server.proofs.JoinsGiven.{for_err, for_ok}
 use Rattle.dap_server.proofs.JoinsMade.{with_form}
 use Rattle.dap_server.proofs.ListForms.{list_form, no_list_form, not_formless}
 use Rattle.dap_server.specs.Files.{form_of}
@@ -21,3 +22,21 @@ returns-then-is_list-clause-asked_before g c = λ form. c.joined_dds.ensures.ask
 
 pub returns-clause-asked_before : goal.returns-clause-asked_before
 returns-clause-asked_before g c = λ form. absurd (no_list_form (form_of c.args.name.now) (sym c.is_list.ensures ∙ c.if-is_list.false) form)
+
+pub returns-then-is_list-clause-text : goal.returns-then-is_list-clause-text
+returns-then-is_list-clause-text g c = for_ok (λ text (files, may, answers, asked). (files, may, answers)) c.joined_dds.result c.joined_dds.ensures.text
+
+pub returns-then-is_list-clause-refused : goal.returns-then-is_list-clause-refused
+returns-then-is_list-clause-refused g c = for_err (λ why (files, may, answers, asked). (files, may, answers)) c.joined_dds.result c.joined_dds.ensures.refused
+
+pub returns-then-is_list-clause-list_text : goal.returns-then-is_list-clause-list_text
+returns-then-is_list-clause-list_text g c = λ form. c.joined_dds.ensures.text
+
+pub returns-then-is_list-clause-list_refused : goal.returns-then-is_list-clause-list_refused
+returns-then-is_list-clause-list_refused g c = λ form. c.joined_dds.ensures.refused
+
+pub returns-clause-list_text : goal.returns-clause-list_text
+returns-clause-list_text g c = λ form. absurd (no_list_form (form_of c.args.name.now) (sym c.is_list.ensures ∙ c.if-is_list.false) form)
+
+pub returns-clause-list_refused : goal.returns-clause-list_refused
+returns-clause-list_refused g c = λ form. absurd (no_list_form (form_of c.args.name.now) (sym c.is_list.ensures ∙ c.if-is_list.false) form)

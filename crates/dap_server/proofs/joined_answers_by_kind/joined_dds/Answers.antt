@@ -6,23 +6,24 @@ use Rattle.dap_server.proofs.Making as making
 use Rattle.dap_server.proofs.Refusals.{dds-no-line}
 use Rattle.join_source.specs.Joins.{members_in, name_in}
 use Rattle.dap_server.specs.Joins.{stored_together}
+use Rattle.dap_server.specs.Prepared.{MayGiveWithin}
 use Rattle.dap_server.specs.Results.{DdsAnswers, result_text}
 use Rattle.dap_server.specs.inner.Opening.{WhereRefused}
-use Rattle.dap_server.specs.inner.Preparing.{MayGiveAs}
+use Rattle.dap_server.specs.inner.Preparing.{asked_as}
 use Rattle.dap_server.proofs.joined_answers_by_kind.joined_dds.Goals as goal
 
 pub returns-clause-text : goal.returns-clause-text
 returns-clause-text g c =
-    given.follows_ok _ _ _ c.args.name.now c.in_ok-joined.joined _ c.requires.form c.in_ok-joined.ensures.opened (λ s. DdsAnswers s c.args.query.now) (result_text Dds) c.joined_dds_text.result c.joined_dds_text.ensures.text
+    given.follows_ok _ _ _ c.args.name.now c.in_ok-joined.joined _ c.requires.form c.in_ok-joined.ensures.opened _ _ c.in_ok-joined.ensures.asked_lines (λ s. DdsAnswers s c.args.query.now) (result_text Dds) c.joined_dds_text.result c.joined_dds_text.ensures.text
 
 pub returns-clause-refused : goal.returns-clause-refused
 returns-clause-refused g c =
-    given.follows_err _ _ _ c.args.name.now c.in_ok-joined.joined _ c.requires.form c.in_ok-joined.ensures.opened (λ s. DdsAnswers s c.args.query.now) c.joined_dds_text.result c.joined_dds_text.ensures.refused
+    given.follows_err _ _ _ c.args.name.now c.in_ok-joined.joined _ c.requires.form c.in_ok-joined.ensures.opened _ _ c.in_ok-joined.ensures.asked_lines (λ s. DdsAnswers s c.args.query.now) c.joined_dds_text.result c.joined_dds_text.ensures.refused
 
 pub returns-in_err-joined-clause-refused : goal.returns-in_err-joined-clause-refused
 returns-in_err-joined-clause-refused g c =
-    let stop : WhereRefused (λ why. MayGiveAs (g.S.Shelf.files c.args.shelf.now) Dds c.args.name.now c.args.query.now (Err why)) c.in_err-joined.field-0.0 =
-    making.stops _ c.args.name.now (λ s. DdsAnswers s c.args.query.now) c.in_err-joined.field-0.0 c.in_err-joined.ensures.refused in
+    let stop : WhereRefused (λ why. MayGiveWithin (g.S.Shelf.files c.args.shelf.now) (asked_as Dds c.args.name.now c.args.query.now) (g.S.Shelf.asked c.args.shelf.now) (g.S.Shelf.asked c.open_joined.new.shelf) (Err why)) c.in_err-joined.field-0.0 =
+    given.stops_within _ c.args.name.now _ _ (λ s. DdsAnswers s c.args.query.now) c.in_err-joined.field-0.0 c.in_err-joined.ensures.refused in
     search (rules, stop)
 
 pub returns-clause-why : goal.returns-clause-why

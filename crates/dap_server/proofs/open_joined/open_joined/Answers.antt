@@ -3,9 +3,9 @@ use Rattle.dap_server.proofs.AskedBefore as before
 use Rattle.dap_server.proofs.JoinedSending.{for_refused}
 use Rattle.dap_server.proofs.ListNames.{AreNames}
 use Rattle.dap_server.proofs.OpeningLists as opening
-use Rattle.dap_server.specs.Costs.{IsAskedBefore}
+use Rattle.dap_server.specs.Costs.{IsAskedBefore, most_of_joined}
 use Rattle.dap_server.specs.Joins.{Members}
-use Rattle.dap_server.specs.inner.Joining.{MayOpen, most_of_size}
+use Rattle.dap_server.specs.inner.Joining.{MayOpenWithin, most_of_size}
 use Rattle.dap_server.specs.inner.Members.{most_in_lines}
 use Rattle.dap_server.specs.inner.Opening.{WhereRefused}
 use Rattle.dap_server.proofs.open_joined.open_joined.Goals as goal
@@ -28,31 +28,42 @@ joined_of-requires-clause-many g c =
 
 pub returns-in_err-list-clause-refused : goal.returns-in_err-list-clause-refused
 returns-in_err-list-clause-refused g c =
-    let stop : WhereRefused (λ cause. MayOpen (g.S.Shelf.files c.args.shelf.now) c.args.name.now (Err cause)) c.in_err-list.field-0.0 =
-    opening.missing_list _ c.args.name.now c.in_err-list.field-0.0 c.requires.form c.in_err-list.ensures.refused in
+    let none : g.S.Shelf.asked c.find.new.shelf ≤ g.S.Shelf.asked c.args.shelf.now = omega (arith, c.in_err-list.ensures.asked) in
+    let stop : WhereRefused (λ cause. MayOpenWithin (g.S.Shelf.files c.args.shelf.now) c.args.name.now (g.S.Shelf.asked c.args.shelf.now) (g.S.Shelf.asked c.find.new.shelf) (Err cause)) c.in_err-list.field-0.0 =
+    opening.missing_list _ c.args.name.now _ _ c.in_err-list.field-0.0 c.requires.form none c.in_err-list.ensures.refused in
     search (rules, stop)
 
 pub returns-in_err-names-clause-refused : goal.returns-in_err-names-clause-refused
 returns-in_err-names-clause-refused g c =
-    let stop : WhereRefused (λ cause. MayOpen (g.S.Shelf.files c.args.shelf.now) c.args.name.now (Err cause)) c.in_err-names.field-0.0 =
-    opening.not_listed (g.S.Shelf.files c.args.shelf.now) (g.S.Shelf.name_of c.find.new.shelf) (g.S.Shelf.content c.find.new.shelf) c.args.name.now c.in_ok-list.list c.in_err-names.field-0.0 c.requires.form c.in_ok-list.ensures.found
-    c.in_err-names.ensures.refused in
+    let listed : g.S.Shelf.asked c.open_list.new.shelf ≤ g.S.Shelf.asked c.args.shelf.now + 65536 =
+    omega (arith, opening.of_any (g.S.Shelf.size_of c.find.new.shelf c.in_ok-list.list), c.in_err-names.ensures.asked, c.in_ok-list.ensures.asked) in
+    let stop : WhereRefused (λ cause. MayOpenWithin (g.S.Shelf.files c.args.shelf.now) c.args.name.now (g.S.Shelf.asked c.args.shelf.now) (g.S.Shelf.asked c.open_list.new.shelf) (Err cause)) c.in_err-names.field-0.0 =
+    opening.not_listed (g.S.Shelf.files c.args.shelf.now) (g.S.Shelf.name_of c.find.new.shelf) (g.S.Shelf.content c.find.new.shelf) c.args.name.now c.in_ok-list.list _ _ c.in_err-names.field-0.0 c.requires.form c.in_ok-list.ensures.found
+    listed c.in_err-names.ensures.refused in
     search (rules, stop)
 
 pub returns-in_err-members-clause-refused : goal.returns-in_err-members-clause-refused
 returns-in_err-members-clause-refused g c =
-    let stop : WhereRefused (λ cause. MayOpen (g.S.Shelf.files c.args.shelf.now) c.args.name.now (Err cause)) c.in_err-members.field-0.0 =
-    opening.bad_line (g.S.Shelf.files c.args.shelf.now) (g.S.Shelf.files c.open_list.new.shelf) (g.S.Shelf.name_of c.find.new.shelf) (g.S.Shelf.content c.find.new.shelf) c.args.name.now c.in_ok-list.list c.in_ok-names.names c.in_err-members.field-0.0
-    c.requires.form c.in_ok-list.ensures.found c.in_ok-names.ensures.names (c.in_ok-names.ensures.files ∙ c.in_ok-list.ensures.files)
+    let lines = ap (most_in_lines (g.S.Shelf.files c.open_list.new.shelf)) c.items.ensures in
+    let most = opening.names_asked (g.S.Shelf.files c.open_list.new.shelf) c.in_ok-names.names (g.S.Shelf.size_of c.find.new.shelf c.in_ok-list.list) in
+    let asked : g.S.Shelf.asked c.open_members.new.shelf ≤ g.S.Shelf.asked c.args.shelf.now + most_of_joined (length c.in_ok-names.names) =
+    omega (arith, most, lines, c.in_err-members.ensures.asked, c.in_ok-names.ensures.asked, c.in_ok-list.ensures.asked) in
+    let stop : WhereRefused (λ cause. MayOpenWithin (g.S.Shelf.files c.args.shelf.now) c.args.name.now (g.S.Shelf.asked c.args.shelf.now) (g.S.Shelf.asked c.open_members.new.shelf) (Err cause)) c.in_err-members.field-0.0 =
+    opening.bad_line (g.S.Shelf.files c.args.shelf.now) (g.S.Shelf.files c.open_list.new.shelf) (g.S.Shelf.name_of c.find.new.shelf) (g.S.Shelf.content c.find.new.shelf) c.args.name.now c.in_ok-list.list c.in_ok-names.names _ _ c.in_err-members.field-0.0
+    c.requires.form c.in_ok-list.ensures.found c.in_ok-names.ensures.names (c.in_ok-names.ensures.files ∙ c.in_ok-list.ensures.files) asked
     (subst (λ ns. WhereRefused (λ cause. Members (g.S.Shelf.files c.open_list.new.shelf) 1 ns (Err cause)) c.in_err-members.field-0.0) c.items.ensures c.in_err-members.ensures.refused) in
     search (rules, stop)
 
 pub returns-in_err-joined-clause-refused : goal.returns-in_err-joined-clause-refused
 returns-in_err-joined-clause-refused g c =
-    let stop : WhereRefused (λ cause. MayOpen (g.S.Shelf.files c.args.shelf.now) c.args.name.now (Err cause)) c.in_err-joined.field-0.0 =
+    let lines = ap (most_in_lines (g.S.Shelf.files c.open_list.new.shelf)) c.items.ensures in
+    let most = opening.names_asked (g.S.Shelf.files c.open_list.new.shelf) c.in_ok-names.names (g.S.Shelf.size_of c.find.new.shelf c.in_ok-list.list) in
+    let asked : g.S.Shelf.asked c.open_members.new.shelf ≤ g.S.Shelf.asked c.args.shelf.now + most_of_joined (length c.in_ok-names.names) =
+    omega (arith, most, lines, c.in_ok-members.ensures.asked, c.in_ok-names.ensures.asked, c.in_ok-list.ensures.asked) in
+    let stop : WhereRefused (λ cause. MayOpenWithin (g.S.Shelf.files c.args.shelf.now) c.args.name.now (g.S.Shelf.asked c.args.shelf.now) (g.S.Shelf.asked c.open_members.new.shelf) (Err cause)) c.in_err-joined.field-0.0 =
     opening.not_joined (g.S.Shelf.files c.args.shelf.now) (g.S.Shelf.files c.open_list.new.shelf) (g.S.Shelf.name_of c.find.new.shelf) (g.S.Shelf.content c.find.new.shelf) (g.S.Shelf.content c.open_members.new.shelf)
-    (g.S.Shelf.size_of c.open_members.new.shelf) c.args.name.now c.in_ok-list.list c.in_ok-names.names c.in_ok-members.members.headers c.in_ok-members.members.files c.in_err-joined.field-0.0
-    c.requires.form c.in_ok-list.ensures.found c.in_ok-names.ensures.names (c.in_ok-names.ensures.files ∙ c.in_ok-list.ensures.files)
+    (g.S.Shelf.size_of c.open_members.new.shelf) c.args.name.now c.in_ok-list.list c.in_ok-names.names c.in_ok-members.members.headers c.in_ok-members.members.files _ _ c.in_err-joined.field-0.0
+    c.requires.form c.in_ok-list.ensures.found c.in_ok-names.ensures.names (c.in_ok-names.ensures.files ∙ c.in_ok-list.ensures.files) asked
     (subst (λ ns. opening.Lines (g.S.Shelf.files c.open_list.new.shelf) (g.S.Shelf.content c.open_members.new.shelf) (g.S.Shelf.size_of c.open_members.new.shelf) ns c.in_ok-members.members.headers c.in_ok-members.members.files) c.items.ensures c.in_ok-members.ensures.members)
     c.in_err-joined.ensures.refused in
     search (rules, stop)

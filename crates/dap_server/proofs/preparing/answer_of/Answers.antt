@@ -1,7 +1,8 @@
 use Rattle.dap_http.specs.declared.kind.Kind.TheVariants.{Das, Dds, Dods, Ver}
 use Rattle.std.proofs.Common.{◌∙◌, ap, refl}
 use Rattle.dap_server.proofs.AskedBefore.{text_refuses}
-use Rattle.dap_server.proofs.JoinsMade.{made_for, text_no_files}
+use Rattle.dap_server.proofs.JoinsGiven.{for_err, for_ok, version_within}
+use Rattle.dap_server.proofs.JoinsMade.{list_asked, list_told, made_for, text_no_files}
 use Rattle.dap_server.proofs.Making as making
 use Rattle.dap_server.specs.Costs.{IsAskedBefore}
 use Rattle.dap_server.specs.Files.{form_of}
@@ -79,3 +80,29 @@ returns-in-Dds-clause-asked_before g c = λ form.
 
 pub returns-in-Dods-clause-asked_before : goal.returns-in-Dods-clause-asked_before
 returns-in-Dods-clause-asked_before g c = λ form. c.data_answer.ensures.asked_before (ap form_of c.as_str-name.ensures ∙ form)
+
+pub returns-in-Ver-clause-of_list : goal.returns-in-Ver-clause-of_list
+returns-in-Ver-clause-of_list g c = λ form.
+    list_asked _ c.args.target.now Ver c.as_str-name.result.now c.bytes-query.result.now _ _ c.text_prepared.result c.in-Ver.is c.as_str-name.ensures c.bytes-query.ensures
+    (list_told _ Ver c.version_answer.result c.text_prepared.result c.text_prepared.ensures
+    (version_within (g.S.Shelf.files c.args.shelf.now) c.as_str-name.result.now c.bytes-query.result.now _ c.version_answer.result c.version_answer.ensures.text)
+    (making.no_refusal c.version_answer.result _ c.version_answer.ensures.refused))
+
+pub returns-in-Das-clause-of_list : goal.returns-in-Das-clause-of_list
+returns-in-Das-clause-of_list g c = λ form.
+    list_asked _ c.args.target.now Das c.as_str-name.result.now c.bytes-query.result.now _ _ c.text_prepared-in-Das.result c.in-Das.is c.as_str-name.ensures c.bytes-query.ensures
+    (list_told _ Das c.das_by_form.result c.text_prepared-in-Das.result c.text_prepared-in-Das.ensures
+    (for_ok (λ text given. given c.bytes-query.result.now) c.das_by_form.result (c.das_by_form.ensures.list_text (ap form_of c.as_str-name.ensures ∙ form)))
+    (for_err (λ why given. given c.bytes-query.result.now) c.das_by_form.result (c.das_by_form.ensures.list_refused (ap form_of c.as_str-name.ensures ∙ form))))
+
+pub returns-in-Dds-clause-of_list : goal.returns-in-Dds-clause-of_list
+returns-in-Dds-clause-of_list g c = λ form.
+    list_asked _ c.args.target.now Dds c.as_str-name.result.now c.bytes-query.result.now _ _ c.text_prepared-in-Dds.result c.in-Dds.is c.as_str-name.ensures c.bytes-query.ensures
+    (list_told _ Dds c.dds_by_form.result c.text_prepared-in-Dds.result c.text_prepared-in-Dds.ensures
+    (c.dds_by_form.ensures.list_text (ap form_of c.as_str-name.ensures ∙ form))
+    (c.dds_by_form.ensures.list_refused (ap form_of c.as_str-name.ensures ∙ form)))
+
+pub returns-in-Dods-clause-of_list : goal.returns-in-Dods-clause-of_list
+returns-in-Dods-clause-of_list g c = λ form.
+    list_asked _ c.args.target.now Dods c.as_str-name.result.now c.bytes-query.result.now _ _ c.data_answer.result c.in-Dods.is c.as_str-name.ensures c.bytes-query.ensures
+    (c.data_answer.ensures.of_list (ap form_of c.as_str-name.ensures ∙ form))

@@ -1,6 +1,7 @@
 use Rattle.std.proofs.Common.{◌∙◌, ◌+◌, ◌≤◌, length, sym}
 use Rattle.dap_server.proofs.AskedBefore.{join_refuses}
-use Rattle.dap_server.proofs.JoinsMade.{body_no_files, join_files, join_made, join_stays, with_form}
+use Rattle.dap_server.proofs.JoinsGiven.{for_err}
+use Rattle.dap_server.proofs.JoinsMade.{body_no_files, join_files, join_made, join_stays, list_given, with_form}
 use Rattle.dap_server.proofs.ListForms.{list_form, no_list_form, not_formless}
 use Rattle.dap_server.proofs.Making as making
 use Rattle.dap_server.specs.Costs.{IsAskedBefore, most_of_joined}
@@ -15,7 +16,8 @@ dods_answer-requires-clause-no_list g c lifetimes outlive = no_list_form (form_o
 
 pub returns-then-is_list-clause-made : goal.returns-then-is_list-clause-made
 returns-then-is_list-clause-made g c =
-    join_made (g.S.Shelf.files c.args.shelf.now) _ _ c.args.name.now c.args.query.now _ c.joined_dods.result c.join_prepared.result c.join_prepared.ensures c.joined_dods.ensures.body c.joined_dods.ensures.refused
+    join_made (g.S.Shelf.files c.args.shelf.now) _ _ c.args.name.now c.args.query.now _ c.joined_dods.result c.join_prepared.result c.join_prepared.ensures c.joined_dods.ensures.body
+    (for_err (λ why (files, may, answers, asked). (files, may, answers)) c.joined_dods.result c.joined_dods.ensures.refused)
     (with_form (form_of c.args.name.now) _ c.joined_dods.result (list_form (form_of c.args.name.now) (sym c.is_list.ensures ∙ c.if-is_list.true)) c.joined_dods.ensures.why)
 
 pub returns-then-is_list-clause-kept : goal.returns-then-is_list-clause-kept
@@ -46,3 +48,9 @@ returns-then-is_list-clause-asked_before g c = λ form.
 
 pub returns-clause-asked_before : goal.returns-clause-asked_before
 returns-clause-asked_before g c = λ form. absurd (no_list_form (form_of c.args.name.now) (sym c.is_list.ensures ∙ c.if-is_list.false) form)
+
+pub returns-then-is_list-clause-of_list : goal.returns-then-is_list-clause-of_list
+returns-then-is_list-clause-of_list g c = λ form. list_given _ c.joined_dods.result c.join_prepared.result c.join_prepared.ensures c.joined_dods.ensures.of_list c.joined_dods.ensures.refused
+
+pub returns-clause-of_list : goal.returns-clause-of_list
+returns-clause-of_list g c = λ form. absurd (no_list_form (form_of c.args.name.now) (sym c.is_list.ensures ∙ c.if-is_list.false) form)

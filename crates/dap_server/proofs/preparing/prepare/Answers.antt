@@ -57,3 +57,6 @@ returns-clause-asked_lines g c = c.answer_of.ensures.asked_lines
 
 pub returns-clause-asked_before : goal.returns-clause-asked_before
 returns-clause-asked_before g c = c.answer_of.ensures.asked_before
+
+pub returns-clause-of_list : goal.returns-clause-of_list
+returns-clause-of_list g c = c.answer_of.ensures.of_list

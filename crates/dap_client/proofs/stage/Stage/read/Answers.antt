@@ -15,11 +15,11 @@ returns-in-First-clause-stage g c bytes put long o =
 pub returns-in-Error-clause-stage : goal.returns-in-Error-clause-stage
 returns-in-Error-clause-stage g c bytes put long o =
     let (error, object, empty) = rw c.in-Error.is at o in
-    subst (λ p. Moves (g.O.Sink.written c.args.out.now) (g.O.Sink.written c.args.out.now) (bytes ++ c.args.piece.now) p c.read_object.result) (sym empty)
-    ([], Appends-nil (g.O.Sink.written c.args.out.now), c.read_object.ensures.stage bytes long (error_on bytes c.args.piece.now error) object)
+    subst (λ p. Moves (g.O.Sink.written c.args.out.now) (g.O.Sink.written c.args.out.now) (bytes ++ c.args.piece.now) p c.in_object.result) (sym empty)
+    ([], Appends-nil (g.O.Sink.written c.args.out.now), c.in_object.ensures.stage (bytes ++ c.args.piece.now) (c.read_object.ensures bytes long (error_on bytes c.args.piece.now error) object))
 
 pub returns-in-Error-clause-cause : goal.returns-in-Error-clause-cause
-returns-in-Error-clause-cause g c = where_never (Rose (g.O.Sink.put_faults c.args.out.now) (g.O.Sink.put_faults c.args.out.now)) c.read_object.result c.read_object.ensures.cause
+returns-in-Error-clause-cause g c = where_never (Rose (g.O.Sink.put_faults c.args.out.now) (g.O.Sink.put_faults c.args.out.now)) c.in_object.result c.in_object.ensures.cause
 
 pub returns-in-Text-clause-stage : goal.returns-in-Text-clause-stage
 returns-in-Text-clause-stage g c bytes put long o =

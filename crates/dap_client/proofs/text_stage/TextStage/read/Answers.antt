@@ -1,3 +1,4 @@
+use Rattle.std.proofs.Common.{◌++◌}
 use Rattle.dap_client.proofs.TextBodies.{wrong_on}
 use Rattle.dap_client.proofs.Waiting.{error_on, no_error_on}
 use Rattle.dap_client.proofs.text_stage.TextStage.read.Goals as goal
@@ -24,7 +25,7 @@ pub returns-in-First : goal.returns-in-First
 returns-in-First c form bytes long s = let (word, kept, text) = rw c.in-First.is at s in c.read_first.ensures form bytes long word kept text
 
 pub returns-in-Error : goal.returns-in-Error
-returns-in-Error c form bytes long s = let (error, object) = rw c.in-Error.is at s in c.read_object.ensures form bytes long (error_on bytes c.args.piece.now error) object
+returns-in-Error c form bytes long s = let (error, object) = rw c.in-Error.is at s in c.in_object.ensures form (bytes ++ c.args.piece.now) (c.read_object.ensures bytes long (error_on bytes c.args.piece.now error) object)
 
 pub returns-in-Text : goal.returns-in-Text
 returns-in-Text c form bytes long s = let (none, text) = rw c.in-Text.is at s in c.read_text.ensures form bytes long (no_error_on bytes c.args.piece.now none) text
