@@ -1,6 +1,6 @@
 # Builds the proved program, answers and shows the samples, a whole table and a part of a netCDF file, and serves that
-# part on a port and fetches it back. The first time every crate below the program is proved, which takes one to two
-# hours; where nothing has changed all of it takes seconds.
+# part on a port and fetches it back. The first time every crate below the program is proved, which takes an hour and a
+# half; where nothing has changed all of it takes a minute or two.
 #
 #     make demo [PORT=8764]
 
@@ -18,7 +18,7 @@ demo: bin/dap2
 # rt proves what has changed and builds the program, and runs it with the word behind `--`. What an earlier build left is
 # removed first, so that a failed one leaves nothing to copy.
 bin/dap2: FORCE
-	@echo "rt proves what has changed below the program: the first time one to two hours, else seconds"
+	@echo "rt proves what has changed below the program: the first time an hour and a half, else a minute or two"
 	rm -f bin/dap2 crates/dap2/out/dap2
 	cd crates/dap2 && rt run -- ver > /dev/null
 	mkdir -p bin
