@@ -1,6 +1,7 @@
 mod cases;
 mod counted;
 mod cut;
+mod expecting;
 mod faults;
 mod fetching;
 mod following;

@@ -1,6 +1,6 @@
 //! The runner of cases, over a shelf in memory.
 
-use crate::said::numbers;
+use crate::expecting::expect;
 use dap_cases::{Stop, all_agree, run_cases};
 use dap_outside::{MemFile, MemShelf, MemSink};
 use dap_types::{Bytes, List, Memory, Name};
@@ -26,20 +26,33 @@ const FILES: &[(&str, &[u8])] = &[
     ("cases/bytes/args", b"\xff\n"),
 ];
 
+fn file(alloc: Global, name: &str, bytes: &[u8]) -> Result<MemFile, Memory> {
+    let name = Name::new(alloc, name)?;
+    let bytes = Bytes::new(alloc, bytes)?;
+    Ok(MemFile { name, bytes })
+}
+
 /// A shelf of these files and a list of this name.
 fn shelf(alloc: Global, name: &str, list: &[u8]) -> Result<MemShelf, Memory> {
     let mut files = List::new(alloc);
-    files.push(MemFile {
-        name: Name::new(alloc, name)?,
-        bytes: Bytes::new(alloc, list)?,
-    })?;
+    files.push(file(alloc, name, list)?)?;
     for (name, bytes) in FILES {
-        files.push(MemFile {
-            name: Name::new(alloc, *name)?,
-            bytes: Bytes::new(alloc, bytes)?,
-        })?;
+        files.push(file(alloc, name, bytes)?)?;
     }
-    Ok(MemShelf::new(files, numbers(alloc, &[])?))
+    Ok(MemShelf::new(files, List::new(alloc)))
+}
+
+/// Whether all cases of the list agree.
+fn agree<R: Threads + Sync>(
+    rt: &R,
+    alloc: Global,
+    shelf: &mut MemShelf,
+    out: &mut MemSink,
+) -> Result<bool, Fail> {
+    let Ok(outcomes) = run_cases(rt, alloc, shelf, out) else {
+        return Err(Fail::from("not run"));
+    };
+    Ok(all_agree(outcomes.items()))
 }
 
 /// The cases of the list have these lines, and pass or not.
@@ -52,11 +65,9 @@ fn expect_lines<R: Threads + Abort + AllocGlobal + Sync>(
     let alloc = rt.alloc();
     let mut shelf = shelf(alloc, "list", list)?;
     let mut out = MemSink::new(alloc, 1_000, 7, List::new(alloc))?;
-    let Ok(outcomes) = run_cases(rt, alloc, &mut shelf, &mut out) else {
-        return Err(Fail::from("not run"));
-    };
-    assert_eq!(rt; out.bytes(), lines);
-    assert_eq!(rt; all_agree(outcomes.items()), passed);
+    let agree = agree(rt, alloc, &mut shelf, &mut out)?;
+    expect(rt, out.bytes(), lines);
+    expect(rt, agree, passed);
     Ok(())
 }
 

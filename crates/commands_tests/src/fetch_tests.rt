@@ -1,15 +1,8 @@
 //! `fetch` by its words, over a dial in memory; the requests and the replies are worked out by hand.
 
-ghost use Rattle.std.specs.Prelude.{All, IfOk};
-ghost use Rattle.dap_outside.specs.MemLinks.{IsNew};
-
-use crate::said::{Said, numbers, said_over};
+use crate::linked::{Around, expect_linked};
 use dap_commands::Status;
-use dap_outside::{MemDial, MemLink, MemSink, SureShelf, SureSource};
-use dap_types::{Bytes, List, Memory};
-use std::alloc::Global;
 use std::test::Fail;
-use std::thread::Threads;
 
 const GZIP: &[u8] =
     b"HTTP/1.1 200 OK\r\nContent-Encoding: gzip\r\nContent-Length: 3\r\n\r\n\x1f\x8b\x08";
@@ -24,46 +17,6 @@ const ONE_ASKED: &[u8] =
 
 const TWO_ASKED: &[u8] =
     b"GET /v.nc.dds?v%5B0%5D%5B0%5D HTTP/1.1\r\nHost: localhost:80\r\nUser-Agent: dap2/1.0\r\nAccept-Encoding: identity\r\n\r\nGET /v.nc.dds?nope HTTP/1.1\r\nHost: localhost:80\r\nUser-Agent: dap2/1.0\r\nAccept-Encoding: identity\r\nConnection: close\r\n\r\n";
-
-/// How a run ended, what it wrote, and what the link gained, if it came back.
-#[derive(Drop)]
-struct Done {
-    said: Said,
-    sent: Bytes,
-}
-
-/// The one link of the dial.
-fn links(alloc: Global, input: &[u8]) -> Result<List<MemLink>, Memory>
-    ensures { IfOk result (All IsNew) }
-{
-    let input = Bytes::new(alloc, input)?;
-    let link = MemLink::new(alloc, input, 1_000, 7, List::new(alloc), List::new(alloc))?;
-    let mut links = List::new(alloc);
-    links.push(link)?;
-    Ok(links)
-}
-
-fn fetched<R: Threads + AllocGlobal + Sync>(
-    rt: &R,
-    words: &[&str],
-    input: &[u8],
-    fails: &[u64],
-) -> Result<Done, Memory> {
-    let alloc = rt.alloc();
-    let mut shelf = SureShelf::new(List::new(alloc));
-    let mut source = SureSource::new(Bytes::new(alloc, b"")?, 7);
-    let out = MemSink::new(alloc, 1_000, 7, List::new(alloc))?;
-    let mut dial = MemDial::new(alloc, links(alloc, input)?, numbers(alloc, fails)?)?;
-    let said = said_over(rt, words, &mut shelf, &mut source, out, &mut dial)?;
-    let sent = match dial.back() {
-        [link, ..] => link.written(),
-        [] => b"",
-    };
-    Ok(Done {
-        said,
-        sent: Bytes::new(alloc, sent)?,
-    })
-}
 
 /// Words, what the link gives, the calls that do not connect; the status, the output, the line, and what the link
 /// gained.
@@ -109,12 +62,14 @@ const ROWS: &[Row] = &[
 
 #[test]
 fn what_is_fetched_is_told(rt: HostRuntime) -> Result<(), Fail> {
-    for (words, input, fails, status, out, err, sent) in ROWS {
-        let done = fetched(&rt, words, input, fails)?;
-        assert_eq!(rt; done.said.status, *status);
-        assert_eq!(rt; done.said.out.bytes(), *out);
-        assert_eq!(rt; done.said.err.bytes(), *err);
-        assert_eq!(rt; done.sent.bytes(), *sent);
+    for (words, given, fails, status, out, err, sent) in ROWS {
+        let input: &[u8] = b"";
+        let around = Around {
+            input,
+            given,
+            fails,
+        };
+        expect_linked(&rt, words, around, (*status, out, err, sent))?;
     }
     Ok(())
 }

@@ -8,7 +8,11 @@ mod case_tests;
 #[cfg(test)]
 mod counted;
 #[cfg(test)]
+mod expecting;
+#[cfg(test)]
 mod fetch_tests;
+#[cfg(test)]
+mod linked;
 #[cfg(test)]
 mod relay_tests;
 #[cfg(test)]

@@ -1,13 +1,13 @@
 //! `relay` by its words, over links in memory; the lines are worked out by hand.
 
-ghost use Rattle.std.specs.Prelude.{IfOk};
-ghost use Rattle.dap_outside.specs.MemLinks.{IsNew};
-
-use crate::said::{named, numbers};
+use crate::expecting::expect;
+use crate::linked::link;
+use crate::said::{Said, expect_out, finished, named, numbers};
 use dap_commands::{Status, run};
-use dap_outside::{MemDial, MemDoor, MemLink, MemSink, SureShelf, SureSource};
+use dap_outside::{MemDial, MemDoor, MemSink, SureShelf, SureSource};
 use dap_types::{Bytes, List, Memory};
 use std::alloc::Global;
+use std::process::Abort;
 use std::test::Fail;
 use std::thread::Threads;
 
@@ -19,39 +19,78 @@ const GET_BUOYS: &[u8] = b"GET /buoys.csv.dods HTTP/1.1\r\n\r\n";
 
 const GET_V: &[u8] = b"GET /v.nc.dods HTTP/1.1\r\n\r\n";
 
+/// The end of the reply for the other server's.
+const UPSTREAM_FAULT: &[u8] = b"code = 23;\n    message = \"upstream fault\";\n};\n";
+
 const LINES: &[u8] = b"connection 1 200 miss\nconnection 2 200 hit\nconnection 3 502 miss\n";
 
 /// How a run ended, its lines, what its links gained, and how many links came back to the dial.
 #[derive(Drop)]
 struct Done {
-    status: Status,
-    out: Bytes,
-    err: Bytes,
+    said: Said,
     gained: List<Bytes>,
     asked: usize,
 }
 
-fn link(alloc: Global, input: &[u8]) -> Result<MemLink, Memory>
-    ensures { IfOk result IsNew }
-{
-    let bytes = Bytes::new(alloc, input)?;
-    MemLink::new(alloc, bytes, 1_000, 50, List::new(alloc), List::new(alloc))
-}
-
 /// Three clients, of which the first two ask for the same.
 fn door(alloc: Global, fails: &[u64]) -> Result<MemDoor, Memory> {
+    let fails = numbers(alloc, fails)?;
+    let first = Bytes::new(alloc, GET_BUOYS)?;
+    let second = Bytes::new(alloc, GET_BUOYS)?;
+    let third = Bytes::new(alloc, GET_V)?;
     let mut links = List::new(alloc);
-    links.push(link(alloc, GET_BUOYS)?)?;
-    links.push(link(alloc, GET_BUOYS)?)?;
-    links.push(link(alloc, GET_V)?)?;
-    MemDoor::new(alloc, links, numbers(alloc, fails)?)
+    links.push(link(alloc, first, 50)?)?;
+    links.push(link(alloc, second, 50)?)?;
+    links.push(link(alloc, third, 50)?)?;
+    MemDoor::new(alloc, links, fails)
 }
 
 /// A server that gives one reply.
 fn dial(alloc: Global) -> Result<MemDial, Memory> {
+    let reply = Bytes::new(alloc, BUOYS)?;
     let mut links = List::new(alloc);
-    links.push(link(alloc, BUOYS)?)?;
+    links.push(link(alloc, reply, 50)?)?;
     MemDial::new(alloc, links, List::new(alloc))
+}
+
+/// Runs the words over no files.
+fn run_over<R: Threads + AllocGlobal + Sync>(
+    rt: &R,
+    words: &[&str],
+    out: &mut MemSink,
+    err: &mut MemSink,
+    door: &mut MemDoor,
+    dial: &mut MemDial,
+) -> Result<Status, Memory> {
+    let alloc = rt.alloc();
+    let words = named(alloc, words)?;
+    let mut shelf = SureShelf::new(List::new(alloc));
+    let mut input = SureSource::new(Bytes::new(alloc, b"")?, 7);
+    let status = run(
+        rt,
+        alloc,
+        words.items(),
+        &mut shelf,
+        &mut input,
+        out,
+        err,
+        door,
+        dial,
+    );
+    Ok(status)
+}
+
+/// What the links gained that came back to the door.
+pub fn gained(alloc: Global, door: &MemDoor) -> Result<List<Bytes>, Memory> {
+    let mut gained = List::new(alloc);
+    for link in door.back() {
+        gained.push(Bytes::new(alloc, link.written())?)?;
+    }
+    Ok(gained)
+}
+
+fn sink(alloc: Global, fails: &[u64]) -> Result<MemSink, Memory> {
+    MemSink::new(alloc, 1_000, 1_000, numbers(alloc, fails)?)
 }
 
 /// What three clients get of that server, where these calls of the door and of the output fail.
@@ -62,73 +101,80 @@ fn relayed<R: Threads + AllocGlobal + Sync>(
     out_fails: &[u64],
 ) -> Result<Done, Memory> {
     let alloc = rt.alloc();
-    let words = named(alloc, words)?;
-    let mut shelf = SureShelf::new(List::new(alloc));
-    let mut input = SureSource::new(Bytes::new(alloc, b"")?, 7);
-    let mut out = MemSink::new(alloc, 1_000, 1_000, numbers(alloc, out_fails)?)?;
-    let mut err = MemSink::new(alloc, 1_000, 1_000, List::new(alloc))?;
+    let mut out = sink(alloc, out_fails)?;
+    let mut err = sink(alloc, &[])?;
     let mut door = door(alloc, door_fails)?;
     let mut dial = dial(alloc)?;
-    let status = run(
-        rt,
-        alloc,
-        words.items(),
-        &mut shelf,
-        &mut input,
-        &mut out,
-        &mut err,
-        &mut door,
-        &mut dial,
-    );
-    let mut gained = List::new(alloc);
-    for link in door.back() {
-        gained.push(Bytes::new(alloc, link.written())?)?;
-    }
+    let status = run_over(rt, words, &mut out, &mut err, &mut door, &mut dial)?;
+    let said = finished(alloc, status, &out, &err)?;
+    let gained = gained(alloc, &door)?;
+    let asked = dial.back().len();
     Ok(Done {
-        status,
-        out: Bytes::new(alloc, out.bytes())?,
-        err: Bytes::new(alloc, err.bytes())?,
+        said,
         gained,
-        asked: dial.back().len(),
+        asked,
     })
 }
 
 const WORDS: &[&str] = &["relay", "up.example", "8080", "8090", "4", "3"];
 
+/// The first two clients got the reply, and the third an Error object.
+fn expect_gained<R: Abort>(rt: &R, gained: &[Bytes]) {
+    let [first, second, third] = gained else {
+        panic!(rt; "not three links");
+    };
+    expect(rt, first.bytes(), BUOYS);
+    expect(rt, second.bytes(), BUOYS);
+    assert!(rt; third.bytes().ends_with(UPSTREAM_FAULT));
+}
+
 #[test]
 fn each_link_is_relayed_and_handed_back(rt: HostRuntime) -> Result<(), Fail> {
     let done = relayed(&rt, WORDS, &[], &[])?;
-    assert_eq!(rt; done.status, Status::Complete);
-    assert_eq!(rt; done.out.bytes(), LINES);
-    assert_eq!(rt; done.asked, 1);
-    match done.gained.items() {
-        [first, second, third] => {
-            assert_eq!(rt; first.bytes(), BUOYS);
-            assert_eq!(rt; second.bytes(), BUOYS);
-            assert!(rt;
-                third
-                    .bytes()
-                    .ends_with(b"code = 23;\n    message = \"upstream fault\";\n};\n")
-            );
-        }
-        _ => return Err(Fail::from("three links")),
-    }
+    expect_out(&rt, &done.said, Status::Complete, LINES);
+    expect(&rt, done.asked, 1);
+    expect_gained(&rt, done.gained.items());
+    Ok(())
+}
+
+/// Where these calls of the door and of the output fail, the run ends so, behind so many links.
+fn expect_fault<R: Threads + Abort + AllocGlobal + Sync>(
+    rt: &R,
+    fails: (&[u64], &[u64]),
+    status: Status,
+    back: usize,
+    line: &[u8],
+) -> Result<(), Fail> {
+    let (door_fails, out_fails) = fails;
+    let done = relayed(rt, WORDS, door_fails, out_fails)?;
+    expect(rt, done.said.status, status);
+    expect(rt, done.said.err.bytes(), line);
+    expect(rt, done.gained.items().len(), back);
     Ok(())
 }
 
 /// The lines, where the port, a link that was to come, or the output fails.
 #[test]
 fn a_door_or_an_output_that_fails_ends_it(rt: HostRuntime) -> Result<(), Fail> {
-    let rows: [(&[u64], &[u64], Status, usize, &[u8]); 3] = [
-        (&[1], &[], Status::LinkFault, 0, b"dap2: link fault\n"),
-        (&[3], &[], Status::LinkFault, 1, b"dap2: link fault\n"),
-        (&[], &[1], Status::WriteFault, 1, b"dap2: write fault\n"),
-    ];
-    for (door_fails, out_fails, status, back, line) in rows {
-        let done = relayed(&rt, WORDS, door_fails, out_fails)?;
-        assert_eq!(rt; done.status, status);
-        assert_eq!(rt; done.gained.items().len(), back);
-        assert_eq!(rt; done.err.bytes(), line);
-    }
-    Ok(())
+    expect_fault(
+        &rt,
+        (&[1], &[]),
+        Status::LinkFault,
+        0,
+        b"dap2: link fault\n",
+    )?;
+    expect_fault(
+        &rt,
+        (&[3], &[]),
+        Status::LinkFault,
+        1,
+        b"dap2: link fault\n",
+    )?;
+    expect_fault(
+        &rt,
+        (&[], &[1]),
+        Status::WriteFault,
+        1,
+        b"dap2: write fault\n",
+    )
 }

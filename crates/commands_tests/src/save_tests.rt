@@ -1,15 +1,8 @@
 //! `save` by its words, of what comes in and of what a dial in memory gives; the files are worked out by hand.
 
-ghost use Rattle.std.specs.Prelude.{All, IfOk};
-ghost use Rattle.dap_outside.specs.MemLinks.{IsNew};
-
-use crate::said::{Said, said_over};
+use crate::linked::{Around, expect_linked};
 use dap_commands::Status;
-use dap_outside::{MemDial, MemLink, MemSink, SureShelf, SureSource};
-use dap_types::{Bytes, List, Memory};
-use std::alloc::Global;
 use std::test::Fail;
-use std::thread::Threads;
 
 /// Two rows and three columns of an array, as a part of it is answered.
 const PART: &[u8] =
@@ -36,47 +29,6 @@ const ONE_ASKED: &[u8] =
 
 const CODED: &[u8] =
     b"HTTP/1.1 200 OK\r\nContent-Encoding: gzip\r\nContent-Length: 3\r\n\r\n\x1f\x8b\x08";
-
-/// How a run ended, what it wrote, and what the link gained, if it came back.
-#[derive(Drop)]
-struct Done {
-    said: Said,
-    sent: Bytes,
-}
-
-/// The one link of the dial.
-fn links(alloc: Global, input: &[u8]) -> Result<List<MemLink>, Memory>
-    ensures { IfOk result (All IsNew) }
-{
-    let input = Bytes::new(alloc, input)?;
-    let link = MemLink::new(alloc, input, 1_000, 7, List::new(alloc), List::new(alloc))?;
-    let mut links = List::new(alloc);
-    links.push(link)?;
-    Ok(links)
-}
-
-/// What the words do with what comes in, and with what the link gives.
-fn saved<R: Threads + AllocGlobal + Sync>(
-    rt: &R,
-    words: &[&str],
-    input: &[u8],
-    given: &[u8],
-) -> Result<Done, Memory> {
-    let alloc = rt.alloc();
-    let mut shelf = SureShelf::new(List::new(alloc));
-    let mut source = SureSource::new(Bytes::new(alloc, input)?, 7);
-    let out = MemSink::new(alloc, 1_000, 7, List::new(alloc))?;
-    let mut dial = MemDial::new(alloc, links(alloc, given)?, List::new(alloc))?;
-    let said = said_over(rt, words, &mut shelf, &mut source, out, &mut dial)?;
-    let sent = match dial.back() {
-        [link, ..] => link.written(),
-        [] => b"",
-    };
-    Ok(Done {
-        said,
-        sent: Bytes::new(alloc, sent)?,
-    })
-}
 
 /// Words, what comes in, what the link gives; the status, the output, the line, and what the link gained.
 type Row<'t> = (
@@ -153,11 +105,13 @@ const ROWS: &[Row] = &[
 #[test]
 fn what_is_saved_is_told(rt: HostRuntime) -> Result<(), Fail> {
     for (words, input, given, status, out, err, sent) in ROWS {
-        let done = saved(&rt, words, input, given)?;
-        assert_eq!(rt; done.said.status, *status);
-        assert_eq!(rt; done.said.out.bytes(), *out);
-        assert_eq!(rt; done.said.err.bytes(), *err);
-        assert_eq!(rt; done.sent.bytes(), *sent);
+        let fails: &[u64] = &[];
+        let around = Around {
+            input,
+            given,
+            fails,
+        };
+        expect_linked(&rt, words, around, (*status, out, err, sent))?;
     }
     Ok(())
 }

@@ -4,16 +4,19 @@
 ghost use Rattle.std.specs.Prelude.{◌≡◌, ◌<◌, IfOk, IfSome, Some};
 ghost use Rattle.dap_outside.specs.MemLinks.{IsNew};
 
+use crate::expecting::expect;
+use crate::relay_tests::gained;
 use crate::said::numbers;
 use dap_commands::{Status, serve, ver};
 use dap_host::{TcpDial, TcpDoor, TcpLink};
 use dap_outside::{
-    Dial, Door, MemDoor, MemFile, MemLink, MemShelf, MemSink, Source, put_all, take_some,
+    Dial, Door, Link, MemDoor, MemLink, MemShelf, MemSink, Sink, Source, put_all, take_some,
 };
 use dap_server::{Ending, Served, serve_connection};
-use dap_types::{Bytes, List, Memory, Name};
+use dap_types::{Bytes, List, Memory};
 use std::alloc::Global;
 use std::net::Net;
+use std::process::Abort;
 use std::test::Fail;
 use std::thread::Threads;
 
@@ -38,27 +41,36 @@ struct Done {
 }
 
 /// A link that gives this, and whose calls of `take` with these numbers fail.
-fn link(alloc: Global, input: &[u8], takes: &[u64]) -> Result<MemLink, Memory>
+fn link(alloc: Global, input: Bytes, takes: List<u64>) -> Result<MemLink, Memory>
     ensures { IfOk result IsNew }
 {
-    let input = Bytes::new(alloc, input)?;
-    MemLink::new(
-        alloc,
-        input,
-        1_000,
-        50,
-        numbers(alloc, takes)?,
-        numbers(alloc, &[])?,
-    )
+    MemLink::new(alloc, input, 1_000, 50, takes, List::new(alloc))
 }
 
 /// Three links of which the second fails at its first take.
 fn door(alloc: Global, fails: &[u64]) -> Result<MemDoor, Memory> {
+    let fails = numbers(alloc, fails)?;
+    let first_take = numbers(alloc, &[1])?;
+    let first = Bytes::new(alloc, GET)?;
+    let second = Bytes::new(alloc, GET)?;
+    let third = Bytes::new(alloc, CLOSE)?;
     let mut links = List::new(alloc);
-    links.push(link(alloc, GET, &[])?)?;
-    links.push(link(alloc, GET, &[1])?)?;
-    links.push(link(alloc, CLOSE, &[])?)?;
-    MemDoor::new(alloc, links, numbers(alloc, fails)?)
+    links.push(link(alloc, first, List::new(alloc))?)?;
+    links.push(link(alloc, second, first_take)?)?;
+    links.push(link(alloc, third, List::new(alloc))?)?;
+    MemDoor::new(alloc, links, fails)
+}
+
+/// Serves so many links over no files.
+fn serve_at<R: Threads + AllocGlobal + Sync>(
+    rt: &R,
+    requests: u32,
+    out: &mut MemSink,
+    door: &mut MemDoor,
+) -> Status {
+    let alloc = rt.alloc();
+    let mut shelf = MemShelf::new(List::new(alloc), List::new(alloc));
+    serve(rt, alloc, 8080, 2, requests.max(1), &mut shelf, out, door)
 }
 
 fn served_over<R: Threads + AllocGlobal + Sync>(
@@ -68,76 +80,84 @@ fn served_over<R: Threads + AllocGlobal + Sync>(
     out_fails: &[u64],
 ) -> Result<Done, Memory> {
     let alloc = rt.alloc();
-    let files: List<MemFile> = List::new(alloc);
-    let mut shelf = MemShelf::new(files, numbers(alloc, &[])?);
     let mut out = MemSink::new(alloc, 1_000, 1_000, numbers(alloc, out_fails)?)?;
     let mut door = door(alloc, door_fails)?;
-    let requests = requests.max(1);
-    let status = serve(
-        rt, alloc, 8080, 2, requests, &mut shelf, &mut out, &mut door,
-    );
-    let mut gained = List::new(alloc);
-    for link in door.back() {
-        gained.push(Bytes::new(alloc, link.written())?)?;
-    }
+    let status = serve_at(rt, requests, &mut out, &mut door);
+    let gained = gained(alloc, &door)?;
+    let out = Bytes::new(alloc, out.bytes())?;
     Ok(Done {
         status,
-        out: Bytes::new(alloc, out.bytes())?,
+        out,
         gained,
     })
+}
+
+/// The first and the third link got their replies.
+fn expect_gained<R: Abort>(rt: &R, gained: &[Bytes]) {
+    let [first, second, third] = gained else {
+        panic!(rt; "not three links");
+    };
+    expect(rt, first.bytes(), REPLY);
+    expect(rt, second.bytes(), b"".as_slice());
+    expect(rt, third.bytes(), LAST_REPLY);
 }
 
 #[test]
 fn each_link_is_served_and_handed_back(rt: HostRuntime) -> Result<(), Fail> {
     let found = served_over(&rt, 3, &[], &[])?;
-    assert_eq!(rt; found.status, Status::Complete);
-    assert_eq!(rt; found.out.bytes(), LINES);
-    let gained = found.gained.items();
-    assert_eq!(rt; gained.len(), 3);
-    for (number, bytes) in gained.iter().enumerate() {
-        let expected = match number {
-            0 => REPLY,
-            1 => b"".as_slice(),
-            _ => LAST_REPLY,
-        };
-        assert_eq!(rt; bytes.bytes(), expected);
-    }
+    expect(&rt, found.status, Status::Complete);
+    expect(&rt, found.out.bytes(), LINES);
+    expect_gained(&rt, found.gained.items());
+    Ok(())
+}
+
+/// Where these calls of the door and of the output fail, the run ends so, behind so many links and these lines.
+fn expect_fault<R: Threads + Abort + AllocGlobal + Sync>(
+    rt: &R,
+    requests: u32,
+    fails: (&[u64], &[u64]),
+    status: Status,
+    left: (usize, &[u8]),
+) -> Result<(), Fail> {
+    let (door_fails, out_fails) = fails;
+    let (back, lines) = left;
+    let found = served_over(rt, requests, door_fails, out_fails)?;
+    expect(rt, found.status, status);
+    expect(rt, found.gained.items().len(), back);
+    expect(rt, found.out.bytes(), lines);
     Ok(())
 }
 
 /// The links that came back, and the lines, where the door or the output fails.
 #[test]
 fn a_door_that_fails_ends_it(rt: HostRuntime) -> Result<(), Fail> {
-    let none: &[u8] = b"";
-    let rows: [(u32, &[u64], &[u64], Status, usize, &[u8]); 5] = [
-        (3, &[1], &[], Status::LinkFault, 0, none),
-        (3, &[2], &[], Status::LinkFault, 0, none),
-        (3, &[3], &[], Status::LinkFault, 1, &LINES[..20]),
-        (4, &[], &[], Status::LinkFault, 3, LINES),
-        (3, &[], &[1], Status::WriteFault, 1, none),
-    ];
-    for (requests, door_fails, out_fails, status, back, lines) in rows {
-        let found = served_over(&rt, requests, door_fails, out_fails)?;
-        assert_eq!(rt; found.status, status);
-        assert_eq!(rt; found.gained.items().len(), back);
-        assert_eq!(rt; found.out.bytes(), lines);
-    }
+    expect_fault(&rt, 3, (&[1], &[]), Status::LinkFault, (0, b""))?;
+    expect_fault(&rt, 3, (&[2], &[]), Status::LinkFault, (0, b""))?;
+    expect_fault(&rt, 3, (&[3], &[]), Status::LinkFault, (1, &LINES[..20]))?;
+    expect_fault(&rt, 4, (&[], &[]), Status::LinkFault, (3, LINES))?;
+    expect_fault(&rt, 3, (&[], &[1]), Status::WriteFault, (1, b""))
+}
+
+/// What is put where there is room for so many bytes.
+fn expect_version<R: Abort>(
+    rt: &R,
+    alloc: Global,
+    room: u32,
+    status: Status,
+    text: &[u8],
+) -> Result<(), Fail> {
+    let mut out = MemSink::new(alloc, room, 5, List::new(alloc))?;
+    let ended = ver(&mut out);
+    expect(rt, ended, status);
+    expect(rt, out.bytes(), text);
     Ok(())
 }
 
 #[test]
 fn the_version_is_put(rt: HostRuntime) -> Result<(), Fail> {
-    let alloc = rt.alloc();
-    let mut out = MemSink::new(alloc, 100, 5, numbers(alloc, &[])?)?;
-    assert_eq!(rt; ver(&mut out), Status::Complete);
-    assert_eq!(rt;
-        out.bytes(),
-        b"Core version: DAP/2.0\nServer version: dap2/1.0\n".as_slice()
-    );
-    let mut out = MemSink::new(alloc, 10, 5, numbers(alloc, &[])?)?;
-    assert_eq!(rt; ver(&mut out), Status::WriteFault);
-    assert_eq!(rt; out.bytes(), b"Core versi".as_slice());
-    Ok(())
+    let text = b"Core version: DAP/2.0\nServer version: dap2/1.0\n";
+    expect_version(&rt, rt.alloc(), 100, Status::Complete, text)?;
+    expect_version(&rt, rt.alloc(), 10, Status::WriteFault, b"Core versi")
 }
 
 /// Lets the door listen at some free port.
@@ -169,35 +189,51 @@ fn joined<N: Net>(
     Ok((peer, link))
 }
 
+fn send<O: Sink>(out: &mut O, bytes: &[u8]) -> Result<(), Fail> {
+    match put_all(out, bytes) {
+        Ok(()) => Ok(()),
+        Err(_) => Err(Fail::from("not sent")),
+    }
+}
+
+/// Serves the link over no files.
+fn serve_link<R: Threads + Sync, L: Link>(rt: &R, alloc: Global, link: &mut L) -> Served {
+    let mut shelf = MemShelf::new(List::new(alloc), List::new(alloc));
+    serve_connection(rt, alloc, &mut shelf, link, 1)
+}
+
+/// What comes of at most 1,000 bytes.
+fn taken<I: Source>(alloc: Global, source: &mut I) -> Result<Bytes, Fail> {
+    let mut bytes = [0u8; 1000];
+    let Ok(count) = take_some(source, &mut bytes) else {
+        return Err(Fail::from("no reply"));
+    };
+    Ok(Bytes::new(alloc, &bytes[..count])?)
+}
+
 /// How a link over the real door is served whose peer sends this, and the reply that the peer gets.
 fn served_over_the_door<R: Threads + Net + AllocGlobal + Sync>(
     rt: &R,
     request: &[u8],
 ) -> Result<(Served, Bytes), Fail> {
     let alloc = rt.alloc();
-    let mut shelf = MemShelf::new(List::new(alloc), numbers(alloc, &[])?);
     let mut door = TcpDoor::new(rt);
     let mut dial = TcpDial::new(rt);
     let (mut peer, mut link) = joined(&mut dial, &mut door)?;
-    if put_all(&mut peer, request).is_err() {
-        return Err(Fail::from("not sent"));
-    }
-    let served = serve_connection(rt, alloc, &mut shelf, &mut link, 1);
+    send(&mut peer, request)?;
+    let served = serve_link(rt, alloc, &mut link);
     door.done(link);
-    let mut reply = [0u8; 1000];
-    let Ok(count) = take_some(&mut peer, &mut reply) else {
-        return Err(Fail::from("no reply"));
-    };
+    let reply = taken(alloc, &mut peer)?;
     dial.done(peer);
-    Ok((served, Bytes::new(alloc, &reply[..count])?))
+    Ok((served, reply))
 }
 
 #[test]
 fn a_request_over_the_real_door(rt: HostRuntime) -> Result<(), Fail> {
     let (served, reply) = served_over_the_door(&rt, CLOSE)?;
-    assert_eq!(rt; reply.bytes(), LAST_REPLY);
-    assert_eq!(rt; served.replies, 1);
-    assert!(rt; matches!(served.ending, Ending::Closed));
+    expect(&rt, reply.bytes(), LAST_REPLY);
+    expect(&rt, served.replies, 1);
+    expect(&rt, served.ending, Ending::Closed);
     Ok(())
 }
 
@@ -205,8 +241,8 @@ fn a_request_over_the_real_door(rt: HostRuntime) -> Result<(), Fail> {
 #[test]
 fn a_silent_peer_is_a_fault_of_its_link(rt: HostRuntime) -> Result<(), Fail> {
     let (served, reply) = served_over_the_door(&rt, &GET[..9])?;
-    assert_eq!(rt; reply.bytes(), b"".as_slice());
-    assert_eq!(rt; served.replies, 0);
-    assert!(rt; matches!(served.ending, Ending::ReadFault));
+    expect(&rt, reply.bytes(), b"".as_slice());
+    expect(&rt, served.replies, 0);
+    expect(&rt, served.ending, Ending::ReadFault);
     Ok(())
 }

@@ -1,9 +1,10 @@
 //! The word `soak`.
 
-use crate::said::{Said, numbers, said_alone};
+use crate::said::{Said, expect_said, numbers, said_alone};
 use dap_commands::Status;
 use dap_outside::{MemSink, SureShelf, SureSource};
 use dap_types::{Bytes, List, Memory};
+use std::process::Abort;
 use std::test::Fail;
 use std::thread::Threads;
 
@@ -22,13 +23,26 @@ fn soaked<R: Threads + AllocGlobal + Sync>(
     said_alone(rt, words, &mut shelf, &mut input, out)
 }
 
+/// Where the put with this number fails, this is out.
+fn expect_front<R: Threads + Abort + AllocGlobal + Sync>(
+    rt: &R,
+    number: u64,
+    front: &[u8],
+) -> Result<(), Fail> {
+    let found = soaked(rt, &["soak", "1", "3"], &[number])?;
+    expect_said(
+        rt,
+        &found,
+        Status::WriteFault,
+        front,
+        b"dap2: write fault\n",
+    );
+    Ok(())
+}
+
 #[test]
 fn a_front_of_the_lines_is_out_where_a_put_fails(rt: HostRuntime) -> Result<(), Fail> {
-    for (number, length) in [(1, 0), (2, 20), (3, 40)] {
-        let found = soaked(&rt, &["soak", "1", "3"], &[number])?;
-        assert_eq!(rt; found.status, Status::WriteFault);
-        assert_eq!(rt; Some(found.out.bytes()), THREE.get(..length));
-        assert_eq!(rt; found.err.bytes(), b"dap2: write fault\n".as_slice());
-    }
-    Ok(())
+    expect_front(&rt, 1, b"")?;
+    expect_front(&rt, 2, &THREE[..20])?;
+    expect_front(&rt, 3, &THREE[..40])
 }

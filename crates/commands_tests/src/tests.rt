@@ -1,8 +1,9 @@
 use crate::counted::Counted;
-use crate::said::{Said, numbers, run_words, said_alone};
+use crate::expecting::expect;
+use crate::said::{Said, expect_out, expect_said, no_dial, numbers, run_words, said_alone};
 use dap_commands::Status;
 use dap_host::{StdSink, StdSource};
-use dap_outside::{MemDial, MemFile, MemShelf, MemSink, MemSource, SureShelf};
+use dap_outside::{MemFile, MemShelf, MemSink, MemSource, Sink, Source, SureShelf};
 use dap_start::ended;
 use dap_types::{Bytes, List, Memory, Name};
 use std::alloc::Global;
@@ -44,10 +45,9 @@ const SURE: Outside<'static> = Outside {
 };
 
 fn file(alloc: Global, name: &str, bytes: &[u8]) -> Result<MemFile, Memory> {
-    Ok(MemFile {
-        name: Name::new(alloc, name)?,
-        bytes: Bytes::new(alloc, bytes)?,
-    })
+    let name = Name::new(alloc, name)?;
+    let bytes = Bytes::new(alloc, bytes)?;
+    Ok(MemFile { name, bytes })
 }
 
 fn files(alloc: Global) -> Result<List<MemFile>, Memory> {
@@ -57,6 +57,17 @@ fn files(alloc: Global) -> Result<List<MemFile>, Memory> {
     Ok(files)
 }
 
+fn source(alloc: Global, outside: Outside<'_>) -> Result<MemSource, Memory> {
+    let fails = numbers(alloc, outside.take_fails)?;
+    let input = Bytes::new(alloc, outside.input)?;
+    Ok(MemSource::new(input, PIECE, fails))
+}
+
+fn sink(alloc: Global, outside: Outside<'_>) -> Result<MemSink, Memory> {
+    let fails = numbers(alloc, outside.out_fails)?;
+    MemSink::new(alloc, outside.room, PIECE, fails)
+}
+
 fn ran<R: Threads + AllocGlobal + Sync>(
     rt: &R,
     words: &[&str],
@@ -64,115 +75,100 @@ fn ran<R: Threads + AllocGlobal + Sync>(
 ) -> Result<Said, Memory> {
     let alloc = rt.alloc();
     let mut shelf = MemShelf::new(files(alloc)?, numbers(alloc, outside.shelf_fails)?);
-    let take_fails = numbers(alloc, outside.take_fails)?;
-    let mut input = MemSource::new(Bytes::new(alloc, outside.input)?, PIECE, take_fails);
-    let out_fails = numbers(alloc, outside.out_fails)?;
-    let out = MemSink::new(alloc, outside.room, PIECE, out_fails)?;
+    let mut input = source(alloc, outside)?;
+    let out = sink(alloc, outside)?;
     said_alone(rt, words, &mut shelf, &mut input, out)
+}
+
+/// These puts fail.
+fn out_faults(out_fails: &[u64]) -> Outside<'_> {
+    Outside { out_fails, ..SURE }
+}
+
+/// The answer to the target ends with a write fault, behind this.
+fn expect_write_fault<R: Threads + Abort + AllocGlobal + Sync>(
+    rt: &R,
+    target: &str,
+    outside: Outside<'_>,
+    out: &[u8],
+) -> Result<(), Fail> {
+    let found = ran(rt, &["answer", target], outside)?;
+    expect_said(rt, &found, Status::WriteFault, out, b"dap2: write fault\n");
+    Ok(())
+}
+
+/// Where these calls of the shelf fail, the answer is a read fault.
+fn expect_read_fault<R: Threads + Abort + AllocGlobal + Sync>(
+    rt: &R,
+    shelf_fails: &[u64],
+) -> Result<(), Fail> {
+    let outside = Outside {
+        shelf_fails,
+        ..SURE
+    };
+    let found = ran(rt, &["answer", "buoys.csv.dods"], outside)?;
+    expect_said(rt, &found, Status::ReadFault, b"", b"dap2: read fault\n");
+    Ok(())
 }
 
 #[test]
 fn each_fault_has_its_status(rt: HostRuntime) -> Result<(), Fail> {
-    let buoys = "buoys.csv.dods";
-    let none: &[u8] = b"";
-    let rows: [(&str, Outside<'_>, Status, &[u8], &[u8]); 5] = [
-        (
-            "twice.csv.dods",
-            Outside {
-                out_fails: &[2],
-                ..SURE
-            },
-            Status::WriteFault,
-            &TWICE[..64],
-            b"dap2: write fault\n",
-        ),
-        (
-            "none.csv.dods",
-            Outside {
-                out_fails: &[1],
-                ..SURE
-            },
-            Status::WriteFault,
-            none,
-            b"dap2: write fault\n",
-        ),
-        (
-            buoys,
-            Outside {
-                shelf_fails: &[1],
-                ..SURE
-            },
-            Status::ReadFault,
-            none,
-            b"dap2: read fault\n",
-        ),
-        (
-            buoys,
-            Outside {
-                shelf_fails: &[2],
-                ..SURE
-            },
-            Status::ReadFault,
-            none,
-            b"dap2: read fault\n",
-        ),
-        (
-            buoys,
-            Outside { room: 100, ..SURE },
-            Status::WriteFault,
-            &BUOYS_BODY[..100],
-            b"dap2: write fault\n",
-        ),
-    ];
-    for (target, outside, status, out, err) in rows {
-        let found = ran(&rt, &["answer", target], outside)?;
-        assert_eq!(rt; found.status, status);
-        assert_eq!(rt; found.out.bytes(), out);
-        assert_eq!(rt; found.err.bytes(), err);
-    }
+    let short = Outside { room: 100, ..SURE };
+    expect_write_fault(&rt, "twice.csv.dods", out_faults(&[2]), &TWICE[..64])?;
+    expect_write_fault(&rt, "none.csv.dods", out_faults(&[1]), b"")?;
+    expect_read_fault(&rt, &[1])?;
+    expect_read_fault(&rt, &[2])?;
+    expect_write_fault(&rt, "buoys.csv.dods", short, &BUOYS_BODY[..100])
+}
+
+/// Where this put fails, this is out.
+fn expect_put_fails<R: Threads + Abort + AllocGlobal + Sync>(
+    rt: &R,
+    put: &[u64],
+    front: &[u8],
+) -> Result<(), Fail> {
+    let found = ran(rt, &["answer", "buoys.csv.dods"], out_faults(put))?;
+    expect_out(rt, &found, Status::WriteFault, front);
     Ok(())
 }
 
 #[test]
 fn a_put_that_fails_leaves_a_front(rt: HostRuntime) -> Result<(), Fail> {
-    for (n, left) in [(1, 0usize), (2, 64), (3, 128)] {
-        let outside = Outside {
-            out_fails: &[n],
-            ..SURE
-        };
-        let found = ran(&rt, &["answer", "buoys.csv.dods"], outside)?;
-        assert_eq!(rt; found.status, Status::WriteFault);
-        assert_eq!(rt; found.out.bytes(), &BUOYS_BODY[..left]);
-    }
-    let last = Outside {
-        out_fails: &[4],
-        ..SURE
-    };
-    let found = ran(&rt, &["answer", "buoys.csv.dods"], last)?;
-    assert_eq!(rt; found.status, Status::Complete);
+    expect_put_fails(&rt, &[1], &BUOYS_BODY[..0])?;
+    expect_put_fails(&rt, &[2], &BUOYS_BODY[..64])?;
+    expect_put_fails(&rt, &[3], &BUOYS_BODY[..128])?;
+    let found = ran(&rt, &["answer", "buoys.csv.dods"], out_faults(&[4]))?;
+    expect(&rt, found.status, Status::Complete);
     Ok(())
+}
+
+/// The outside of a showing of the worked body.
+const SHOWN: Outside<'static> = Outside {
+    input: BUOYS_BODY,
+    ..SURE
+};
+
+/// Shows what comes in, without room for a line.
+fn show<R: Threads + AllocGlobal + Sync, I: Source, O: Sink>(
+    rt: &R,
+    input: &mut I,
+    out: &mut O,
+) -> Result<Status, Memory> {
+    let alloc = rt.alloc();
+    let mut shelf = SureShelf::new(List::new(alloc));
+    let mut err = MemSink::new(alloc, 0, 1, List::new(alloc))?;
+    let mut dial = no_dial(alloc)?;
+    run_words(rt, &["show"], &mut shelf, input, out, &mut err, &mut dial)
 }
 
 /// How often a showing of the worked body takes and puts.
 fn calls_of_a_showing<R: Threads + Abort + AllocGlobal + Sync>(rt: &R) -> Result<(u64, u64), Fail> {
     let alloc = rt.alloc();
-    let body = Bytes::new(alloc, BUOYS_BODY)?;
-    let mut shelf = SureShelf::new(List::new(alloc));
-    let mut input = Counted::new(MemSource::new(body, PIECE, List::new(alloc)));
-    let mut out = Counted::new(MemSink::new(alloc, 1000, PIECE, List::new(alloc))?);
-    let mut err = MemSink::new(alloc, 0, 1, List::new(alloc))?;
-    let mut dial = MemDial::new(alloc, List::new(alloc), List::new(alloc))?;
-    let status = run_words(
-        rt,
-        &["show"],
-        &mut shelf,
-        &mut input,
-        &mut out,
-        &mut err,
-        &mut dial,
-    )?;
-    assert_eq!(rt; status, Status::Complete);
-    assert_eq!(rt; out.inner.bytes(), BUOYS_SHOWN);
+    let mut input = Counted::new(source(alloc, SHOWN)?);
+    let mut out = Counted::new(sink(alloc, SHOWN)?);
+    let status = show(rt, &mut input, &mut out)?;
+    expect(rt, status, Status::Complete);
+    expect(rt, out.inner.bytes(), BUOYS_SHOWN);
     Ok((input.calls, out.calls))
 }
 
@@ -183,26 +179,39 @@ fn expect_fault<R: Threads + Abort + AllocGlobal + Sync>(
     fault: Status,
 ) -> Result<(), Fail> {
     let found = ran(rt, &["show"], outside)?;
-    assert_eq!(rt; found.status, fault);
+    expect(rt, found.status, fault);
     assert!(rt; BUOYS_SHOWN.starts_with(found.out.bytes()));
     Ok(())
 }
 
+fn expect_take_fault<R: Threads + Abort + AllocGlobal + Sync>(
+    rt: &R,
+    take_fails: &[u64],
+) -> Result<(), Fail> {
+    let outside = Outside {
+        take_fails,
+        ..SHOWN
+    };
+    expect_fault(rt, outside, Status::ReadFault)
+}
+
+fn expect_put_fault<R: Threads + Abort + AllocGlobal + Sync>(
+    rt: &R,
+    out_fails: &[u64],
+) -> Result<(), Fail> {
+    let outside = Outside { out_fails, ..SHOWN };
+    expect_fault(rt, outside, Status::WriteFault)
+}
+
 #[test]
 fn each_take_and_each_put_of_a_showing_may_fail(rt: HostRuntime) -> Result<(), Fail> {
-    let sure = Outside {
-        input: BUOYS_BODY,
-        ..SURE
-    };
     let (takes, puts) = calls_of_a_showing(&rt)?;
     assert!(rt; takes > 3 && puts > 3);
     for n in 1..=takes {
-        let take_fails: &[u64] = &[n];
-        expect_fault(&rt, Outside { take_fails, ..sure }, Status::ReadFault)?;
+        expect_take_fault(&rt, &[n])?;
     }
     for n in 1..=puts {
-        let out_fails: &[u64] = &[n];
-        expect_fault(&rt, Outside { out_fails, ..sure }, Status::WriteFault)?;
+        expect_put_fault(&rt, &[n])?;
     }
     Ok(())
 }
@@ -230,11 +239,11 @@ impl Write for Broken {
 #[test]
 fn a_run_over_broken_streams_is_a_fault(rt: HostRuntime) -> Result<(), Fail> {
     let alloc = rt.alloc();
-    let mut shelf = MemShelf::new(files(alloc)?, numbers(alloc, &[])?);
+    let mut shelf = MemShelf::new(files(alloc)?, List::new(alloc));
     let mut input = StdSource::new(Broken);
     let mut out = StdSink::new(Broken);
     let mut err = StdSink::new(Broken);
-    let mut dial = MemDial::new(alloc, List::new(alloc), List::new(alloc))?;
+    let mut dial = no_dial(alloc)?;
     let rows: [(&[&str], Status); 4] = [
         (&["show"], Status::ReadFault),
         (&["answer", "buoys.csv.dods"], Status::WriteFault),
@@ -245,7 +254,7 @@ fn a_run_over_broken_streams_is_a_fault(rt: HostRuntime) -> Result<(), Fail> {
         let ended = run_words(
             &rt, words, &mut shelf, &mut input, &mut out, &mut err, &mut dial,
         )?;
-        assert_eq!(rt; ended, status);
+        expect(&rt, ended, status);
     }
     Ok(())
 }
@@ -253,6 +262,7 @@ fn a_run_over_broken_streams_is_a_fault(rt: HostRuntime) -> Result<(), Fail> {
 // The tests are started with no words, which are no command.
 #[test]
 fn the_program_ends_with_the_number_of_its_status(rt: HostRuntime) -> Result<(), Fail> {
-    assert_eq!(rt; ended(&rt, &rt), ExitCode::from(2));
+    let code = ended(&rt, &rt);
+    assert_eq!(rt; code, ExitCode::from(2));
     Ok(())
 }

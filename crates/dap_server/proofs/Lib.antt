@@ -32,6 +32,7 @@ pub mod Found
 pub mod MemberNames
 pub mod ListNames
 pub mod OpeningLists
+pub mod LongestLists
 pub mod AskedBefore
 pub mod JoinedSending
 pub mod JoinsGiven

@@ -86,7 +86,7 @@ pub not_listed : {F : Type 0} (told : Told) (name_of content : F → Option (Lis
 not_listed told name_of content name file before now s form finds asked is =
     list_stops told name_of content name file before now (λ cause bytes. Lists bytes (Err cause)) s form finds (λ cause bytes l. inr (cause, l, refl)) (λ cause bytes l. omega (arith, asked)) is
 
--- the names of a list, of which something is refused, behind what was asked of them
+-- the names of a list, of which something is refused
 abbrev WithNames : (Cause → Type 0) → List (List ℕ) → Cause → List ℕ → Type 0
 WithNames P names cause bytes = (list_of bytes ≡ Ok names) × P cause
 
@@ -226,7 +226,7 @@ told_first : (files : Files) (name bytes : List ℕ) → form_of name ≡ Some j
 told_first files name bytes form there =
     ap (λ o. option_map_or (most_of_file files o) (files name) 0) form ∙ ap (λ o. option_map_or (most_of_file files (Some joined)) o 0) there
 
-untold_first : (name : List ℕ) → form_of name ≡ Some joined → most_first None name ≡ 65536 + 64 * 1048576
+pub untold_first : (name : List ℕ) → form_of name ≡ Some joined → most_first None name ≡ 65536 + 64 * 1048576
 untold_first name form = ap most_of_form form
 
 size_is : {F : Type 0} (content : F → Option (List ℕ)) (file : F) (size : ℕ) (b : List ℕ) → HasSize (content file) size → content file ≡ Some b → size ≡ length b
@@ -256,6 +256,21 @@ name_within (Some file) rest count is = omega (arith, is)
 names_within : (files : Files) (names : List (List ℕ)) → most_of_names files names ≤ length names * 1048576
 names_within files [] = omega arith
 names_within files (name ∷ names) = omega (arith, name_within (files name) (most_of_names files names) (length names) (names_within files names))
+
+-- of a list and of the files that it names, where they are told
+pub list_within : (files : Files) (name : List ℕ) → form_of name ≡ Some joined → most_first (Some files) name ≤ most_of_joined (lines_in files name)
+list_within files name form = go (files name) refl where
+  none_found : files name ≡ None → most_first (Some files) name ≡ 0
+  none_found is = ap (λ o. option_map_or (most_of_file files (form_of name)) o 0) is
+
+  within : (names : Result (List (List ℕ)) ListRefusal) → most_of_lines files names ≤ lines_of names * 1048576
+  within (Ok names) = names_within files names
+  within (Err refusal) = omega arith
+
+  go : (o : Option (List ℕ)) → files name ≡ o → most_first (Some files) name ≤ most_of_joined (lines_in files name)
+  go None is = omega (arith, none_found is)
+  go (Some bytes) is =
+      omega (arith, told_first files name bytes form is, of_any (length bytes), within (list_of bytes), found_lines files name bytes (list_of bytes) is refl)
 
 lines_within : (told : Told) (names : List (List ℕ)) → most_in_lines told names ≤ length names * 1048576
 lines_within None names = omega arith

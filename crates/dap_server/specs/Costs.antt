@@ -55,6 +55,10 @@ lines_in files name = option_map_or (λ bytes. lines_of (list_of bytes)) (files 
 abbrev pub IsWithinLines : Files → List ℕ → ℕ → ℕ → Type 0
 IsWithinLines files name before now = now ≤ before + most_of_joined (lines_in files name)
 
+-- no more was asked than for a list of that name that the shelf may have: where it tells its files, for the one that it has
+abbrev pub IsWithinAList : Told → List ℕ → ℕ → ℕ → Type 0
+IsWithinAList told name before now = (files : Files) × MayHave told files × IsWithinLines files name before now
+
 -- where a list is refused by itself or by a line, so many lines' files were read: none, those before a line that
 -- names none, and that of a line whose file has no header with them
 abbrev pub IsBehindLines : Cause → ℕ → Type 0

@@ -6,7 +6,7 @@ ghost use Rattle.dap_errors.specs.declared.cause.Cause.{Cause};
 ghost use Rattle.dap_outside.specs.Causes.{Rose};
 ghost use Rattle.dap_outside.specs.Files.{IsBytes};
 ghost use Rattle.xdr_encode.specs.Bodies.{FitsFile, HasNoFile, MayAsk, cost_in, text_in};
-ghost use Rattle.dap_server.specs.Costs.{IsAskedBefore, IsCost, IsCostAt, asks_shelf, most_first, most_of_joined};
+ghost use Rattle.dap_server.specs.Costs.{IsAskedBefore, IsCost, IsCostAt, IsWithinAList, asks_shelf, most_first, most_of_joined};
 ghost use Rattle.dap_server.specs.Files.{form_of, is_read_first, joined, saved};
 ghost use Rattle.dap_server.specs.Prepared.{IsFor, IsJoinedFor, IsOver, MayGive, MayGiveWithin, MustGive, WhereBody, WhereJoined, WhereNoShelfFault, WhereOfList, WhereRefuse, WhereSaved, WhereShelfFault, WhereText};
 ghost use Rattle.saved_source.specs.Bodies.{Sends};
@@ -189,8 +189,11 @@ pub fn prepare<R: Threads + Sync, S: Shelf>(
     ensures files { S.files shelf.new ≡ S.files shelf.old }
     ensures asked { S.asked shelf.new ≤ S.asked shelf.old + most_first (S.files shelf.old) target.now.name }
 
-    // Of a list no more than its bytes and the front of a file for each of its lines, also where the shelf tells no
-    // files: then the list is one that it may have, with which this is the answer.
+    // Of a list no more than its bytes and the front of a file for each of its lines, whatever comes of it: for the
+    // list that the shelf tells, or for one that it may have.
+    ensures any_list { form_of target.now.name ≡ Some joined → IsWithinAList (S.files shelf.old) target.now.name (S.asked shelf.old) (S.asked shelf.new) }
+
+    // Where there is an answer, for a list that the shelf may have with which this is the answer.
     ensures of_list { form_of target.now.name ≡ Some joined → WhereOfList result (MayGiveWithin (S.files shelf.old) (asked_of target.now) (S.asked shelf.old) (S.asked shelf.new)) }
 
     // Of joined files no more than their list and the front of each.

@@ -1,16 +1,16 @@
 //! Bodies of the largest headers and tables, and variables and DDSs that are too large.
 
-use crate::building::{append_times, append_words, expect_same, name_of, sum_of};
+use crate::building::{append_times, append_words, expect_same, name_of, sum_of, times};
 use crate::expected::{Sent, expect_sent, tall_rows, variables_sent};
+use crate::expecting::expect;
 use crate::header_limits::{LONGEST, VARIABLES, wide_dds, wide_header, wide_len};
-use crate::sending::{cut_body, rows_body, sent_of};
+use crate::sending::{cut_body, sent_cut, sent_rows};
 use crate::table_limits;
 use crate::table_limits::{
     COLUMNS, ROWS, TALL, digits_sum, is_kept, tall_table, wide_query, wide_table,
 };
 use crate::tallies::byte_at;
 use dap_types::Memory;
-use slab_fill::NoGate;
 use std::alloc::Global;
 use std::process::Abort;
 use std::test::Fail;
@@ -28,12 +28,10 @@ fn expect_variables<R: Threads + Abort + Sync>(
     let (variables, length) = file;
     let size = wide_len(variables, length).min(1 << 40);
     let front = wide_header(alloc, variables, length)?;
-    let Ok(mut body) = cut_body(rt, alloc, &front, size, b"f", query)? else {
-        panic!(rt; "no body");
-    };
-    let (tally, _) = sent_of(rt, &mut body, size, 2, &NoGate);
-    expect_same(rt, body.dds(), &wide_dds(alloc, left, b"f")?);
-    expect_sent(rt, &tally, &variables_sent(body.dds(), left, length));
+    let sent = sent_cut(rt, alloc, &front, size, query, 2)?;
+    let dds = sent.dds.bytes();
+    expect_same(rt, dds, &wide_dds(alloc, left, b"f")?);
+    expect_sent(rt, &sent.tally, &variables_sent(dds, left, length));
     Ok(())
 }
 
@@ -93,29 +91,42 @@ fn long_names(alloc: Global, variables: u32, dimensions: u32) -> Result<Vec<u8>,
     Ok(bytes)
 }
 
-/// Why a file has no body under a name of so many bytes, or the length of its DDS.
+/// Why there is no body of what a constraint leaves of a file of that name and length, or the length of its DDS.
 fn dds_len<R: Abort>(
+    rt: &R,
+    alloc: Global,
+    front: &[u8],
+    size: u64,
+    name: &[u8],
+    query: &[u8],
+) -> Result<Result<usize, BodyRefusal>, Fail> {
+    match cut_body(rt, alloc, front, size, name, query)? {
+        Ok(body) => Ok(Ok(body.dds().len())),
+        Err(refusal) => Ok(Err(refusal)),
+    }
+}
+
+/// Under a name of so many bytes the file has a DDS of that length, or no body for that reason.
+fn expect_dds_len<R: Abort>(
     rt: &R,
     alloc: Global,
     file: &[u8],
     name_len: usize,
-) -> Result<Result<usize, BodyRefusal>, Fail> {
-    let mut name = Vec::new(alloc);
-    append_times(&mut name, b"f", name_len)?;
-    match cut_body(rt, alloc, file, file.len() as u64, &name, b"")? {
-        Ok(body) => Ok(Ok(body.dds().len())),
-        Err(refusal) => Ok(Err(refusal)),
-    }
+    expected: Result<usize, BodyRefusal>,
+) -> Result<(), Fail> {
+    let name = times(alloc, b"f", name_len)?;
+    let found = dds_len(rt, alloc, file, file.len() as u64, &name, b"")?;
+    expect(rt, found, expected);
+    Ok(())
 }
 
 #[test]
 fn longest_dds_is_the_last_that_is_sent(rt: HostRuntime) -> Result<(), Fail> {
     let alloc = rt.alloc();
     let file = long_names(alloc, 684, 32)?;
-    assert_eq!(rt; dds_len(&rt, alloc, &file, 734)?, Ok(16_777_216));
+    expect_dds_len(&rt, alloc, &file, 734, Ok(16_777_216))?;
     let refusal = BodyRefusal::TooLarge { leaf: 0 };
-    assert_eq!(rt; dds_len(&rt, alloc, &file, 735)?, Err(refusal));
-    Ok(())
+    expect_dds_len(&rt, alloc, &file, 735, Err(refusal))
 }
 
 /// The dimensions `y`, `x` and `n`, and three variables.
@@ -139,16 +150,21 @@ const LARGEST: &[u32] = &[
     3,
 ];
 
+/// `a`, `v[y][x]` and `w[n]`, each up to where it begins.
+const VARIABLES_OF_LARGEST: &[&[u32]] = &[
+    &[1, 0x61000000, 0, 0, 0, 1, 4],
+    &[1, 0x76000000, 2, 0, 1, 0, 0, 1, 0],
+    &[1, 0x77000000, 1, 2, 0, 0, 1, 0],
+];
+
 /// A file of 8 GiB with Bytes `a`, `v[y = 65536][x = 65536]` and `w[n = 2147483647]`, up to that length.
 fn largest_variables(alloc: Global, length: u32) -> Result<Vec<u8>, Memory> {
     let mut bytes = Vec::new(alloc);
     append_words(&mut bytes, LARGEST)?;
-    append_words(&mut bytes, &[1, 0x61000000, 0, 0, 0, 1, 4])?;
-    append_words(&mut bytes, &[length])?;
-    append_words(&mut bytes, &[1, 0x76000000, 2, 0, 1, 0, 0])?;
-    append_words(&mut bytes, &[1, 0, length])?;
-    append_words(&mut bytes, &[1, 0x77000000, 1, 2, 0, 0])?;
-    append_words(&mut bytes, &[1, 0, length])?;
+    for variable in VARIABLES_OF_LARGEST {
+        append_words(&mut bytes, variable)?;
+        append_words(&mut bytes, &[length])?;
+    }
     bytes.resize(length as usize, 0)?;
     Ok(bytes)
 }
@@ -195,11 +211,9 @@ fn most_dimensions_are_sent(rt: HostRuntime) -> Result<(), Fail> {
     let file = deepest_variable(alloc, 32, LONGEST)?;
     let mut query = Vec::from_slice(alloc, b"aaaa")?;
     append_times(&mut query, b"[0][0:1]", 16)?;
-    let Ok(mut body) = cut_body(&rt, alloc, &file, 1 << 33, b"f", &query)? else {
-        panic!(rt; "no body");
-    };
-    let (tally, _) = sent_of(&rt, &mut body, 1 << 33, 1, &NoGate);
-    expect_sent(&rt, &tally, &deepest_sent(body.dds(), LONGEST, 65_536));
+    let sent = sent_cut(&rt, alloc, &file, 1 << 33, &query, 1)?;
+    let expected = deepest_sent(sent.dds.bytes(), LONGEST, 65_536);
+    expect_sent(&rt, &sent.tally, &expected);
     Ok(())
 }
 
@@ -215,17 +229,26 @@ const LARGE: [(&[u8], Option<u32>); 8] = [
     (b"a,v[0:65535][0:2:65535],w", Some(2)),
 ];
 
+/// What the constraint leaves of the file has that leaf, which is too large, or none.
+fn expect_large<R: Abort>(
+    rt: &R,
+    alloc: Global,
+    file: &[u8],
+    query: &[u8],
+    leaf: Option<u32>,
+) -> Result<(), Fail> {
+    let refusal = dds_len(rt, alloc, file, 1 << 33, b"f", query)?.err();
+    let expected = leaf.map(|leaf| BodyRefusal::TooLarge { leaf });
+    expect(rt, refusal, expected);
+    Ok(())
+}
+
 #[test]
 fn leaves_of_too_many_elements_are_told(rt: HostRuntime) -> Result<(), Fail> {
     let alloc = rt.alloc();
     let file = largest_variables(alloc, LONGEST)?;
     for (query, leaf) in &LARGE {
-        let refusal = match cut_body(&rt, alloc, &file, 1 << 33, b"f", query)? {
-            Ok(_) => None,
-            Err(refusal) => Some(refusal),
-        };
-        let expected = leaf.map(|leaf| BodyRefusal::TooLarge { leaf });
-        assert_eq!(rt; refusal, expected);
+        expect_large(&rt, alloc, &file, query, *leaf)?;
     }
     Ok(())
 }
@@ -247,10 +270,22 @@ fn wide_rows(dds: &[u8], rows: u32) -> Sent {
 fn widest_table_is_sent(rt: HostRuntime) -> Result<(), Fail> {
     let alloc = rt.alloc();
     let text = wide_table(alloc, ROWS, COLUMNS, table_limits::LONGEST)?;
-    let mut body = rows_body(&rt, alloc, &text, &wide_query(alloc, COLUMNS)?)?;
-    let (tally, reads) = sent_of(&rt, &mut body, 0, 1, &NoGate);
-    assert_eq!(rt; reads, 0);
-    expect_sent(&rt, &tally, &wide_rows(body.dds(), ROWS));
+    let sent = sent_rows(&rt, alloc, &text, &wide_query(alloc, COLUMNS)?)?;
+    expect(&rt, sent.reads, 0);
+    expect_sent(&rt, &sent.tally, &wide_rows(sent.dds.bytes(), ROWS));
+    Ok(())
+}
+
+/// Of a tall table the constraint leaves so many rows, the first.
+fn expect_first<R: Threads + Abort + Sync>(
+    rt: &R,
+    alloc: Global,
+    text: &[u8],
+    query: &[u8],
+    rows: u32,
+) -> Result<(), Fail> {
+    let sent = sent_rows(rt, alloc, text, query)?;
+    expect_sent(rt, &sent.tally, &tall_rows(sent.dds.bytes(), rows));
     Ok(())
 }
 
@@ -258,10 +293,6 @@ fn widest_table_is_sent(rt: HostRuntime) -> Result<(), Fail> {
 fn tallest_table_is_sent(rt: HostRuntime) -> Result<(), Fail> {
     let alloc = rt.alloc();
     let text = tall_table(alloc, TALL)?;
-    for (query, end) in [(b"".as_slice(), TALL), (b"&t.n<524288".as_slice(), 524_288)] {
-        let mut body = rows_body(&rt, alloc, &text, query)?;
-        let (tally, _) = sent_of(&rt, &mut body, 0, 1, &NoGate);
-        expect_sent(&rt, &tally, &tall_rows(body.dds(), end));
-    }
-    Ok(())
+    expect_first(&rt, alloc, &text, b"", TALL)?;
+    expect_first(&rt, alloc, &text, b"&t.n<524288", 524_288)
 }

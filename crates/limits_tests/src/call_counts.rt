@@ -2,12 +2,13 @@
 
 use crate::building::{append_times, append_words};
 use crate::header_limits::LONGEST;
-use crate::sending::{cut_body, rows_body, sent_of};
+use crate::sending::{sent_cut, sent_rows};
 use crate::table_limits::{TALL, tall_table};
 use dap_types::Memory;
-use slab_fill::NoGate;
 use std::alloc::Global;
+use std::process::Abort;
 use std::test::Fail;
+use std::thread::Threads;
 
 /// The bytes of a batch, and of a buffer before a sink.
 const BATCH: u64 = 65_536;
@@ -38,22 +39,36 @@ const CUTS: [(&[u8], u64, u64); 4] = [
     (b"v[0:999][7]", 1000, 1),
 ];
 
+fn expect_reads<R: Abort>(rt: &R, reads: u64, most: u64) {
+    assert!(rt; reads <= most, "{reads} reads");
+}
+
+fn expect_puts<R: Abort>(rt: &R, puts: u64, most: u64) {
+    assert!(rt; puts <= most, "{puts} puts");
+}
+
+/// What the constraint leaves of the file takes so many reads and so many batches at most.
+fn expect_calls<R: Threads + Abort + Sync>(
+    rt: &R,
+    alloc: Global,
+    file: &[u8],
+    query: &[u8],
+    most: (u64, u64),
+) -> Result<(), Fail> {
+    let (most_reads, batches) = most;
+    let sent = sent_cut(rt, alloc, file, MILLION_FILE, query, 1)?;
+    expect_reads(rt, sent.reads, most_reads);
+    // One for what stands before, and two for the counts.
+    expect_puts(rt, sent.tally.puts.saturating_sub(3), batches);
+    Ok(())
+}
+
 #[test]
 fn arrays_take_a_read_a_row_and_a_put_a_batch(rt: HostRuntime) -> Result<(), Fail> {
     let alloc = rt.alloc();
     let file = million(alloc, LONGEST)?;
     for (query, most_reads, batches) in &CUTS {
-        let Ok(mut body) = cut_body(&rt, alloc, &file, MILLION_FILE, b"f", query)? else {
-            panic!(rt; "no body");
-        };
-        let (tally, reads) = sent_of(&rt, &mut body, MILLION_FILE, 1, &NoGate);
-        assert!(rt; reads <= *most_reads, "{reads} reads");
-        // One for what stands before, and two for the counts.
-        assert!(rt;
-            tally.puts.saturating_sub(3) <= *batches,
-            "{} puts",
-            tally.puts
-        );
+        expect_calls(&rt, alloc, &file, query, (*most_reads, *batches))?;
     }
     Ok(())
 }
@@ -74,27 +89,21 @@ fn letters(alloc: Global, many: u32) -> Result<Vec<u8>, Memory> {
 }
 
 #[test]
-fn texts_and_cells_are_put_together(rt: HostRuntime) -> Result<(), Fail> {
+fn texts_are_put_together(rt: HostRuntime) -> Result<(), Fail> {
     let alloc = rt.alloc();
     let file = letters(alloc, 60_000)?;
-    let size = file.len() as u64;
-    let Ok(mut body) = cut_body(&rt, alloc, &file, size, b"f", b"")? else {
-        panic!(rt; "no body");
-    };
-    let (tally, reads) = sent_of(&rt, &mut body, size, 1, &NoGate);
-    assert!(rt; reads <= 1, "{reads} reads");
-    assert!(rt; tally.bytes >= 240_000);
-    assert!(rt;
-        tally.puts <= tally.bytes / BATCH + 4,
-        "{} puts",
-        tally.puts
-    );
-    let mut rows = rows_body(&rt, alloc, &tall_table(alloc, TALL)?, b"")?;
-    let (tally, _) = sent_of(&rt, &mut rows, 0, 1, &NoGate);
-    assert!(rt;
-        tally.puts <= tally.bytes / BATCH + 2,
-        "{} puts",
-        tally.puts
-    );
+    let sent = sent_cut(&rt, alloc, &file, file.len() as u64, b"", 1)?;
+    expect_reads(&rt, sent.reads, 1);
+    assert!(rt; sent.tally.bytes >= 240_000);
+    expect_puts(&rt, sent.tally.puts, sent.tally.bytes / BATCH + 4);
+    Ok(())
+}
+
+#[test]
+fn cells_are_put_together(rt: HostRuntime) -> Result<(), Fail> {
+    let alloc = rt.alloc();
+    let text = tall_table(alloc, TALL)?;
+    let sent = sent_rows(&rt, alloc, &text, b"")?;
+    expect_puts(&rt, sent.tally.puts, sent.tally.bytes / BATCH + 2);
     Ok(())
 }

@@ -1,6 +1,7 @@
 //! Constraints of 1,024 items, 1,024 clauses and 1,024 values, and long names and texts in one.
 
-use crate::building::{append_times, expect_same, name_of, names_sum, sum_of, times};
+use crate::building::{append_times, name_of, names_sum, sum_of, times};
+use crate::expecting::expect;
 use constraint_parse::{Clause, Constant, Constraint, Item, Number, parse};
 use dap_types::Memory;
 use std::alloc::Global;
@@ -10,20 +11,27 @@ use std::test::Fail;
 /// The most items of a constraint, clauses of one and values of a clause.
 const MOST: u32 = 1024;
 
+/// Appends the names from the second of so many on, each with what stands before and behind it.
+pub fn append_names(
+    text: &mut Vec<u8>,
+    many: u32,
+    before: &[u8],
+    behind: &[u8],
+) -> Result<(), Memory> {
+    for number in 1..many {
+        text.extend_from_slice(before)?;
+        text.extend_from_slice(&name_of(number))?;
+        text.extend_from_slice(behind)?;
+    }
+    Ok(())
+}
+
 /// So many items on the columns of `t`, with brackets, so many clauses on them, and in the last clause so many
 /// values, each 3.
 fn long_constraint(alloc: Global, many: u32) -> Result<Vec<u8>, Memory> {
     let mut text = Vec::from_slice(alloc, b"t.aaaa[1:2:3]")?;
-    for number in 1..many {
-        text.extend_from_slice(b",t.")?;
-        text.extend_from_slice(&name_of(number))?;
-        text.extend_from_slice(b"[1:2:3]")?;
-    }
-    for number in 1..many {
-        text.extend_from_slice(b"&t.")?;
-        text.extend_from_slice(&name_of(number))?;
-        text.extend_from_slice(b">=-1")?;
-    }
+    append_names(&mut text, many, b",t.", b"[1:2:3]")?;
+    append_names(&mut text, many, b"&t.", b">=-1")?;
     text.extend_from_slice(b"&t.b={3")?;
     append_times(&mut text, b",3", many.saturating_sub(1) as usize)?;
     text.extend_from_slice(b"}")?;
@@ -81,18 +89,23 @@ fn items_seen(items: &[Item]) -> (usize, u64) {
     (slabs, sum)
 }
 
+fn expect_items<R: Abort>(rt: &R, items: &[Item], many: u32) {
+    expect(rt, items.len(), many as usize);
+    expect(rt, items_seen(items), (many as usize, names_sum(many)));
+}
+
+fn expect_clauses<R: Abort>(rt: &R, clauses: &[Clause], many: u32) {
+    let sum = i128::from(many) * 3 - (i128::from(many) - 1);
+    expect(rt, clauses.len(), many as usize);
+    expect(rt, clauses_sum(clauses), sum);
+}
+
+/// The text is read as those items and those clauses.
 fn expect_constraint<R: Abort>(rt: &R, alloc: Global, many: u32) -> Result<(), Fail> {
     let text = long_constraint(alloc, many)?;
     let constraint = parse(alloc, &text)?;
-    let items = constraint.items.items();
-    let clauses = constraint.clauses.items();
-    assert_eq!(rt;
-        (items.len(), clauses.len()),
-        (many as usize, many as usize)
-    );
-    assert_eq!(rt; items_seen(items), (many as usize, names_sum(many)));
-    let sum = i128::from(many) * 3 - (i128::from(many) - 1);
-    assert_eq!(rt; clauses_sum(clauses), sum);
+    expect_items(rt, constraint.items.items(), many);
+    expect_clauses(rt, constraint.clauses.items(), many);
     Ok(())
 }
 
@@ -101,29 +114,48 @@ fn longest_constraint_is_read(rt: HostRuntime) -> Result<(), Fail> {
     expect_constraint(&rt, rt.alloc(), MOST)
 }
 
-/// Whether the first clause has this text alone.
-fn has_text(constraint: &Constraint, wanted: &[u8]) -> bool {
-    let Some(Clause::Compare { values, .. }) = constraint.clauses.items().first() else {
-        return false;
-    };
-    match values.items() {
-        [Constant::Text(text)] => text.bytes() == wanted,
+/// Whether it is this text.
+fn is_text(constant: &Constant, wanted: &[u8]) -> bool {
+    match constant {
+        Constant::Text(text) => text.bytes() == wanted,
         _ => false,
     }
+}
+
+/// Whether the clause has this text alone.
+fn has_text(clause: &Clause, wanted: &[u8]) -> bool {
+    let Clause::Compare { values, .. } = clause else {
+        return false;
+    };
+    let values = values.items();
+    values.len() == 1 && is_text(&values[0], wanted)
+}
+
+/// The first clause has this text alone.
+fn expect_text<R: Abort>(rt: &R, clauses: &[Clause], wanted: &[u8]) {
+    let Some(clause) = clauses.first() else {
+        panic!(rt; "no clause");
+    };
+    assert!(rt; has_text(clause, wanted));
+}
+
+/// A name and, as a value, a text.
+fn long_words(alloc: Global, name: &[u8], value: &[u8]) -> Result<Vec<u8>, Memory> {
+    let mut text = Vec::from_slice(alloc, name)?;
+    text.extend_from_slice(b"&t.s=\"")?;
+    text.extend_from_slice(value)?;
+    text.extend_from_slice(b"\"")?;
+    Ok(text)
 }
 
 /// A name and a text of so many bytes.
 fn expect_long_words<R: Abort>(rt: &R, alloc: Global, many: u32) -> Result<(), Fail> {
     let name = times(alloc, b"n", many as usize)?;
     let value = times(alloc, b"v", many as usize)?;
-    let mut text = Vec::from_slice(alloc, &name)?;
-    text.extend_from_slice(b"&t.s=\"")?;
-    text.extend_from_slice(&value)?;
-    text.extend_from_slice(b"\"")?;
-    let constraint = parse(alloc, &text)?;
+    let constraint = parse(alloc, &long_words(alloc, &name, &value)?)?;
     let sum = u64::from(many) * u64::from(b'n');
-    assert_eq!(rt; items_seen(constraint.items.items()), (0, sum));
-    assert!(rt; has_text(&constraint, &value));
+    expect(rt, items_seen(constraint.items.items()), (0, sum));
+    expect_text(rt, constraint.clauses.items(), &value);
     Ok(())
 }
 

@@ -1,8 +1,9 @@
 //! Bodies of many rows and of a long text, decoded whole.
 
 use crate::building::{append_times, append_words, sum_of};
+use crate::expecting::expect;
 use crate::table_limits::TALL;
-use dap_types::{Memory, Tree, Value};
+use dap_types::{List, Memory, Tree, Value};
 use std::alloc::Global;
 use std::process::Abort;
 use std::test::Fail;
@@ -49,30 +50,41 @@ fn rows_seen(tree: &Tree) -> (u32, u64) {
     (count, sum)
 }
 
-fn expect_rows<R: Abort>(rt: &R, alloc: Global, rows: u32) -> Result<(), Fail> {
-    let Ok(filled) = decode_all(alloc, &tall_body(alloc, rows)?) else {
+/// The values of the body.
+fn decoded<R: Abort>(rt: &R, alloc: Global, body: &[u8]) -> List<Tree> {
+    let Ok(filled) = decode_all(alloc, body) else {
         panic!(rt; "not decoded");
     };
+    filled.values
+}
+
+/// The value that stands alone.
+fn alone<'a, R: Abort>(rt: &R, values: &'a [Tree]) -> &'a Tree {
+    let [tree] = values else {
+        panic!(rt; "not one value");
+    };
+    tree
+}
+
+fn expect_rows<R: Abort>(rt: &R, alloc: Global, rows: u32) -> Result<(), Fail> {
+    let values = decoded(rt, alloc, &tall_body(alloc, rows)?);
     let sum = u64::from(rows).saturating_sub(1) * u64::from(rows) / 2;
-    match filled.values.items() {
-        [tree] => assert_eq!(rt; rows_seen(tree), (rows, sum)),
-        _ => panic!(rt; "no Sequence"),
-    }
+    expect(rt, rows_seen(alone(rt, values.items())), (rows, sum));
     Ok(())
 }
 
-/// A text of so many bytes, a multiple of four.
-fn expect_text<R: Abort>(rt: &R, alloc: Global, length: u32) -> Result<(), Fail> {
+/// A body of a text of so many bytes, a multiple of four.
+fn text_body(alloc: Global, length: u32) -> Result<Vec<u8>, Memory> {
     let mut body = Vec::from_slice(alloc, b"Dataset {\n    String s;\n} f;\nData:\n")?;
     append_words(&mut body, &[length])?;
     append_times(&mut body, b"x", length as usize)?;
-    let Ok(filled) = decode_all(alloc, &body) else {
-        panic!(rt; "not decoded");
-    };
-    match filled.values.items() {
-        [tree] => assert_eq!(rt; cell_sum(tree), u64::from(length) * u64::from(b'x')),
-        _ => panic!(rt; "no text"),
-    }
+    Ok(body)
+}
+
+fn expect_text<R: Abort>(rt: &R, alloc: Global, length: u32) -> Result<(), Fail> {
+    let values = decoded(rt, alloc, &text_body(alloc, length)?);
+    let sum = u64::from(length) * u64::from(b'x');
+    expect(rt, cell_sum(alone(rt, values.items())), sum);
     Ok(())
 }
 

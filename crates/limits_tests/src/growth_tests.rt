@@ -1,9 +1,14 @@
 //! Work that no call tells, by the processor time of the thread: what grows in step with its input takes so
 //! much longer for more of it, and not its square. Of several tries the shortest counts.
 
+ghost use Rattle.std.specs.Prelude.{◌≡◌, ℕ, List};
+ghost use Rattle.dap_types.specs.Numbered.{number_in};
+ghost use Rattle.dap_types.specs.View.{dataset_view};
+ghost use Rattle.dap_types.specs.WellFormed.{IsWellFormed, number_of};
+
 use crate::building::{name_of, times};
 use crate::tallies::Fed;
-use constraint_parse::parse;
+use constraint_parse::{Constraint, parse};
 use dap_http::{HeadRead, HeadReader};
 use dap_types::{BaseType, Column, Dataset, Decl, Id, Index, List, Memory, check};
 use grid_projection::resolve;
@@ -48,14 +53,19 @@ fn heads_take_time_in_step(rt: HostRuntime) -> Result<(), Fail> {
     Ok(())
 }
 
+/// The Byte of this number.
+fn byte(alloc: Global, number: u32) -> Result<Decl, Memory> {
+    Ok(Decl::Base(Column {
+        name: Id::raw(alloc, &name_of(number))?,
+        base: BaseType::Byte,
+    }))
+}
+
 /// A dataset of one Structure with so many members.
 fn structure(alloc: Global, members: u32) -> Result<Dataset, Memory> {
     let mut parts = List::new(alloc);
     for number in 0..members {
-        parts.push(Decl::Base(Column {
-            name: Id::raw(alloc, &name_of(number))?,
-            base: BaseType::Byte,
-        }))?;
+        parts.push(byte(alloc, number)?)?;
     }
     let mut members = List::new(alloc);
     members.push(Decl::Structure(Id::raw(alloc, b"s")?, parts))?;
@@ -65,7 +75,32 @@ fn structure(alloc: Global, members: u32) -> Result<Dataset, Memory> {
     })
 }
 
-/// So many items on the whole Structure are resolved.
+/// So many items on the whole Structure.
+fn constraint_of(alloc: Global, items: usize) -> Result<Constraint, Fail> {
+    let mut text = times(alloc, b"s,", items)?;
+    text.push(b's')?;
+    Ok(parse(alloc, &text)?)
+}
+
+/// The constraint is resolved, and marks the first member of the Structure.
+fn resolve_once<R: CpuClock + Abort>(
+    rt: &R,
+    alloc: Global,
+    dataset: &Dataset,
+    index: &Index,
+    constraint: &Constraint,
+) -> Result<Duration, Fail>
+    requires well_formed { IsWellFormed (dataset_view dataset.now) }
+    requires indexed { (path : List (List ℕ)) → number_in index.now path ≡ number_of (dataset_view dataset.now) path }
+{
+    let start = rt.thread_cpu_time()?;
+    let marks = resolve(alloc, dataset, index, constraint)?;
+    let took = rt.thread_cpu_time()?.saturating_sub(start);
+    assert!(rt; marks.slabs(2).is_some());
+    Ok(took)
+}
+
+/// The shortest time of some tries to resolve so many items.
 fn resolve_time<R: CpuClock + Abort>(
     rt: &R,
     alloc: Global,
@@ -76,15 +111,10 @@ fn resolve_time<R: CpuClock + Abort>(
         panic!(rt; "not well formed");
     };
     let index = Index::new(alloc, dataset)?;
-    let mut text = times(alloc, b"s,", items)?;
-    text.push(b's')?;
-    let constraint = parse(alloc, &text)?;
+    let constraint = constraint_of(alloc, items)?;
     let mut shortest = Duration::from_secs(60);
     for _ in 0..TRIES {
-        let start = rt.thread_cpu_time()?;
-        let marks = resolve(alloc, dataset, &index, &constraint)?;
-        shortest = shortest.min(rt.thread_cpu_time()?.saturating_sub(start));
-        assert!(rt; marks.slabs(2).is_some());
+        shortest = shortest.min(resolve_once(rt, alloc, dataset, &index, &constraint)?);
     }
     Ok(shortest)
 }

@@ -1,6 +1,7 @@
 //! Heads, targets and addresses of the greatest lengths, and what they cost.
 
-use crate::building::{append_times, expect_same, sum_of, times};
+use crate::building::{append_times, expect_length, expect_same, sum_of, times};
+use crate::expecting::expect;
 use crate::tallies::Fed;
 use dap_http::{
     Coding, HeadRead, HeadReader, Kind, ReplyRead, ReplyReader, Target, Url, request_bytes,
@@ -17,15 +18,35 @@ const REPLY: usize = 65_536;
 
 const TARGET: usize = 16_384;
 
-/// A request with so many header fields, the last of them so long that its head has so many bytes.
-fn request(alloc: Global, fields: usize, length: usize) -> Result<Vec<u8>, Memory> {
-    let mut head = Vec::from_slice(alloc, b"GET /v.nc.dds HTTP/1.1\r\n")?;
-    append_times(&mut head, b"a: b\r\n", fields.saturating_sub(1))?;
+/// Appends so many header fields, the last of them so long that the head has so many bytes.
+fn append_fields(head: &mut Vec<u8>, fields: usize, length: usize) -> Result<(), Memory> {
+    append_times(head, b"a: b\r\n", fields.saturating_sub(1))?;
     head.extend_from_slice(b"x: ")?;
     let left = length.saturating_sub(head.len()).saturating_sub(4);
-    append_times(&mut head, b"y", left)?;
+    append_times(head, b"y", left)?;
     head.extend_from_slice(b"\r\n\r\n")?;
+    Ok(())
+}
+
+/// A request with so many header fields, whose head has so many bytes.
+fn request(alloc: Global, fields: usize, length: usize) -> Result<Vec<u8>, Memory> {
+    let mut head = Vec::from_slice(alloc, b"GET /v.nc.dds HTTP/1.1\r\n")?;
+    append_fields(&mut head, fields, length)?;
     Ok(head)
+}
+
+/// The heads of a reply with so many header fields behind its length, which have so many bytes.
+fn reply_heads(alloc: Global, fields: usize, length: usize) -> Result<Vec<u8>, Memory> {
+    let mut heads = Vec::from_slice(alloc, b"HTTP/1.1 200 OK\r\nContent-Length: 138\r\n")?;
+    append_fields(&mut heads, fields, length)?;
+    Ok(heads)
+}
+
+fn target_in(alloc: Global, read: HeadRead) -> Result<Option<Vec<u8>>, Memory> {
+    match read {
+        HeadRead::Head(head) => Ok(Some(Vec::from_slice(alloc, head.target.bytes())?)),
+        _ => Ok(None),
+    }
 }
 
 /// The target of a head that is read in pieces of so many bytes, and how often bytes were taken.
@@ -36,24 +57,35 @@ fn read_target(
 ) -> Result<(Option<Vec<u8>>, u64), Memory> {
     let mut source = Fed::new(head, piece);
     let mut reader = HeadReader::new(alloc)?;
-    let target = match reader.read(&mut source) {
-        HeadRead::Head(head) => Some(Vec::from_slice(alloc, head.target.bytes())?),
-        _ => None,
-    };
-    Ok((target, source.takes))
+    let read = reader.read(&mut source);
+    Ok((target_in(alloc, read)?, source.takes))
+}
+
+fn expect_takes<R: Abort>(rt: &R, takes: u64, most: u64) {
+    assert!(rt; takes <= most, "{takes} takes");
+}
+
+/// The longest request of so many header fields has its target.
+fn expect_request<R: Abort>(rt: &R, alloc: Global, fields: usize) -> Result<(), Fail> {
+    let head = request(alloc, fields, REQUEST)?;
+    expect_length(rt, &head, REQUEST);
+    let (target, takes) = read_target(alloc, head, 100_000)?;
+    expect(rt, target.as_deref(), Some(b"/v.nc.dds".as_slice()));
+    expect_takes(rt, takes, 5);
+    Ok(())
 }
 
 #[test]
 fn longest_request_is_read(rt: HostRuntime) -> Result<(), Fail> {
-    let alloc = rt.alloc();
-    for fields in [1, 64] {
-        let head = request(alloc, fields, REQUEST)?;
-        assert_eq!(rt; head.len(), REQUEST);
-        let (target, takes) = read_target(alloc, head, 100_000)?;
-        assert_eq!(rt; target.as_deref(), Some(b"/v.nc.dds".as_slice()));
-        assert!(rt; takes <= 5, "{takes} takes");
+    expect_request(&rt, rt.alloc(), 1)?;
+    expect_request(&rt, rt.alloc(), 64)
+}
+
+fn coding_in(read: ReplyRead) -> Option<Coding> {
+    match read {
+        ReplyRead::Final(coding) => Some(coding),
+        _ => None,
     }
-    Ok(())
 }
 
 /// The coding that a reply's heads tell, read in pieces of so many bytes, and how often bytes were taken.
@@ -64,45 +96,48 @@ fn read_reply(
 ) -> Result<(Option<Coding>, u64), Memory> {
     let mut source = Fed::new(heads, piece);
     let mut reader = ReplyReader::new(alloc)?;
-    let coding = match reader.read(&mut source) {
-        ReplyRead::Final(coding) => Some(coding),
-        _ => None,
-    };
-    Ok((coding, source.takes))
+    let read = reader.read(&mut source);
+    Ok((coding_in(read), source.takes))
 }
 
 #[test]
 fn longest_reply_heads_are_read(rt: HostRuntime) -> Result<(), Fail> {
     let alloc = rt.alloc();
-    let mut heads = Vec::from_slice(alloc, b"HTTP/1.1 200 OK\r\nContent-Length: 138\r\n")?;
-    append_times(&mut heads, b"a: b\r\n", 126)?;
-    heads.extend_from_slice(b"x: ")?;
-    let left = REPLY.saturating_sub(heads.len()).saturating_sub(4);
-    append_times(&mut heads, b"y", left)?;
-    heads.extend_from_slice(b"\r\n\r\n")?;
-    assert_eq!(rt; heads.len(), REPLY);
+    let heads = reply_heads(alloc, 127, REPLY)?;
+    expect_length(&rt, &heads, REPLY);
     let (coding, takes) = read_reply(alloc, heads, 100_000)?;
-    assert_eq!(rt; coding, Some(Coding::Length(138)));
-    assert!(rt; takes <= 17, "{takes} takes");
+    expect(&rt, coding, Some(Coding::Length(138)));
+    expect_takes(&rt, takes, 17);
     Ok(())
+}
+
+/// What stands before the query of the longest target, which has a name of 255 bytes.
+fn path(alloc: Global) -> Result<Vec<u8>, Memory> {
+    let mut path = Vec::from_slice(alloc, b"/")?;
+    append_times(&mut path, b"n", 252)?;
+    path.extend_from_slice(b".nc.dods?")?;
+    Ok(path)
+}
+
+fn target_of<R: Abort>(rt: &R, alloc: Global, text: &[u8]) -> Target {
+    let Ok(target) = Target::read(alloc, text) else {
+        panic!(rt; "no target");
+    };
+    target
 }
 
 #[test]
 fn longest_target_is_read(rt: HostRuntime) -> Result<(), Fail> {
     let alloc = rt.alloc();
-    let mut target = Vec::from_slice(alloc, b"/")?;
-    append_times(&mut target, b"n", 252)?;
-    target.extend_from_slice(b".nc.dods?")?;
-    let query = TARGET.saturating_sub(target.len());
-    append_times(&mut target, b"q", query)?;
-    assert_eq!(rt; target.len(), TARGET);
-    let Ok(found) = Target::read(alloc, &target) else {
-        panic!(rt; "no target");
-    };
-    assert_eq!(rt; found.kind, Kind::Dods);
-    assert_eq!(rt; found.name.as_str().len(), 255);
-    assert_eq!(rt; found.query.bytes().len(), query);
-    assert_eq!(rt; sum_of(found.query.bytes()), 113 * query as u64);
+    let mut text = path(alloc)?;
+    let query = TARGET.saturating_sub(text.len());
+    append_times(&mut text, b"q", query)?;
+    expect_length(&rt, &text, TARGET);
+    let found = target_of(&rt, alloc, &text);
+    expect(&rt, found.kind, Kind::Dods);
+    expect(&rt, found.name.as_str().len(), 255);
+    expect_length(&rt, found.query.bytes(), query);
+    expect(&rt, sum_of(found.query.bytes()), 113 * query as u64);
     Ok(())
 }
 
@@ -134,14 +169,18 @@ fn expected(alloc: Global, host: usize, path: usize, ce: usize) -> Result<Vec<u8
     Ok(text)
 }
 
-fn url_of<R: Abort>(rt: &R, alloc: Global, text: &[u8]) -> Result<Url, Fail> {
-    let Ok(address) = str::from_utf8(text) else {
+fn text_of<'a, R: Abort>(rt: &R, bytes: &'a [u8]) -> &'a str {
+    let Ok(text) = str::from_utf8(bytes) else {
         panic!(rt; "no text");
     };
+    text
+}
+
+fn url_of<R: Abort>(rt: &R, alloc: Global, address: &str) -> Url {
     let Ok(url) = Url::read(alloc, address) else {
         panic!(rt; "no address");
     };
-    Ok(url)
+    url
 }
 
 fn written(alloc: Global, url: &Url, ce: usize) -> Result<Bytes, Memory> {
@@ -153,7 +192,8 @@ fn written(alloc: Global, url: &Url, ce: usize) -> Result<Bytes, Memory> {
 #[test]
 fn long_request_is_written(rt: HostRuntime) -> Result<(), Fail> {
     let alloc = rt.alloc();
-    let url = url_of(&rt, alloc, &address(alloc, 255, 16_000)?)?;
+    let address = address(alloc, 255, 16_000)?;
+    let url = url_of(&rt, alloc, text_of(&rt, &address));
     let bytes = written(alloc, &url, 16_384)?;
     expect_same(&rt, bytes.bytes(), &expected(alloc, 255, 16_000, 16_384)?);
     Ok(())

@@ -2,7 +2,9 @@
 
 ghost use Rattle.std.specs.Prelude.{◌≡◌, IfOk};
 
-use crate::building::{append_times, append_words, expect_length, expect_same, name_of, sum_of};
+use crate::building::{append_times, append_words, expect_length, expect_same, name_of};
+use crate::expecting::expect;
+use crate::text_limits::word_sum;
 use dap_types::{Bytes, Memory};
 use das_text::{Entry, Word};
 use netcdf_source::{Header, read_header};
@@ -157,13 +159,20 @@ pub fn header_of<R: Abort>(
     Ok(header)
 }
 
+/// Whether the member is a leaf of ints that stands there.
+fn is_placed(header: &Header, member: u32, begin: u64) -> bool {
+    match header.layout(member) {
+        Some(layout) => layout.base == begin && layout.size == 4,
+        None => false,
+    }
+}
+
 /// Whether each variable is a leaf of ints that stands behind the one before it, from this place on.
 fn are_placed(header: &Header, variables: u32, from: u32) -> bool {
     let mut begin = u64::from(from);
     for number in 0..variables {
-        match header.layout(number + 1) {
-            Some(layout) if layout.base == begin && layout.size == 4 => {}
-            _ => return false,
+        if !is_placed(header, number.wrapping_add(1), begin) {
+            return false;
         }
         begin = begin.wrapping_add(8);
     }
@@ -226,10 +235,7 @@ fn words_seen(values: &[Word]) -> (u32, u64) {
     let mut sum = 0u64;
     for value in values {
         count = count.wrapping_add(1);
-        match value {
-            Word::Plain(text) => sum = sum.wrapping_add(sum_of(text.bytes())),
-            Word::Quoted(text) => sum = sum.wrapping_add(sum_of(text.bytes())),
-        }
+        sum = sum.wrapping_add(word_sum(value));
     }
     (count, sum)
 }
@@ -275,7 +281,7 @@ fn expect_attribute<R: Abort>(
     expected: (u32, u64),
 ) -> Result<(), Fail> {
     let seen = attribute_seen(rt, alloc, length, kind)?;
-    assert_eq!(rt; seen, expected);
+    expect(rt, seen, expected);
     Ok(())
 }
 

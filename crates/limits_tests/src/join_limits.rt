@@ -1,11 +1,19 @@
 //! As many headers of 1,048,576 bytes as a list may have lines, joined.
 
+ghost use Rattle.std.specs.Prelude.{◌≡◌, ℕ, List};
+ghost use Rattle.dap_types.specs.Numbered.{number_in};
+ghost use Rattle.dap_types.specs.View.{dataset_view};
+ghost use Rattle.dap_types.specs.WellFormed.{IsWellFormed, number_of};
+ghost use Rattle.join_source.specs.Joins.{members_in, name_in};
+ghost use Rattle.join_source.specs.Members.{joined_dataset};
+
 use crate::building::{expect_length, expect_same};
 use crate::header_limits::{
     LONGEST, VARIABLES, dds_over, header_of, record_header, wide_das, wide_len,
 };
-use constraint_parse::parse;
-use dap_types::{Bytes, Index, List, Memory};
+use crate::marking::constraint_of;
+use constraint_parse::Constraint;
+use dap_types::{Bytes, Dataset, Index, List, Memory};
 use grid_projection::resolve;
 use join_source::{JoinBody, Joined, join};
 use netcdf_source::Header;
@@ -63,27 +71,35 @@ fn das_of(alloc: Global, joined: &Joined) -> Result<Bytes, Memory> {
     das_text::print(alloc, &attributes)
 }
 
+/// The body of what a constraint leaves of their dataset.
+fn resolved_body(
+    alloc: Global,
+    joined: &Joined,
+    dataset: &Dataset,
+    index: &Index,
+    constraint: &Constraint,
+) -> Result<JoinBody, Fail>
+    requires dataset { dataset_view dataset.now ≡ joined_dataset (members_in joined.now) (name_in joined.now) }
+    requires well_formed { IsWellFormed (dataset_view dataset.now) }
+    requires indexed { (path : List (List ℕ)) → number_in index.now path ≡ number_of (dataset_view dataset.now) path }
+{
+    let marks = resolve(alloc, dataset, index, constraint)?;
+    Ok(JoinBody::new(alloc, joined, dataset, &marks)?)
+}
+
 /// The body of all that they have.
-fn body_of<R: Abort>(rt: &R, alloc: Global, joined: &Joined) -> Result<JoinBody, Fail> {
+fn body_of(alloc: Global, joined: &Joined) -> Result<JoinBody, Fail> {
     let dataset = joined.dataset(alloc)?;
     let index = Index::new(alloc, &dataset)?;
-    let Ok(constraint) = parse(alloc, b"") else {
-        panic!(rt; "no constraint");
-    };
-    let Ok(marks) = resolve(alloc, &dataset, &index, &constraint) else {
-        panic!(rt; "no marks");
-    };
-    let Ok(body) = JoinBody::new(alloc, joined, &dataset, &marks) else {
-        panic!(rt; "no body");
-    };
-    Ok(body)
+    let constraint = constraint_of(alloc, b"")?;
+    resolved_body(alloc, joined, &dataset, &index, &constraint)
 }
 
 /// Their dataset and their body have this DDS.
 fn expect_dds<R: Abort>(rt: &R, alloc: Global, joined: &Joined, dds: &[u8]) -> Result<(), Fail> {
     let printed = dds_of(alloc, joined)?;
     expect_same(rt, printed.bytes(), dds);
-    let body = body_of(rt, alloc, joined)?;
+    let body = body_of(alloc, joined)?;
     expect_same(rt, body.dds(), dds);
     Ok(())
 }

@@ -15,6 +15,8 @@ mod decode_limits;
 #[cfg(test)]
 mod expected;
 #[cfg(test)]
+mod expecting;
+#[cfg(test)]
 mod growth_tests;
 #[cfg(test)]
 mod head_limits;
@@ -22,6 +24,8 @@ mod head_limits;
 mod header_limits;
 #[cfg(test)]
 mod join_limits;
+#[cfg(test)]
+mod marking;
 #[cfg(test)]
 mod sending;
 #[cfg(test)]

@@ -1,11 +1,16 @@
 //! Tables of 67,108,864 bytes, of 1,024 columns and of 1,048,576 rows.
 
-ghost use Rattle.std.specs.Prelude.{◌<◌, ◌≤◌};
+ghost use Rattle.std.specs.Prelude.{◌≡◌, ◌<◌, ◌≤◌};
+ghost use Rattle.csv_source.specs.Dataset.{table_dataset};
+ghost use Rattle.dap_types.specs.View.{dataset_view};
+ghost use Rattle.dap_types.specs.WellFormed.{IsWellFormed};
 
 use crate::building::{append_times, expect_length, name_of, sum_of};
-use constraint_parse::parse;
+use crate::constraint_limits::append_names;
+use crate::expecting::expect;
+use crate::marking::{constraint_of, marks_of};
 use csv_source::{Cell, Table, read_table};
-use dap_types::{Index, Memory};
+use dap_types::{Dataset, Index, Memory};
 use grid_projection::{Marks, resolve};
 use sequence_select::{Tests, mask};
 use slab_fill::{Gate, NoGate};
@@ -64,6 +69,24 @@ fn append_header(text: &mut Vec<u8>, columns: u32) -> Result<(), Memory> {
     Ok(())
 }
 
+/// The rows of a wide table, which are the same from the eleventh on.
+fn ten_rows(alloc: Global, columns: u32) -> Result<Vec<Vec<u8>>, Memory> {
+    let mut ten = Vec::new(alloc);
+    for row in 0..10 {
+        ten.push(row_text(alloc, row, columns)?)?;
+    }
+    Ok(ten)
+}
+
+fn append_rows(text: &mut Vec<u8>, rows: u32, ten: &[Vec<u8>]) -> Result<(), Memory> {
+    for row in 0..rows {
+        if let Some(cells) = ten.get(row as usize % 10) {
+            text.extend_from_slice(cells)?;
+        }
+    }
+    Ok(())
+}
+
 /// A table of so many rows and columns, with line feeds behind them up to that length.
 pub fn wide_table(
     alloc: Global,
@@ -73,15 +96,7 @@ pub fn wide_table(
 ) -> Result<Vec<u8>, Memory> {
     let mut text = Vec::with_capacity(alloc, length)?;
     append_header(&mut text, columns)?;
-    let mut ten = Vec::new(alloc);
-    for row in 0..10 {
-        ten.push(row_text(alloc, row, columns)?)?;
-    }
-    for row in 0..rows {
-        if let Some(cells) = ten.get(row as usize % 10) {
-            text.extend_from_slice(cells)?;
-        }
-    }
+    append_rows(&mut text, rows, &ten_rows(alloc, columns)?)?;
     let left = length.saturating_sub(text.len());
     append_times(&mut text, b"\n", left)?;
     Ok(text)
@@ -174,8 +189,8 @@ fn expect_table<R: Abort>(
     let Ok(table) = read_table(alloc, text, b"t.csv") else {
         panic!(rt; "no table");
     };
-    assert_eq!(rt; (table.rows(), table.columns()), size);
-    assert_eq!(rt; cells_sum(&table), sum);
+    expect(rt, (table.rows(), table.columns()), size);
+    expect(rt, cells_sum(&table), sum);
     Ok(())
 }
 
@@ -208,19 +223,22 @@ fn largest_tables_are_read(rt: HostRuntime) -> Result<(), Fail> {
     expect_cell(&rt, rt.alloc(), LONGEST)
 }
 
-/// Items on the columns of a wide table, a clause on each that holds in each row, and one with so many values,
-/// which holds where the first digit is 0 or 3.
-pub fn wide_query(alloc: Global, many: u32) -> Result<Vec<u8>, Memory> {
-    let mut text = Vec::from_slice(alloc, b"t.aaaa")?;
-    for column in 1..many {
-        text.extend_from_slice(b",t.")?;
-        text.extend_from_slice(&name_of(column))?;
-    }
+/// Clauses on the columns of a wide table behind the first, which hold in each row.
+fn append_clauses(text: &mut Vec<u8>, many: u32) -> Result<(), Memory> {
     for column in 1..many {
         text.extend_from_slice(b"&t.")?;
         text.extend_from_slice(&name_of(column))?;
         text.extend_from_slice(if column % 2 == 0 { b">=0" } else { b">=\"0\"" })?;
     }
+    Ok(())
+}
+
+/// Items on the columns of a wide table, a clause on each that holds in each row, and one with so many values,
+/// which holds where the first digit is 0 or 3.
+pub fn wide_query(alloc: Global, many: u32) -> Result<Vec<u8>, Memory> {
+    let mut text = Vec::from_slice(alloc, b"t.aaaa")?;
+    append_names(&mut text, many, b",t.", b"")?;
+    append_clauses(&mut text, many)?;
     text.extend_from_slice(b"&t.aaaa={0")?;
     append_times(&mut text, b",3", many.saturating_sub(1) as usize)?;
     text.extend_from_slice(b"}")?;
@@ -242,8 +260,11 @@ fn are_marked(marks: &Marks, columns: u32) -> bool {
     true
 }
 
-/// Whether a mask keeps those rows.
-fn keeps_those(kept: &[bool]) -> bool {
+/// Whether a mask of so many rows keeps those.
+fn keeps_those(kept: &[bool], rows: u32) -> bool {
+    if kept.len() != rows as usize {
+        return false;
+    }
     let mut row = 0u32;
     for is_now in kept {
         if *is_now != is_kept(row) {
@@ -255,16 +276,11 @@ fn keeps_those(kept: &[bool]) -> bool {
 }
 
 /// Whether the items mark all columns.
-fn marked_by<R: Abort>(rt: &R, alloc: Global, text: &[u8], query: &[u8]) -> Result<bool, Fail> {
-    let Ok(table) = read_table(alloc, text, b"t.csv") else {
-        panic!(rt; "no table");
-    };
-    let columns = table.columns();
+fn marked_by(alloc: Global, text: &[u8], query: &[u8]) -> Result<bool, Fail> {
+    let table = read_table(alloc, text, b"t.csv")?;
     let dataset = table.dataset(alloc)?;
-    let index = Index::new(alloc, &dataset)?;
-    let constraint = parse(alloc, query)?;
-    let marks = resolve(alloc, &dataset, &index, &constraint)?;
-    Ok(are_marked(&marks, columns))
+    let marks = marks_of(alloc, &dataset, query)?;
+    Ok(are_marked(&marks, table.columns()))
 }
 
 /// A table, and the clauses of a constraint on it.
@@ -274,13 +290,21 @@ struct Case {
     tests: Tests,
 }
 
+/// The clauses of a constraint on the dataset of a table.
+fn tests_of(alloc: Global, table: &Table, dataset: &Dataset, query: &[u8]) -> Result<Tests, Fail>
+    requires table { dataset_view dataset.now ≡ table_dataset table.now }
+    requires well_formed { IsWellFormed (dataset_view dataset.now) }
+{
+    let index = Index::new(alloc, dataset)?;
+    let constraint = constraint_of(alloc, query)?;
+    let _marks = resolve(alloc, dataset, &index, &constraint)?;
+    Ok(Tests::new(alloc, table, dataset, &index, &constraint)?)
+}
+
 fn case_of(alloc: Global, text: &[u8], query: &[u8]) -> Result<Case, Fail> {
     let table = read_table(alloc, text, b"t.csv")?;
     let dataset = table.dataset(alloc)?;
-    let index = Index::new(alloc, &dataset)?;
-    let constraint = parse(alloc, query)?;
-    let _marks = resolve(alloc, &dataset, &index, &constraint)?;
-    let tests = Tests::new(alloc, &table, &dataset, &index, &constraint)?;
+    let tests = tests_of(alloc, &table, &dataset, query)?;
     Ok(Case { table, tests })
 }
 
@@ -311,9 +335,9 @@ fn expect_selected<R: Threads + Abort + Sync>(
 ) -> Result<(), Fail> {
     let text = wide_table(alloc, rows, COLUMNS, length)?;
     let query = wide_query(alloc, COLUMNS)?;
-    assert!(rt; marked_by(rt, alloc, &text, &query)?);
+    assert!(rt; marked_by(alloc, &text, &query)?);
     let kept = kept_rows(rt, alloc, &text, &query, 2, &NoGate)?;
-    assert!(rt; kept.len() == rows as usize && keeps_those(&kept));
+    assert!(rt; keeps_those(&kept, rows));
     Ok(())
 }
 

@@ -3,6 +3,7 @@
 use crate::building::{
     append_times, expect_length, expect_same, name_of, names_sum, sum_of, times,
 };
+use crate::expecting::expect;
 use dap_errors::{print_error, read_error};
 use dap_types::{BaseType, Bytes, Dataset, Decl, Index, Memory, check};
 use das_text::{Attributes, Entry, Word};
@@ -17,15 +18,19 @@ const LONGEST: usize = 16_777_216;
 /// The most members of a dataset.
 const MEMBERS: u32 = 1_000_000;
 
-/// A DDS of so many members, each a Byte, and of that length.
-fn long_dds(alloc: Global, members: u32, length: usize) -> Result<Vec<u8>, Memory> {
-    let mut text = Vec::new(alloc);
-    text.extend_from_slice(b"Dataset {\n")?;
+fn append_members(text: &mut Vec<u8>, members: u32) -> Result<(), Memory> {
     for number in 0..members {
         text.extend_from_slice(b"    Byte ")?;
         text.extend_from_slice(&name_of(number))?;
         text.extend_from_slice(b";\n")?;
     }
+    Ok(())
+}
+
+/// A DDS of so many members, each a Byte, and of that length.
+fn long_dds(alloc: Global, members: u32, length: usize) -> Result<Vec<u8>, Memory> {
+    let mut text = Vec::from_slice(alloc, b"Dataset {\n")?;
+    append_members(&mut text, members)?;
     text.extend_from_slice(b"} ")?;
     let left = length.saturating_sub(text.len()).saturating_sub(2);
     append_times(&mut text, b"n", left)?;
@@ -33,17 +38,28 @@ fn long_dds(alloc: Global, members: u32, length: usize) -> Result<Vec<u8>, Memor
     Ok(text)
 }
 
+/// Hands a piece to the reader, and tells whether it takes more.
+fn takes_more(reader: &mut DdsReader, piece: &[u8]) -> Result<bool, Memory> {
+    let step = reader.push(piece)?;
+    Ok(matches!(step, DdsStep::More))
+}
+
 /// The dataset of the text, which comes in pieces of 64 KiB.
 fn read_dds(alloc: Global, text: &[u8]) -> Result<Option<Dataset>, Memory> {
     let mut reader = DdsReader::new(alloc, 0);
     for piece in text.chunks(65536) {
-        match reader.push(piece)? {
-            DdsStep::More => {}
-            DdsStep::Done { .. } => return Ok(reader.dataset()),
-            DdsStep::Bad { .. } => return Ok(None),
+        if !takes_more(&mut reader, piece)? {
+            break;
         }
     }
-    Ok(None)
+    Ok(reader.dataset())
+}
+
+fn is_byte(member: &Decl) -> bool {
+    match member {
+        Decl::Base(column) => column.base == BaseType::Byte,
+        _ => false,
+    }
 }
 
 /// How many members are Bytes, and the sum of the bytes of their names.
@@ -51,11 +67,9 @@ fn members_seen(members: &[Decl]) -> (u32, u64) {
     let mut count = 0u32;
     let mut sum = 0u64;
     for member in members {
-        if let Decl::Base(column) = member {
-            if column.base == BaseType::Byte {
-                count = count.wrapping_add(1);
-                sum = sum.wrapping_add(sum_of(column.name.bytes()));
-            }
+        if is_byte(member) {
+            count = count.wrapping_add(1);
+            sum = sum.wrapping_add(sum_of(member.name().bytes()));
         }
     }
     (count, sum)
@@ -98,7 +112,7 @@ fn expect_members<R: Abort>(
     sum: u64,
 ) -> Result<(), Fail> {
     let dataset = dataset_of(rt, alloc, text)?;
-    assert_eq!(rt; members_seen(dataset.members.items()), (members, sum));
+    expect(rt, members_seen(dataset.members.items()), (members, sum));
     expect_found(rt, alloc, &dataset)
 }
 
@@ -115,17 +129,21 @@ fn longest_dds_is_read_and_printed(rt: HostRuntime) -> Result<(), Fail> {
     expect_dds(&rt, rt.alloc(), MEMBERS, LONGEST)
 }
 
+/// The first container: an attribute of ten times so many values and one more, and so many others.
+fn append_first(text: &mut Vec<u8>, many: usize) -> Result<(), Memory> {
+    text.extend_from_slice(b"    v {\n        Byte b 7")?;
+    append_times(text, b", 7", many.saturating_mul(10))?;
+    text.extend_from_slice(b";\n")?;
+    append_times(text, b"        Url u \"x\";\n", many)?;
+    text.extend_from_slice(b"    }\n")?;
+    Ok(())
+}
+
 /// A DAS of that length: so many containers and so many attributes, ten times as many values, and a long
 /// value.
 fn long_das(alloc: Global, many: usize, length: usize) -> Result<Vec<u8>, Memory> {
-    let mut text = Vec::new(alloc);
-    text.extend_from_slice(b"Attributes {\n    v {\n        Byte b 7")?;
-    for _ in 0..10 {
-        append_times(&mut text, b", 7", many)?;
-    }
-    text.extend_from_slice(b";\n")?;
-    append_times(&mut text, b"        Url u \"x\";\n", many)?;
-    text.extend_from_slice(b"    }\n")?;
+    let mut text = Vec::from_slice(alloc, b"Attributes {\n")?;
+    append_first(&mut text, many)?;
     append_times(&mut text, b"    c {\n    }\n", many)?;
     text.extend_from_slice(b"    w {\n        String s \"")?;
     let left = length.saturating_sub(text.len()).saturating_sub(11);
@@ -134,14 +152,19 @@ fn long_das(alloc: Global, many: usize, length: usize) -> Result<Vec<u8>, Memory
     Ok(text)
 }
 
+/// The sum of the bytes of a value.
+pub fn word_sum(value: &Word) -> u64 {
+    match value {
+        Word::Plain(text) => sum_of(text.bytes()),
+        Word::Quoted(text) => sum_of(text.bytes()),
+    }
+}
+
 /// The sum of the bytes of the values.
 fn values_sum(values: &[Word]) -> u64 {
     let mut sum = 0u64;
     for value in values {
-        match value {
-            Word::Plain(text) => sum = sum.wrapping_add(sum_of(text.bytes())),
-            Word::Quoted(text) => sum = sum.wrapping_add(sum_of(text.bytes())),
-        }
+        sum = sum.wrapping_add(word_sum(value));
     }
     sum
 }
@@ -181,8 +204,9 @@ fn expect_entries<R: Abort>(
     first: (usize, usize, u64),
 ) -> Result<(), Fail> {
     let attributes = attributes_of(rt, alloc, text)?;
-    assert!(rt; attributes.containers.items().len() == containers);
-    assert_eq!(rt; first_seen(attributes.containers.items()), first);
+    let found = attributes.containers.items();
+    expect(rt, found.len(), containers);
+    expect(rt, first_seen(found), first);
     Ok(())
 }
 
@@ -220,7 +244,7 @@ fn expect_message<R: Abort>(
     let Ok(object) = read_error(alloc, text) else {
         panic!(rt; "no object");
     };
-    assert!(rt; object.code == 1);
+    expect(rt, object.code, 1);
     expect_same(rt, object.message.bytes(), message);
     Ok(())
 }

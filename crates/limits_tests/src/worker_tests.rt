@@ -1,6 +1,7 @@
 //! Workers by their numbers: as many come as are asked for, each once, each for its part.
 
 use crate::building::{append_times, append_words};
+use crate::expecting::expect;
 use crate::sending::{cut_body, sent_of};
 use crate::table_limits::{kept_rows, tall_table};
 use dap_types::Memory;
@@ -32,6 +33,12 @@ fn each_once(count: u32) -> (u64, u64) {
     (seen, u64::from(count))
 }
 
+/// As many came as the row tells.
+fn expect_roll<R: Abort>(rt: &R, roll: &Roll, row: (u32, u32, u32)) {
+    let (workers, elements, come) = row;
+    assert_eq!(rt; roll.told(), each_once(come), "{workers} over {elements}");
+}
+
 /// A variable `v` of ints over the one dimension, which stands behind the header.
 const DECLARED: &[u32] = &[0, 0, 0x0b, 1, 1, 0x76000000, 1, 0, 0, 0, 4, 0, 80];
 
@@ -57,9 +64,10 @@ fn expect_body<R: Threads + Abort + Sync>(
     let Ok(mut body) = cut_body(rt, alloc, &file, size, b"f.nc", b"")? else {
         panic!(rt; "no body");
     };
-    let (tally, _) = sent_of(rt, &mut body, size, workers.clamp(1, 64), roll);
-    let head = body.dds().len() as u64;
-    assert_eq!(rt; tally.bytes.wrapping_sub(head), 14 + 4 * u64::from(count));
+    let sent = sent_of(rt, alloc, &mut body, size, workers.clamp(1, 64), roll)?;
+    let head = sent.dds.bytes().len() as u64;
+    let behind = sent.tally.bytes.wrapping_sub(head);
+    expect(rt, behind, 14 + 4 * u64::from(count));
     Ok(())
 }
 
@@ -68,13 +76,16 @@ fn workers_of_a_body_come_once_each(rt: HostRuntime) -> Result<(), Fail> {
     for (workers, count, come) in ASKED {
         let roll = Roll::new();
         expect_body(&rt, rt.alloc(), workers, count, &roll)?;
-        assert_eq!(rt; roll.told(), each_once(come), "{workers} over {count}");
+        expect_roll(&rt, &roll, (workers, count, come));
     }
     Ok(())
 }
 
-/// Whether all rows but the first two are kept.
-fn keeps_later(kept: &[bool]) -> bool {
+/// Whether all of so many rows but the first two are kept.
+fn keeps_later(kept: &[bool], rows: u32) -> bool {
+    if kept.len() != rows as usize {
+        return false;
+    }
     for (row, is_kept) in kept.iter().enumerate() {
         if *is_kept != (row >= 2) {
             return false;
@@ -92,7 +103,7 @@ fn expect_mask<R: Threads + Abort + Sync>(
 ) -> Result<(), Fail> {
     let text = tall_table(alloc, rows)?;
     let kept = kept_rows(rt, alloc, &text, b"&t.n>=2", workers.clamp(1, 64), roll)?;
-    assert!(rt; kept.len() == rows as usize && keeps_later(&kept));
+    assert!(rt; keeps_later(&kept, rows));
     Ok(())
 }
 
@@ -101,7 +112,7 @@ fn workers_of_a_mask_come_once_each(rt: HostRuntime) -> Result<(), Fail> {
     for (workers, rows, come) in ASKED {
         let roll = Roll::new();
         expect_mask(&rt, rt.alloc(), workers, rows, &roll)?;
-        assert_eq!(rt; roll.told(), each_once(come), "{workers} over {rows}");
+        expect_roll(&rt, &roll, (workers, rows, come));
     }
     Ok(())
 }

@@ -2,6 +2,7 @@
 
 ghost use Rattle.std.specs.Prelude.{◌<◌, ◌≤◌};
 
+use crate::expecting::expect;
 use dap_outside::{MemFile, MemLink, MemShelf};
 use dap_server::{Ending, Served, serve_connection};
 use dap_types::{Bytes, List, Memory, Name};
@@ -152,6 +153,29 @@ const THIRD_READ_AND_FIRST_PUT: Faults<'static> = Faults {
     piece: 100_000,
 };
 
+/// These calls of the shelf fail.
+fn shelf_faults(shelf: &[u64]) -> Faults<'_> {
+    Faults { shelf, ..SURE }
+}
+
+/// These takes of two bytes fail.
+fn take_faults(takes: &[u64]) -> Faults<'_> {
+    Faults {
+        takes,
+        piece: 2,
+        ..SURE
+    }
+}
+
+/// These puts of so many bytes at most fail.
+fn put_faults(puts: &[u64], piece: u32) -> Faults<'_> {
+    Faults {
+        puts,
+        piece,
+        ..SURE
+    }
+}
+
 fn numbers(alloc: Global, all: &[u64]) -> Result<List<u64>, Memory> {
     let mut list = List::new(alloc);
     for number in all {
@@ -172,20 +196,32 @@ fn file(alloc: Global, name: &str, words: &[u32], behind: &[u8]) -> Result<MemFi
     })
 }
 
+/// Files by their names: some words, and bytes behind them.
+const NAMED: &[(&str, &[u32], &[u8])] = &[
+    ("buoys.csv", &[], BUOYS),
+    ("v.nc", V, b""),
+    ("saved.dods", &[], BUOYS_BODY),
+    ("r.nc", R, b"\0\x01\0\x02\0\x03"),
+    ("e.nc", E, b""),
+    ("r2.nc", R, b"\0\x04\0\x05\0\x06"),
+    ("j.join", &[], b"r.nc\ne.nc\nr2.nc\n"),
+    ("none.join", &[], b"r.nc\nnone.nc\n"),
+    ("other.join", &[], b"r.nc\nv.nc\n"),
+    ("fixed.join", &[], b"v.nc\n"),
+];
+
+/// The saved response without its last byte.
+fn short(alloc: Global) -> Result<MemFile, Memory> {
+    let length = BUOYS_BODY.len().min(137);
+    file(alloc, "short.dods", &[], &BUOYS_BODY[..length])
+}
+
 fn files(alloc: Global) -> Result<List<MemFile>, Memory> {
     let mut files = List::new(alloc);
-    files.push(file(alloc, "buoys.csv", &[], BUOYS)?)?;
-    files.push(file(alloc, "v.nc", V, b"")?)?;
-    files.push(file(alloc, "saved.dods", &[], BUOYS_BODY)?)?;
-    let short = BUOYS_BODY.len().min(137);
-    files.push(file(alloc, "short.dods", &[], &BUOYS_BODY[..short])?)?;
-    files.push(file(alloc, "r.nc", R, b"\0\x01\0\x02\0\x03")?)?;
-    files.push(file(alloc, "e.nc", E, b"")?)?;
-    files.push(file(alloc, "r2.nc", R, b"\0\x04\0\x05\0\x06")?)?;
-    files.push(file(alloc, "j.join", &[], b"r.nc\ne.nc\nr2.nc\n")?)?;
-    files.push(file(alloc, "none.join", &[], b"r.nc\nnone.nc\n")?)?;
-    files.push(file(alloc, "other.join", &[], b"r.nc\nv.nc\n")?)?;
-    files.push(file(alloc, "fixed.join", &[], b"v.nc\n")?)?;
+    for (name, words, behind) in NAMED {
+        files.push(file(alloc, name, words, behind)?)?;
+    }
+    files.push(short(alloc)?)?;
     Ok(files)
 }
 
@@ -208,6 +244,30 @@ fn long_header(alloc: Global) -> Result<List<MemFile>, Memory> {
     Ok(files)
 }
 
+/// A link that gives this.
+fn link(alloc: Global, input: &[u8], faults: Faults<'_>) -> Result<MemLink, Memory> {
+    let takes = numbers(alloc, faults.takes)?;
+    let puts = numbers(alloc, faults.puts)?;
+    let input = Bytes::new(alloc, input)?;
+    MemLink::new(alloc, input, 300_000, faults.piece.max(1), takes, puts)
+}
+
+fn serve<R: Threads + Sync>(
+    rt: &R,
+    alloc: Global,
+    shelf: &mut MemShelf,
+    link: &mut MemLink,
+) -> Served {
+    serve_connection(rt, alloc, shelf, link, 3)
+}
+
+fn finished(alloc: Global, link: &MemLink, served: Served) -> Result<Done, Memory> {
+    Ok(Done {
+        written: Bytes::new(alloc, link.written())?,
+        served,
+    })
+}
+
 fn served_over<R: Threads + AllocGlobal + Sync>(
     rt: &R,
     input: &[u8],
@@ -224,16 +284,9 @@ fn served_from<R: Threads + AllocGlobal + Sync>(
 ) -> Result<Done, Memory> {
     let alloc = rt.alloc();
     let mut shelf = MemShelf::new(files, numbers(alloc, faults.shelf)?);
-    let takes = numbers(alloc, faults.takes)?;
-    let puts = numbers(alloc, faults.puts)?;
-    let piece = faults.piece.max(1);
-    let input = Bytes::new(alloc, input)?;
-    let mut link = MemLink::new(alloc, input, 300_000, piece, takes, puts)?;
-    let served = serve_connection(rt, alloc, &mut shelf, &mut link, 3);
-    Ok(Done {
-        written: Bytes::new(alloc, link.written())?,
-        served,
-    })
+    let mut link = link(alloc, input, faults)?;
+    let served = serve(rt, alloc, &mut shelf, &mut link);
+    finished(alloc, &link, served)
 }
 
 fn as_served(replies: u32, status: u16, ending: Ending) -> Served {
@@ -242,6 +295,25 @@ fn as_served(replies: u32, status: u16, ending: Ending) -> Served {
         status,
         ending,
     }
+}
+
+/// The connection wrote this, and was served so.
+fn expect_done<R: Abort>(rt: &R, found: &Done, written: &[u8], served: Served) {
+    expect(rt, found.written.bytes(), written);
+    expect(rt, found.served, served);
+}
+
+/// This input is answered with these bytes, and served so.
+fn expect_written<R: Threads + Abort + AllocGlobal + Sync>(
+    rt: &R,
+    input: &[u8],
+    faults: Faults<'_>,
+    written: &[u8],
+    served: Served,
+) -> Result<(), Fail> {
+    let found = served_over(rt, input, faults)?;
+    expect_done(rt, &found, written, served);
+    Ok(())
 }
 
 /// An input, the parts of what is written, how many replies, the last status and the ending.
@@ -414,16 +486,23 @@ const ROWS: &[Row] = &[
     ),
 ];
 
+/// The row holds where so much moves at once.
+fn expect_row<R: Threads + Abort + AllocGlobal + Sync>(
+    rt: &R,
+    row: &Row,
+    piece: u32,
+) -> Result<(), Fail> {
+    let (input, parts, replies, status, ending) = row;
+    let written = joined(rt.alloc(), parts)?;
+    let served = as_served(*replies, *status, *ending);
+    expect_written(rt, input, Faults { piece, ..SURE }, &written, served)
+}
+
 #[test]
 fn each_request_has_its_reply(rt: HostRuntime) -> Result<(), Fail> {
-    let alloc = rt.alloc();
-    for (input, parts, replies, status, ending) in ROWS {
-        let expected = joined(alloc, parts)?;
-        for piece in [100_000, 1] {
-            let found = served_over(&rt, input, Faults { piece, ..SURE })?;
-            assert_eq!(rt; found.written.bytes(), expected.as_slice());
-            assert_eq!(rt; found.served, as_served(*replies, *status, *ending));
-        }
+    for row in ROWS {
+        expect_row(&rt, row, 100_000)?;
+        expect_row(&rt, row, 1)?;
     }
     Ok(())
 }
@@ -451,50 +530,44 @@ fn headers(alloc: Global, count: u32) -> Result<Vec<u8>, Memory> {
 #[test]
 fn heads_at_their_limits(rt: HostRuntime) -> Result<(), Fail> {
     let alloc = rt.alloc();
-    let whole = (VERSION, as_served(1, 200, Ending::Gone));
-    let long = (TOO_LONG, as_served(1, 431, Ending::Closed));
-    let bad = (BAD_REQUEST, as_served(1, 400, Ending::Closed));
-    for (input, (written, served)) in [
-        (long_head(alloc, 16_384)?, whole),
-        (long_head(alloc, 16_385)?, long),
-        (headers(alloc, 64)?, whole),
-        (headers(alloc, 65)?, bad),
-    ] {
-        let found = served_over(&rt, &input, SURE)?;
-        assert_eq!(rt; found.written.bytes(), written);
-        assert_eq!(rt; found.served, served);
-    }
-    Ok(())
+    let whole = as_served(1, 200, Ending::Gone);
+    let long = as_served(1, 431, Ending::Closed);
+    let bad = as_served(1, 400, Ending::Closed);
+    expect_written(&rt, &long_head(alloc, 16_384)?, SURE, VERSION, whole)?;
+    expect_written(&rt, &long_head(alloc, 16_385)?, SURE, TOO_LONG, long)?;
+    expect_written(&rt, &headers(alloc, 64)?, SURE, VERSION, whole)?;
+    expect_written(&rt, &headers(alloc, 65)?, SURE, BAD_REQUEST, bad)
 }
 
 #[test]
 fn a_head_that_is_cut_is_no_request(rt: HostRuntime) -> Result<(), Fail> {
     let alloc = rt.alloc();
+    let served = as_served(1, 200, Ending::Gone);
     for len in 0..GET_BUOYS.len() {
         let input = joined(alloc, &[GET_VERSION, &GET_BUOYS[..len]])?;
-        let found = served_over(&rt, &input, Faults { piece: 7, ..SURE })?;
-        assert_eq!(rt; found.written.bytes(), VERSION);
-        assert_eq!(rt; found.served, as_served(1, 200, Ending::Gone));
+        expect_written(&rt, &input, Faults { piece: 7, ..SURE }, VERSION, served)?;
     }
     Ok(())
+}
+
+/// The same so often.
+fn repeated(alloc: Global, part: &[u8], count: u32) -> Result<Vec<u8>, Memory> {
+    let mut bytes = Vec::new(alloc);
+    for _ in 0..count {
+        bytes.extend_from_slice(part)?;
+    }
+    Ok(bytes)
 }
 
 #[test]
 fn the_thousandth_is_the_last(rt: HostRuntime) -> Result<(), Fail> {
     let alloc = rt.alloc();
+    let mut written = repeated(alloc, VERSION, 999)?;
+    written.extend_from_slice(LAST_VERSION)?;
+    let served = as_served(1_000, 200, Ending::Closed);
     for count in [1_000, 1_001] {
-        let mut input = Vec::new(alloc);
-        let mut expected = Vec::new(alloc);
-        for number in 1..count + 1u32 {
-            input.extend_from_slice(GET_VERSION)?;
-            if number < 1_000 {
-                expected.extend_from_slice(VERSION)?;
-            }
-        }
-        expected.extend_from_slice(LAST_VERSION)?;
-        let found = served_over(&rt, &input, SURE)?;
-        assert_eq!(rt; found.served, as_served(1_000, 200, Ending::Closed));
-        assert_eq!(rt; found.written.bytes(), expected.as_slice());
+        let input = repeated(alloc, GET_VERSION, count)?;
+        expect_written(&rt, &input, SURE, &written, served)?;
     }
     Ok(())
 }
@@ -503,72 +576,72 @@ fn the_thousandth_is_the_last(rt: HostRuntime) -> Result<(), Fail> {
 fn a_failed_read_before_the_head_is_told(rt: HostRuntime) -> Result<(), Fail> {
     let alloc = rt.alloc();
     let after = joined(alloc, &[BAD_TARGET, READ_FAILED_HEAD])?;
+    let one = as_served(1, 500, Ending::Gone);
+    let two = as_served(2, 500, Ending::Closed);
     for n in [1u64, 2] {
         let fails: [u64; 1] = [n];
-        let faults = Faults {
-            shelf: &fails,
-            ..SURE
-        };
-        let found = served_over(&rt, GET_BUOYS, faults)?;
-        assert_eq!(rt; found.written.bytes(), READ_FAILED);
-        assert_eq!(rt; found.served, as_served(1, 500, Ending::Gone));
-        let found = served_over(&rt, TWO, faults)?;
-        assert_eq!(rt; found.written.bytes(), after.as_slice());
-        assert_eq!(rt; found.served, as_served(2, 500, Ending::Closed));
+        expect_written(&rt, GET_BUOYS, shelf_faults(&fails), READ_FAILED, one)?;
+        expect_written(&rt, TWO, shelf_faults(&fails), &after, two)?;
     }
+    Ok(())
+}
+
+/// What comes of a request for that file, of which such a call of the shelf fails.
+fn expect_long_header<R: Threads + Abort + AllocGlobal + Sync>(
+    rt: &R,
+    call: u64,
+    written: &[u8],
+    status: u16,
+) -> Result<(), Fail> {
+    let fails: [u64; 1] = [call];
+    let input = b"GET /long.nc.dds HTTP/1.1\r\n\r\n";
+    let found = served_from(rt, long_header(rt.alloc())?, input, shelf_faults(&fails))?;
+    expect_done(rt, &found, written, as_served(1, status, Ending::Gone));
     Ok(())
 }
 
 /// A header of more than 64 KiB takes one read more, and no third.
 #[test]
 fn a_long_header_is_read_on(rt: HostRuntime) -> Result<(), Fail> {
-    let alloc = rt.alloc();
-    for (call, written, status) in [(3u64, READ_FAILED, 500), (4, LONG_DDS, 200)] {
-        let fails: [u64; 1] = [call];
-        let faults = Faults {
-            shelf: &fails,
-            ..SURE
-        };
-        let input = b"GET /long.nc.dds HTTP/1.1\r\n\r\n";
-        let found = served_from(&rt, long_header(alloc)?, input, faults)?;
-        assert_eq!(rt; found.written.bytes(), written);
-        assert_eq!(rt; found.served, as_served(1, status, Ending::Gone));
-    }
-    Ok(())
+    expect_long_header(&rt, 3, READ_FAILED, 500)?;
+    expect_long_header(&rt, 4, LONG_DDS, 200)
+}
+
+/// What is written begins so, and no last chunk ends it.
+fn expect_broken_off<R: Abort>(rt: &R, written: &[u8], front: &[u8]) {
+    assert!(rt; written.starts_with(front));
+    assert!(rt; !written.ends_with(LAST_CHUNK));
 }
 
 /// A file that cannot be read further behind the head of its reply.
 #[test]
 fn a_failed_read_behind_the_head_breaks_off(rt: HostRuntime) -> Result<(), Fail> {
     let alloc = rt.alloc();
-    let fails: [u64; 1] = [3];
-    let faults = Faults {
-        shelf: &fails,
-        ..SURE
-    };
     let input = joined(
         alloc,
         &[GET_VERSION, b"GET /v.nc.dods HTTP/1.1\r\n\r\n", GET_VERSION],
     )?;
     let front = joined(alloc, &[VERSION, DATA_HEAD])?;
-    let found = served_over(&rt, &input, faults)?;
-    assert!(rt; found.written.bytes().starts_with(&front));
-    assert!(rt; !found.written.bytes().ends_with(LAST_CHUNK));
-    assert_eq!(rt; found.served, as_served(1, 200, Ending::Broken));
+    let found = served_over(&rt, &input, shelf_faults(&[3]))?;
+    expect_broken_off(&rt, found.written.bytes(), &front);
+    expect(&rt, found.served, as_served(1, 200, Ending::Broken));
     Ok(())
 }
 
 /// The link fails where the head of a reply that breaks off is put.
 #[test]
 fn a_failed_put_of_a_reply_that_breaks_off(rt: HostRuntime) -> Result<(), Fail> {
-    let found = served_over(
-        &rt,
-        b"GET /v.nc.dods HTTP/1.1\r\n\r\n",
-        THIRD_READ_AND_FIRST_PUT,
-    )?;
-    assert_eq!(rt; found.written.bytes(), b"".as_slice());
-    assert_eq!(rt; found.served, as_served(0, 0, Ending::WriteFault));
-    Ok(())
+    let input = b"GET /v.nc.dods HTTP/1.1\r\n\r\n";
+    let served = as_served(0, 0, Ending::WriteFault);
+    expect_written(&rt, input, THIRD_READ_AND_FIRST_PUT, b"", served)
+}
+
+/// The connection was broken off behind the head of its reply.
+fn expect_broken<R: Abort>(rt: &R, found: &Done, whole: &[u8]) {
+    let written = found.written.bytes();
+    assert!(rt; written.starts_with(DATA_HEAD));
+    assert!(rt; written.len() < whole.len());
+    expect(rt, found.served, as_served(0, 0, Ending::Broken));
 }
 
 /// Of three files the headers are read by calls 3 to 8, behind the list, and the records by the ninth and tenth.
@@ -578,25 +651,22 @@ fn each_call_of_the_shelf_for_a_list_may_fail(rt: HostRuntime) -> Result<(), Fai
     let whole = joined(alloc, &[DATA_HEAD, b"42\r\n", JOINED_BODY, LAST_CHUNK])?;
     for call in 1..12u64 {
         let fails: [u64; 1] = [call];
-        let faults = Faults {
-            shelf: &fails,
-            ..SURE
-        };
-        let found = served_over(&rt, GET_JOINED, faults)?;
-        let written = found.written.bytes();
+        let found = served_over(&rt, GET_JOINED, shelf_faults(&fails))?;
         if call <= 8 {
-            assert_eq!(rt; written, READ_FAILED);
-            assert_eq!(rt; found.served, as_served(1, 500, Ending::Gone));
+            expect_done(&rt, &found, READ_FAILED, as_served(1, 500, Ending::Gone));
         } else if call <= 10 {
-            assert!(rt; written.starts_with(DATA_HEAD));
-            assert!(rt; written.len() < whole.len());
-            assert_eq!(rt; found.served, as_served(0, 0, Ending::Broken));
+            expect_broken(&rt, &found, &whole);
         } else {
-            assert_eq!(rt; written, whole.as_slice());
-            assert_eq!(rt; found.served, as_served(1, 200, Ending::Gone));
+            expect_done(&rt, &found, &whole, as_served(1, 200, Ending::Gone));
         }
     }
     Ok(())
+}
+
+/// The connection wrote this, and did not end so.
+fn expect_other_ending<R: Abort>(rt: &R, found: &Done, written: &[u8], ending: Ending) {
+    assert!(rt; found.served.ending != ending);
+    expect(rt, found.written.bytes(), written);
 }
 
 /// Each take of a run without a fault fails in turn: the first request is answered where it came before.
@@ -610,21 +680,15 @@ fn expect_answered<R: Threads + Abort + AllocGlobal + Sync>(
     let (length, reply, status) = first;
     for n in 1..takes.saturating_add(2) {
         let fails: [u64; 1] = [n];
-        let faults = Faults {
-            takes: &fails,
-            piece: 2,
-            ..SURE
-        };
-        let found = served_over(rt, input, faults)?;
+        let found = served_over(rt, input, take_faults(&fails))?;
         if n > takes {
-            assert!(rt; found.served.ending != Ending::ReadFault);
-            assert_eq!(rt; found.written.bytes(), whole);
+            expect_other_ending(rt, &found, whole, Ending::ReadFault);
         } else if n.saturating_sub(1).saturating_mul(2) >= length as u64 {
-            assert_eq!(rt; found.written.bytes(), reply);
-            assert_eq!(rt; found.served, as_served(1, status, Ending::ReadFault));
+            let served = as_served(1, status, Ending::ReadFault);
+            expect_done(rt, &found, reply, served);
         } else {
-            assert_eq!(rt; found.written.bytes(), b"".as_slice());
-            assert_eq!(rt; found.served, as_served(0, 0, Ending::ReadFault));
+            let served = as_served(0, 0, Ending::ReadFault);
+            expect_done(rt, &found, b"", served);
         }
     }
     Ok(())
@@ -646,6 +710,16 @@ fn puts_of(length: usize, piece: u32) -> u64 {
     (length as u64).div_ceil(u64::from(piece.max(1)))
 }
 
+/// A front of the replies is out, and a reply is counted where it is out whole.
+fn expect_front<R: Abort>(rt: &R, found: &Done, first: &[u8], whole: &[u8]) {
+    let written = found.written.bytes();
+    assert!(rt; whole.starts_with(written));
+    assert!(rt; written.len() < whole.len());
+    let replies = if written.len() >= first.len() { 1 } else { 0 };
+    expect(rt, found.served.replies, replies);
+    expect(rt, found.served.ending, Ending::WriteFault);
+}
+
 /// Each put of a run without a fault fails in turn: a front of the replies is out. Each reply goes out by
 /// itself.
 fn expect_fronts<R: Threads + Abort + AllocGlobal + Sync>(
@@ -659,37 +733,34 @@ fn expect_fronts<R: Threads + Abort + AllocGlobal + Sync>(
     let puts = puts_of(first.len(), piece).saturating_add(puts_of(second.len(), piece));
     for n in 1..puts.saturating_add(2) {
         let fails: [u64; 1] = [n];
-        let faults = Faults {
-            puts: &fails,
-            piece,
-            ..SURE
-        };
-        let found = served_over(rt, input, faults)?;
-        let written = found.written.bytes();
+        let found = served_over(rt, input, put_faults(&fails, piece))?;
         if n > puts {
-            assert!(rt; found.served.ending != Ending::WriteFault);
-            assert_eq!(rt; written, whole.as_slice());
+            expect_other_ending(rt, &found, &whole, Ending::WriteFault);
         } else {
-            assert!(rt; found.served.ending == Ending::WriteFault);
-            assert!(rt; whole.starts_with(written));
-            assert!(rt; written.len() < whole.len());
-            let one = written.len() >= first.len();
-            assert_eq!(rt; found.served.replies, if one { 1 } else { 0 });
+            expect_front(rt, &found, first, &whole);
         }
     }
     Ok(())
 }
 
+/// The same of a reply that brings a body in one chunk, of which this is the line.
+fn expect_chunk_fronts<R: Threads + Abort + AllocGlobal + Sync>(
+    rt: &R,
+    input: &[u8],
+    line: &[u8],
+    body: &[u8],
+    piece: u32,
+) -> Result<(), Fail> {
+    let reply = joined(rt.alloc(), &[DATA_HEAD, line, body, LAST_CHUNK])?;
+    expect_fronts(rt, input, (&reply, b""), piece)
+}
+
 #[test]
 fn each_put_may_fail(rt: HostRuntime) -> Result<(), Fail> {
-    let alloc = rt.alloc();
-    let data = joined(alloc, &[DATA_HEAD, b"8a\r\n", BUOYS_BODY, LAST_CHUNK])?;
-    let saved = joined(alloc, &[DATA_HEAD, b"5b\r\n", SAVED_PART, LAST_CHUNK])?;
-    let of_list = joined(alloc, &[DATA_HEAD, b"42\r\n", JOINED_BODY, LAST_CHUNK])?;
     for piece in [13, 100_000] {
-        expect_fronts(&rt, GET_BUOYS, (&data, b""), piece)?;
-        expect_fronts(&rt, GET_SAVED, (&saved, b""), piece)?;
-        expect_fronts(&rt, GET_JOINED, (&of_list, b""), piece)?;
+        expect_chunk_fronts(&rt, GET_BUOYS, b"8a\r\n", BUOYS_BODY, piece)?;
+        expect_chunk_fronts(&rt, GET_SAVED, b"5b\r\n", SAVED_PART, piece)?;
+        expect_chunk_fronts(&rt, GET_JOINED, b"42\r\n", JOINED_BODY, piece)?;
         expect_fronts(&rt, TWO, (BAD_TARGET, DDS_HEAD), piece)?;
     }
     Ok(())
@@ -700,12 +771,8 @@ fn each_put_may_fail(rt: HostRuntime) -> Result<(), Fail> {
 fn small_replies_are_one_put(rt: HostRuntime) -> Result<(), Fail> {
     for (input, replies) in [(GET_VERSION, 1), (TWO, 2), (GET_BUOYS, 1), (GET_SAVED, 1)] {
         let fails: [u64; 1] = [u64::from(replies) + 1];
-        let faults = Faults {
-            puts: &fails,
-            ..SURE
-        };
-        let found = served_over(&rt, input, faults)?;
-        assert_eq!(rt; found.served.replies, replies);
+        let found = served_over(&rt, input, put_faults(&fails, 100_000))?;
+        expect(&rt, found.served.replies, replies);
     }
     Ok(())
 }
@@ -722,10 +789,7 @@ fn long_table(alloc: Global) -> Result<List<MemFile>, Memory> {
 /// A request for it, of which that put fails.
 fn long_response<R: Threads + AllocGlobal + Sync>(rt: &R, put: u64) -> Result<Done, Memory> {
     let fails: [u64; 1] = [put];
-    let faults = Faults {
-        puts: &fails,
-        ..SURE
-    };
+    let faults = put_faults(&fails, 100_000);
     let input = b"GET /long.csv.dods HTTP/1.1\r\n\r\n";
     served_from(rt, long_table(rt.alloc())?, input, faults)
 }
@@ -736,10 +800,10 @@ fn a_long_response_is_two_puts(rt: HostRuntime) -> Result<(), Fail> {
     let first = DATA_HEAD.len().saturating_add(65_545);
     for (put, length) in [(1, 0), (2, first)] {
         let found = long_response(&rt, put)?;
-        assert_eq!(rt; found.written.bytes().len(), length);
-        assert_eq!(rt; found.served, as_served(0, 0, Ending::WriteFault));
+        expect(&rt, found.written.bytes().len(), length);
+        expect(&rt, found.served, as_served(0, 0, Ending::WriteFault));
     }
     let found = long_response(&rt, 3)?;
-    assert_eq!(rt; found.served, as_served(1, 200, Ending::Gone));
+    expect(&rt, found.served, as_served(1, 200, Ending::Gone));
     Ok(())
 }

@@ -3,3 +3,5 @@
 
 #[cfg(test)]
 mod connection_tests;
+#[cfg(test)]
+mod expecting;

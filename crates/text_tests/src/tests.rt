@@ -3,3 +3,4 @@ mod das;
 mod dds;
 mod errors;
 mod expecting;
+mod lists;

@@ -13,14 +13,8 @@ const NAMES: [(&[u8], &[u8], &[u8]); 5] = [
     (b"", b"", b""),
 ];
 
-fn expect_name<R: Abort>(
-    rt: &R,
-    alloc: Global,
-    file: &[u8],
-    segment: &[u8],
-    name: &[u8],
-) -> Result<(), Fail> {
-    expect(rt, last_segment(file), segment);
+/// The dataset of a file has this name.
+fn expect_name<R: Abort>(rt: &R, alloc: Global, file: &[u8], name: &[u8]) -> Result<(), Fail> {
     expect(rt, dataset_id(alloc, file)?.bytes(), name);
     Ok(())
 }
@@ -28,7 +22,8 @@ fn expect_name<R: Abort>(
 #[test]
 fn a_dataset_is_named_by_the_last_segment(rt: HostRuntime) -> Result<(), Fail> {
     for (file, segment, name) in NAMES {
-        expect_name(&rt, rt.alloc(), file, segment, name)?;
+        expect(&rt, last_segment(file), segment);
+        expect_name(&rt, rt.alloc(), file, name)?;
     }
     Ok(())
 }

@@ -1,19 +1,29 @@
 use crate::tests::expecting::expect;
-use dap_types::BaseType;
+use dap_types::{BaseType, Memory};
 use std::test::Fail;
 use text_lines::{hex_digit, put, put_hex, put_line, put_number, put_spaces, type_word};
+
+/// A word and numbers, with spaces between them.
+fn put_words(out: &mut Vec<u8>) -> Result<(), Memory> {
+    put(out, b"Int16 ")?;
+    put_number(out, 0)?;
+    put_spaces(out, 2)?;
+    put_number(out, 4_294_967_295)
+}
+
+/// A line, digits, and no space.
+fn put_end(out: &mut Vec<u8>) -> Result<(), Memory> {
+    put_line(out, 4, b"} g;")?;
+    put_hex(out, 8, 0xc2f6_1caf)?;
+    put_hex(out, 2, 0x1a5)?;
+    put_spaces(out, 0)
+}
 
 #[test]
 fn pieces_stand_one_behind_the_other(rt: HostRuntime) -> Result<(), Fail> {
     let mut out = Vec::from_slice(rt.alloc(), b">")?;
-    put(&mut out, b"Int16 ")?;
-    put_number(&mut out, 0)?;
-    put_spaces(&mut out, 2)?;
-    put_number(&mut out, 4_294_967_295)?;
-    put_line(&mut out, 4, b"} g;")?;
-    put_hex(&mut out, 8, 0xc2f6_1caf)?;
-    put_hex(&mut out, 2, 0x1a5)?;
-    put_spaces(&mut out, 0)?;
+    put_words(&mut out)?;
+    put_end(&mut out)?;
     expect(
         &rt,
         out.as_slice(),
@@ -22,15 +32,19 @@ fn pieces_stand_one_behind_the_other(rt: HostRuntime) -> Result<(), Fail> {
     Ok(())
 }
 
+/// Digits behind a mark.
+fn put_digits(out: &mut Vec<u8>, digits: u32, bits: u64) -> Result<(), Memory> {
+    put(out, b">")?;
+    put_hex(out, digits, bits)
+}
+
 /// As many digits as are asked for, also more than a word has.
 #[test]
 fn digits_are_as_many_as_asked(rt: HostRuntime) -> Result<(), Fail> {
     let mut out = Vec::new(rt.alloc());
     put_hex(&mut out, 0, 0xff)?;
-    put(&mut out, b">")?;
-    put_hex(&mut out, 16, 0xfedc_ba98_7654_3210)?;
-    put(&mut out, b">")?;
-    put_hex(&mut out, 19, 0x8000_0000_0000_000f)?;
+    put_digits(&mut out, 16, 0xfedc_ba98_7654_3210)?;
+    put_digits(&mut out, 19, 0x8000_0000_0000_000f)?;
     expect(
         &rt,
         out.as_slice(),

@@ -1,4 +1,5 @@
 use crate::tests::expecting::expect;
+use crate::tests::lists::add;
 use dap_types::{
     ArrayDecl, BaseType, Bytes, Column, Dataset, Decl, Dim, Id, Index, List, Memory, Name, Unfit,
     check,
@@ -73,19 +74,28 @@ fn names_of_all_lengths_are_kept_twice(rt: HostRuntime) -> Result<(), Fail> {
     Ok(())
 }
 
+fn add_dim(dims: &mut List<Dim>, size: u32) -> Result<(), Memory> {
+    add(dims, Dim { name: None, size })
+}
+
+fn array_of(alloc: Global, name: &[u8], dims: List<Dim>) -> Result<ArrayDecl, Memory> {
+    let name = Id::raw(alloc, name)?;
+    let base = BaseType::Int16;
+    Ok(ArrayDecl { name, base, dims })
+}
+
 fn array(alloc: Global, name: &[u8], sizes: &[u32]) -> Result<ArrayDecl, Memory> {
     let mut dims = List::new(alloc);
     for size in sizes {
-        dims.push(Dim {
-            name: None,
-            size: *size,
-        })?;
+        add_dim(&mut dims, *size)?;
     }
-    Ok(ArrayDecl {
-        name: Id::raw(alloc, name)?,
-        base: BaseType::Int16,
-        dims,
-    })
+    array_of(alloc, name, dims)
+}
+
+fn map(alloc: Global, name: &[u8], size: u32) -> Result<ArrayDecl, Memory> {
+    let mut dims = List::new(alloc);
+    add_dim(&mut dims, size)?;
+    array_of(alloc, name, dims)
 }
 
 fn column(alloc: Global, name: &[u8]) -> Result<Column, Memory> {
@@ -95,25 +105,45 @@ fn column(alloc: Global, name: &[u8]) -> Result<Column, Memory> {
     })
 }
 
+/// Maps `x` and `y` of these sizes.
+fn maps_of(alloc: Global, sizes: [u32; 2]) -> Result<List<ArrayDecl>, Memory> {
+    let [x, y] = sizes;
+    let mut list = List::new(alloc);
+    add(&mut list, map(alloc, b"x", x)?)?;
+    add(&mut list, map(alloc, b"y", y)?)?;
+    Ok(list)
+}
+
 /// A Grid `g` of an array of these sizes, with maps `x` and `y` of those.
 fn grid(alloc: Global, sizes: &[u32], maps: [u32; 2]) -> Result<Decl, Memory> {
-    let [x, y] = maps;
-    let mut list = List::new(alloc);
-    list.push(array(alloc, b"x", &[x])?)?;
-    list.push(array(alloc, b"y", &[y])?)?;
-    Ok(Decl::Grid(Id::raw(alloc, b"g")?, array(alloc, b"g", sizes)?, list))
+    let name = Id::raw(alloc, b"g")?;
+    let data = array(alloc, b"g", sizes)?;
+    Ok(Decl::Grid(name, data, maps_of(alloc, maps)?))
 }
 
 /// A Sequence `q` of these columns.
 fn sequence(alloc: Global, columns: &[&[u8]]) -> Result<Decl, Memory> {
     let mut cells = List::new(alloc);
     for name in columns {
-        cells.push(column(alloc, name)?)?;
+        add(&mut cells, column(alloc, name)?)?;
     }
     Ok(Decl::Sequence(Id::raw(alloc, b"q")?, cells))
 }
 
-/// A Structure `s` with that Grid and that Sequence, and a scalar of that name.
+/// A Structure `s` with that Grid and that Sequence.
+fn structure(
+    alloc: Global,
+    sizes: &[u32],
+    maps: [u32; 2],
+    columns: &[&[u8]],
+) -> Result<Decl, Memory> {
+    let mut parts = List::new(alloc);
+    add(&mut parts, grid(alloc, sizes, maps)?)?;
+    add(&mut parts, sequence(alloc, columns)?)?;
+    Ok(Decl::Structure(Id::raw(alloc, b"s")?, parts))
+}
+
+/// That Structure, and a scalar of that name.
 fn dataset(
     alloc: Global,
     sizes: &[u32],
@@ -121,16 +151,11 @@ fn dataset(
     columns: &[&[u8]],
     last: &[u8],
 ) -> Result<Dataset, Memory> {
-    let mut parts = List::new(alloc);
-    parts.push(grid(alloc, sizes, maps)?)?;
-    parts.push(sequence(alloc, columns)?)?;
     let mut members = List::new(alloc);
-    members.push(Decl::Structure(Id::raw(alloc, b"s")?, parts))?;
-    members.push(Decl::Base(column(alloc, last)?))?;
-    Ok(Dataset {
-        name: Id::raw(alloc, b"d")?,
-        members,
-    })
+    add(&mut members, structure(alloc, sizes, maps, columns)?)?;
+    add(&mut members, Decl::Base(column(alloc, last)?))?;
+    let name = Id::raw(alloc, b"d")?;
+    Ok(Dataset { name, members })
 }
 
 /// The first fault of such a dataset.
@@ -164,18 +189,45 @@ fn the_first_fault_is_named(rt: HostRuntime) -> Result<(), Fail> {
     Ok(())
 }
 
+/// Paths, with a dot between two names, and the numbers of their members.
+const MEMBERS: [(&[u8], Option<u32>); 8] = [
+    (b"s", Some(1)),
+    (b"s.g", Some(2)),
+    (b"s.g.g", Some(3)),
+    (b"s.g.y", Some(5)),
+    (b"s.q.x", Some(8)),
+    (b"x", Some(9)),
+    (b"g", None),
+    (b"", None),
+];
+
+/// The index of a dataset that is well formed.
+fn index_of(alloc: Global, tried: &Dataset) -> Result<Index, Fail> {
+    check(alloc, tried)?;
+    Ok(Index::new(alloc, tried)?)
+}
+
+/// The names between the dots of a text; none where it is empty.
+fn path(alloc: Global, text: &[u8]) -> Result<List<Id>, Memory> {
+    let mut path = List::new(alloc);
+    if text.is_empty() {
+        return Ok(path);
+    }
+    for name in text.split(|byte| *byte == b'.') {
+        add(&mut path, Id::raw(alloc, name)?)?;
+    }
+    Ok(path)
+}
+
 /// A path leads to the member of that number, or to none.
 fn expect_member<R: Abort>(
     rt: &R,
     alloc: Global,
     index: &Index,
-    names: &[&[u8]],
+    text: &[u8],
     member: Option<u32>,
 ) -> Result<(), Fail> {
-    let mut path = List::new(alloc);
-    for name in names {
-        path.push(Id::raw(alloc, name)?)?;
-    }
+    let path = path(alloc, text)?;
     expect(rt, index.member(path.items()), member);
     Ok(())
 }
@@ -185,20 +237,9 @@ fn members_are_found_by_their_paths(rt: HostRuntime) -> Result<(), Fail> {
     let alloc = rt.alloc();
     let columns: [&[u8]; 2] = [b"a", b"x"];
     let tried = dataset(alloc, &[2, 3], [2, 3], &columns, b"x")?;
-    check(alloc, &tried)?;
-    let index = Index::new(alloc, &tried)?;
-    let rows: [(&[&[u8]], Option<u32>); 8] = [
-        (&[b"s"], Some(1)),
-        (&[b"s", b"g"], Some(2)),
-        (&[b"s", b"g", b"g"], Some(3)),
-        (&[b"s", b"g", b"y"], Some(5)),
-        (&[b"s", b"q", b"x"], Some(8)),
-        (&[b"x"], Some(9)),
-        (&[b"g"], None),
-        (&[], None),
-    ];
-    for (names, member) in rows {
-        expect_member(&rt, alloc, &index, names, member)?;
+    let index = index_of(alloc, &tried)?;
+    for (text, member) in MEMBERS {
+        expect_member(&rt, alloc, &index, text, member)?;
     }
     Ok(())
 }

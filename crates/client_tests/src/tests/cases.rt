@@ -1,4 +1,6 @@
 use crate::tests::showing::{Answer, answers, show_body};
+use std::alloc::Global;
+use std::process::Abort;
 use std::test::Fail;
 use xdr_decode::Bad;
 
@@ -184,16 +186,36 @@ const FRONTS: [(&[u8], Answer); 19] = [
     (b"Dataset {\n} f;\nData:\r", Answer::Wrong(Bad::Cut, 21)),
 ];
 
+/// A body in pieces of a size has its verdict.
+fn expect_verdict<R: Abort>(rt: &R, alloc: Global, case: &Case, piece: u32) -> Result<(), Fail> {
+    let found = show_body(alloc, case.body, piece, None, None)?;
+    assert!(rt; answers(&found.outcome, case.answer));
+    assert!(rt; found.out.bytes().starts_with(case.least));
+    assert!(rt; case.most.starts_with(found.out.bytes()));
+    Ok(())
+}
+
 #[test]
 fn each_body_has_its_verdict(rt: HostRuntime) -> Result<(), Fail> {
     for case in &DATA {
         for piece in [1, 7, 65536] {
-            let found = show_body(rt.alloc(), case.body, piece, None, None)?;
-            assert!(rt; answers(&found.outcome, case.answer));
-            assert!(rt; found.out.bytes().starts_with(case.least));
-            assert!(rt; case.most.starts_with(found.out.bytes()));
+            expect_verdict(&rt, rt.alloc(), case, piece)?;
         }
     }
+    Ok(())
+}
+
+/// Of what begins a body, in pieces of a size, nothing is put.
+fn expect_front<R: Abort>(
+    rt: &R,
+    alloc: Global,
+    body: &[u8],
+    answer: Answer,
+    piece: u32,
+) -> Result<(), Fail> {
+    let found = show_body(alloc, body, piece, None, None)?;
+    assert!(rt; answers(&found.outcome, answer));
+    assert!(rt; found.out.bytes().is_empty());
     Ok(())
 }
 
@@ -201,9 +223,7 @@ fn each_body_has_its_verdict(rt: HostRuntime) -> Result<(), Fail> {
 fn nothing_is_put_before_the_values(rt: HostRuntime) -> Result<(), Fail> {
     for (body, answer) in &FRONTS {
         for piece in [1, 7, 65536] {
-            let found = show_body(rt.alloc(), body, piece, None, None)?;
-            assert!(rt; answers(&found.outcome, *answer));
-            assert!(rt; found.out.bytes().is_empty());
+            expect_front(&rt, rt.alloc(), body, *answer, piece)?;
         }
     }
     Ok(())

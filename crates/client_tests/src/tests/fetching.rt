@@ -5,12 +5,14 @@ ghost use Rattle.dap_outside.specs.MemLinks.{IsNew};
 ghost use Rattle.dap_client.specs.Fetched.{IsUrl};
 
 use crate::tests::counted::Counted;
-use crate::tests::showing::{Answer, answers, failing};
+use crate::tests::expecting::expect;
+use crate::tests::showing::{Answer, answers, failing, sink};
 use dap_client::{Fetched, Outcome, fetch, fetch_all};
 use dap_http::{Kind, Url, UrlRefusal};
-use dap_outside::{MemDial, MemLink, MemSink};
+use dap_outside::{Dial, MemDial, MemLink, MemSink, Sink};
 use dap_types::{Bytes, List, Memory};
 use std::alloc::Global;
+use std::process::Abort;
 use std::str;
 use std::test::Fail;
 use xdr_decode::Bad;
@@ -60,7 +62,21 @@ fn link(alloc: Global, input: &[u8], fails: Fails) -> Result<MemLink, Memory>
     let bytes = Bytes::new(alloc, input)?;
     let takes = failing(alloc, fails.take)?;
     let puts = failing(alloc, fails.send)?;
-    MemLink::new(alloc, bytes, 65536, fails.piece.max(1), takes, puts)
+    link_of(alloc, bytes, fails.piece.max(1), takes, puts)
+}
+
+/// A link of so many bytes at once, with these calls that fail.
+fn link_of(
+    alloc: Global,
+    bytes: Bytes,
+    piece: u32,
+    takes: List<u64>,
+    puts: List<u64>,
+) -> Result<MemLink, Memory>
+    requires { 0 < piece }
+    ensures { IfOk result IsNew }
+{
+    MemLink::new(alloc, bytes, 65536, piece, takes, puts)
 }
 
 fn links(alloc: Global, input: &[u8], fails: Fails) -> Result<List<MemLink>, Memory>
@@ -80,28 +96,99 @@ fn constraints(alloc: Global, ces: &[&[u8]]) -> Result<List<Bytes>, Memory> {
     Ok(list)
 }
 
-/// Fetches, for 1 to 16 constraints.
-fn fetch_kind(
+fn fetch_dds<C: Dial, O: Sink>(
     alloc: Global,
-    dial: &mut MemDial,
+    dial: &mut C,
+    url: &Url,
+    ces: &[Bytes],
+    out: &mut O,
+) -> Fetched
+    requires url { IsUrl url.now }
+    requires some { 1 ≤ length ces.now }
+    requires many { length ces.now ≤ 16 }
+{
+    fetch_all(alloc, dial, url, Kind::Dds, ces, out)
+}
+
+fn fetch_das<C: Dial, O: Sink>(
+    alloc: Global,
+    dial: &mut C,
+    url: &Url,
+    ces: &[Bytes],
+    out: &mut O,
+) -> Fetched
+    requires url { IsUrl url.now }
+    requires some { 1 ≤ length ces.now }
+    requires many { length ces.now ≤ 16 }
+{
+    fetch_all(alloc, dial, url, Kind::Das, ces, out)
+}
+
+fn fetch_dods<C: Dial, O: Sink>(
+    alloc: Global,
+    dial: &mut C,
+    url: &Url,
+    ces: &[Bytes],
+    out: &mut O,
+) -> Fetched
+    requires url { IsUrl url.now }
+    requires some { 1 ≤ length ces.now }
+    requires many { length ces.now ≤ 16 }
+{
+    fetch_all(alloc, dial, url, Kind::Dods, ces, out)
+}
+
+/// Fetches, for 1 to 16 constraints.
+fn fetch_kind<C: Dial, O: Sink>(
+    alloc: Global,
+    dial: &mut C,
     url: &Url,
     kind: Kind,
     ces: &[Bytes],
-    out: &mut Counted<MemSink>,
+    out: &mut O,
 ) -> Fetched
     requires url { IsUrl url.now }
     requires some { 1 ≤ length ces.now }
     requires many { length ces.now ≤ 16 }
 {
     match kind {
-        Kind::Dds => fetch_all(alloc, dial, url, Kind::Dds, ces, out),
-        Kind::Das => fetch_all(alloc, dial, url, Kind::Das, ces, out),
-        Kind::Dods => fetch_all(alloc, dial, url, Kind::Dods, ces, out),
+        Kind::Dds => fetch_dds(alloc, dial, url, ces, out),
+        Kind::Das => fetch_das(alloc, dial, url, ces, out),
+        Kind::Dods => fetch_dods(alloc, dial, url, ces, out),
         Kind::Ver => Fetched {
             whole: 0,
             last: Outcome::LinkFault,
         },
     }
+}
+
+/// Fetches from a URL.
+fn fetch_from<C: Dial, O: Sink>(
+    alloc: Global,
+    dial: &mut C,
+    asked: Asked,
+    out: &mut O,
+) -> Result<Fetched, Fail> {
+    let list = constraints(alloc, asked.ces)?;
+    let ces = list.items();
+    let Ok(url) = Url::read(alloc, asked.url) else {
+        return Err(Fail::new("no URL"));
+    };
+    if ces.is_empty() || ces.len() > 16 {
+        return Err(Fail::new("not 1 to 16 constraints"));
+    }
+    Ok(fetch_kind(alloc, dial, &url, asked.kind, ces, out))
+}
+
+/// A dial of two links for which this comes.
+fn dial(
+    alloc: Global,
+    input: &[u8],
+    fails: Fails,
+    connect: Option<u64>,
+) -> Result<MemDial, Memory> {
+    let connects = failing(alloc, connect)?;
+    MemDial::new(alloc, links(alloc, input, fails)?, connects)
 }
 
 /// What was sent on the first link that came back.
@@ -112,27 +199,29 @@ fn sent(dial: &MemDial) -> &[u8] {
     }
 }
 
-fn fetched(alloc: Global, asked: Asked, fails: Fails) -> Result<Done, Fail> {
-    let connects = failing(alloc, fails.connect)?;
-    let mut dial = MemDial::new(alloc, links(alloc, asked.input, fails)?, connects)?;
-    let puts = failing(alloc, fails.put)?;
-    let mut out = Counted::new(MemSink::new(alloc, 65536, fails.piece.max(1), puts)?);
-    let list = constraints(alloc, asked.ces)?;
-    let ces = list.items();
-    let Ok(url) = Url::read(alloc, asked.url) else {
-        return Err(Fail::new("no URL"));
-    };
-    if ces.is_empty() || ces.len() > 16 {
-        return Err(Fail::new("not 1 to 16 constraints"));
-    }
-    let fetched = fetch_kind(alloc, &mut dial, &url, asked.kind, ces, &mut out);
+fn collected(
+    alloc: Global,
+    fetched: Fetched,
+    out: &Counted<MemSink>,
+    dial: &MemDial,
+) -> Result<Done, Memory> {
+    let puts = out.calls;
+    let out = Bytes::new(alloc, out.end.bytes())?;
+    let sent = Bytes::new(alloc, sent(dial))?;
     Ok(Done {
         fetched,
-        out: Bytes::new(alloc, out.end.bytes())?,
-        puts: out.calls,
-        sent: Bytes::new(alloc, sent(&dial))?,
+        out,
+        puts,
+        sent,
         back: dial.back().len(),
     })
+}
+
+fn fetched(alloc: Global, asked: Asked, fails: Fails) -> Result<Done, Fail> {
+    let mut dial = dial(alloc, asked.input, fails, fails.connect)?;
+    let mut out = Counted::new(sink(alloc, fails.piece, fails.put)?);
+    let fetched = fetch_from(alloc, &mut dial, asked, &mut out)?;
+    Ok(collected(alloc, fetched, &out, &dial)?)
 }
 
 /// The reply to a request for one element, over HTTP, and what is shown of it.
@@ -186,15 +275,20 @@ fn times(alloc: Global, text: &[u8], count: usize) -> Result<Vec<u8>, Memory> {
     Ok(all)
 }
 
+/// This was answered, behind so many whole replies, and this was put.
+fn expect_fetched<R: Abort>(rt: &R, done: &Done, answer: Answer, whole: u32, out: &[u8]) {
+    assert!(rt; answers(&done.fetched.last, answer));
+    expect(rt, done.fetched.whole, whole);
+    expect(rt, done.out.bytes(), out);
+    expect(rt, done.back, 1);
+}
+
 #[test]
 fn one_is_fetched(rt: HostRuntime) -> Result<(), Fail> {
     for piece in [1, 7, 65536] {
         let done = fetched(rt.alloc(), ONE, Fails { piece, ..SURE })?;
-        assert!(rt; answers(&done.fetched.last, Answer::Shown(63)));
-        assert_eq!(rt; done.fetched.whole, 1);
-        assert_eq!(rt; done.out.bytes(), DATA_SHOWN);
-        assert_eq!(rt; done.sent.bytes(), DATA_REQUEST);
-        assert_eq!(rt; done.back, 1);
+        expect_fetched(&rt, &done, Answer::Shown(63), 1, DATA_SHOWN);
+        expect(&rt, done.sent.bytes(), DATA_REQUEST);
     }
     Ok(())
 }
@@ -211,39 +305,42 @@ fn two_are_fetched(rt: HostRuntime) -> Result<(), Fail> {
     };
     for piece in [1, 7, 65536] {
         let done = fetched(rt.alloc(), two, Fails { piece, ..SURE })?;
-        assert!(rt; answers(&done.fetched.last, UNKNOWN));
-        assert_eq!(rt; done.fetched.whole, 1);
-        assert_eq!(rt; done.out.bytes(), DDS_SHOWN);
-        assert_eq!(rt; done.sent.bytes(), TWO_REQUESTS);
-        assert_eq!(rt; done.back, 1);
+        expect_fetched(&rt, &done, UNKNOWN, 1, DDS_SHOWN);
+        expect(&rt, done.sent.bytes(), TWO_REQUESTS);
     }
+    Ok(())
+}
+
+/// Of 16 replies one is refused, or none: the ones before it are put.
+fn expect_sixteen<R: Abort>(
+    rt: &R,
+    alloc: Global,
+    refused: usize,
+    answer: Answer,
+    whole: u32,
+) -> Result<(), Fail> {
+    let input = replies(alloc, 16, refused)?;
+    let sixteen = Asked {
+        url: "http://localhost/v.nc",
+        kind: Kind::Dds,
+        ces: &[ALL; 16],
+        input: input.as_slice(),
+    };
+    let done = fetched(alloc, sixteen, SURE)?;
+    let shown = times(alloc, DDS_SHOWN, refused)?;
+    expect_fetched(rt, &done, answer, whole, shown.as_slice());
     Ok(())
 }
 
 /// Of 16 replies, the third of which is refused, two are read; where none is, all are.
 #[test]
 fn sixteen_are_fetched(rt: HostRuntime) -> Result<(), Fail> {
-    let alloc = rt.alloc();
     for (refused, answer, whole) in [
         (2, UNKNOWN, 2),
         (15, UNKNOWN, 15),
         (16, Answer::Shown(45), 16),
     ] {
-        let input = replies(alloc, 16, refused)?;
-        let sixteen = Asked {
-            url: "http://localhost/v.nc",
-            kind: Kind::Dds,
-            ces: &[ALL; 16],
-            input: input.as_slice(),
-        };
-        let done = fetched(alloc, sixteen, SURE)?;
-        assert!(rt; answers(&done.fetched.last, answer));
-        assert_eq!(rt; done.fetched.whole, whole);
-        assert_eq!(rt;
-            done.out.bytes(),
-            times(alloc, DDS_SHOWN, refused)?.as_slice()
-        );
-        assert_eq!(rt; done.back, 1);
+        expect_sixteen(&rt, rt.alloc(), refused, answer, whole)?;
     }
     Ok(())
 }
@@ -269,7 +366,7 @@ fn each_take_fails(rt: HostRuntime) -> Result<(), Fail> {
             ..SURE
         };
         let done = fetched(rt.alloc(), ONE, fails)?;
-        assert_eq!(rt; done.sent.bytes(), DATA_REQUEST);
+        expect(&rt, done.sent.bytes(), DATA_REQUEST);
         if number > takes {
             assert!(rt; answers(&done.fetched.last, Answer::Shown(63)));
         } else {
@@ -323,7 +420,7 @@ fn each_put_fails(rt: HostRuntime) -> Result<(), Fail> {
             "{number}"
         );
         assert!(rt; is_stopped(&done, DATA_REQUEST));
-        assert_eq!(rt; done.sent.bytes(), DATA_REQUEST);
+        expect(&rt, done.sent.bytes(), DATA_REQUEST);
     }
     Ok(())
 }
@@ -337,18 +434,27 @@ fn url_of(alloc: Global, count: usize) -> Result<Vec<u8>, Memory> {
     Ok(text)
 }
 
-/// Fetches from the longest host that there may be, and says whether all came, or nothing where no link is
-/// connected.
-fn call_ends(alloc: Global, dial: &mut MemDial, fails: bool) -> Result<bool, Fail> {
-    let text = url_of(alloc, 255)?;
-    let Ok(text) = str::from_utf8(text.as_slice()) else {
+/// Fetches from the longest host that there may be.
+fn fetch_far<C: Dial, O: Sink>(
+    alloc: Global,
+    dial: &mut C,
+    text: &[u8],
+    out: &mut O,
+) -> Result<Outcome, Fail> {
+    let Ok(text) = str::from_utf8(text) else {
         return Err(Fail::new("no text"));
     };
     let Ok(url) = Url::read(alloc, text) else {
         return Err(Fail::new("no URL"));
     };
-    let mut out = MemSink::new(alloc, 65536, 65536, List::new(alloc))?;
-    let outcome = fetch(alloc, dial, &url, Kind::Dods, b"v", &mut out);
+    Ok(fetch(alloc, dial, &url, Kind::Dods, b"v", out))
+}
+
+/// Fetches from that host, and says whether all came, or nothing where no link is connected.
+fn call_ends(alloc: Global, dial: &mut MemDial, fails: bool) -> Result<bool, Fail> {
+    let text = url_of(alloc, 255)?;
+    let mut out = sink(alloc, 65536, None)?;
+    let outcome = fetch_far(alloc, dial, text.as_slice(), &mut out)?;
     Ok(if fails {
         matches!(outcome, Outcome::LinkFault) && out.bytes().is_empty()
     } else {
@@ -371,12 +477,11 @@ fn hosts_have_at_most_255_bytes(rt: HostRuntime) -> Result<(), Fail> {
 fn a_call_does_not_connect(rt: HostRuntime) -> Result<(), Fail> {
     let alloc = rt.alloc();
     for failing_call in 1..4 {
-        let connects = failing(alloc, Some(failing_call))?;
-        let mut dial = MemDial::new(alloc, links(alloc, DATA, SURE)?, connects)?;
+        let mut dial = dial(alloc, DATA, SURE, Some(failing_call))?;
         for call in 1..4 {
             assert!(rt; call_ends(alloc, &mut dial, call == failing_call)?);
         }
-        assert_eq!(rt; dial.back().len(), 2);
+        expect(&rt, dial.back().len(), 2);
     }
     Ok(())
 }

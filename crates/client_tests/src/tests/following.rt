@@ -1,13 +1,15 @@
 //! Replies one behind the other; they are worked out by hand.
 
 use crate::tests::cases::{TABLE, TABLE_SHOWN};
+use crate::tests::expecting::expect;
 use crate::tests::replies::reply_of;
-use crate::tests::showing::{Answer, answers, failing};
+use crate::tests::showing::{Answer, answers, sink, source};
 use dap_client::{Outcome, Replies};
 use dap_http::Kind;
-use dap_outside::{MemSink, MemSource};
+use dap_outside::{MemSink, MemSource, Sink, Source};
 use dap_types::Bytes;
 use std::alloc::Global;
+use std::process::Abort;
 use std::test::Fail;
 use xdr_decode::Bad;
 
@@ -26,6 +28,51 @@ fn input(alloc: Global) -> Result<Bytes, Fail> {
     Ok(Bytes::from_vec(input))
 }
 
+fn next<I: Source, O: Sink>(replies: &mut Replies, source: &mut I, out: &mut O) -> Outcome {
+    replies.next(source, Kind::Dods, out)
+}
+
+fn next_dds<I: Source, O: Sink>(replies: &mut Replies, source: &mut I, out: &mut O) -> Outcome {
+    replies.next(source, Kind::Dds, out)
+}
+
+/// A source of those replies, which come in pieces of a size. That take fails, if any.
+fn replying(alloc: Global, piece: u32, fails: Option<u64>) -> Result<MemSource, Fail> {
+    let input = input(alloc)?;
+    Ok(source(alloc, input.bytes(), piece, fails)?)
+}
+
+/// The next reply is this, and so much is put of it.
+fn expect_next<R: Abort>(
+    rt: &R,
+    replies: &mut Replies,
+    source: &mut MemSource,
+    out: &mut MemSink,
+    expected: (Answer, usize),
+) {
+    let (answer, more) = expected;
+    let before = out.bytes().len();
+    let outcome = next(replies, source, out);
+    assert!(rt; answers(&outcome, answer));
+    expect(rt, out.bytes().len().saturating_sub(before), more);
+}
+
+/// The replies are these, in pieces of a size.
+fn expect_replies<R: Abort>(
+    rt: &R,
+    alloc: Global,
+    piece: u32,
+    expected: &[(Answer, usize)],
+) -> Result<(), Fail> {
+    let mut source = replying(alloc, piece, None)?;
+    let mut out = sink(alloc, 65536, None)?;
+    let mut replies = Replies::new(alloc)?;
+    for told in expected {
+        expect_next(rt, &mut replies, &mut source, &mut out, *told);
+    }
+    Ok(())
+}
+
 /// Each begins where the framing before it ended. Behind a bad one the same is answered again, and
 /// nothing is put.
 #[test]
@@ -39,15 +86,33 @@ fn replies_follow_one_another(rt: HostRuntime) -> Result<(), Fail> {
         (Answer::Wrong(Bad::Cut, 20), 0),
     ];
     for piece in [1, 7, 65536] {
-        let mut source = MemSource::new(input(rt.alloc())?, piece, failing(rt.alloc(), None)?);
-        let mut out = MemSink::new(rt.alloc(), 65536, 65536, failing(rt.alloc(), None)?)?;
-        let mut replies = Replies::new(rt.alloc())?;
-        for (answer, more) in expected {
-            let before = out.bytes().len();
-            let outcome = replies.next(&mut source, Kind::Dods, &mut out);
-            assert!(rt; answers(&outcome, answer));
-            assert_eq!(rt; out.bytes().len().saturating_sub(before), more);
-        }
+        expect_replies(&rt, rt.alloc(), piece, &expected)?;
+    }
+    Ok(())
+}
+
+/// Whether the outcome is the fault of the call that fails.
+fn is_fault(outcome: &Outcome, take: Option<u64>, put: Option<u64>) -> bool {
+    match outcome {
+        Outcome::ReadFault => take.is_some(),
+        Outcome::WriteFault => put.is_some(),
+        _ => false,
+    }
+}
+
+/// The fault of a call stays, and nothing is put.
+fn expect_fault<R: Abort>(
+    rt: &R,
+    alloc: Global,
+    take: Option<u64>,
+    put: Option<u64>,
+) -> Result<(), Fail> {
+    let mut source = replying(alloc, 64, take)?;
+    let mut out = sink(alloc, 65536, put)?;
+    let mut replies = Replies::new(alloc)?;
+    for _ in 0..3 {
+        assert!(rt; is_fault(&next(&mut replies, &mut source, &mut out), take, put));
+        assert!(rt; out.bytes().is_empty());
     }
     Ok(())
 }
@@ -55,41 +120,28 @@ fn replies_follow_one_another(rt: HostRuntime) -> Result<(), Fail> {
 /// A fault stays, though the source would go on; so does one of the sink.
 #[test]
 fn a_fault_stays(rt: HostRuntime) -> Result<(), Fail> {
-    for (take, put) in [(Some(3), None), (None, Some(1))] {
-        let mut source = MemSource::new(input(rt.alloc())?, 64, failing(rt.alloc(), take)?);
-        let mut out = MemSink::new(rt.alloc(), 65536, 65536, failing(rt.alloc(), put)?)?;
-        let mut replies = Replies::new(rt.alloc())?;
-        for _ in 0..3 {
-            match replies.next(&mut source, Kind::Dods, &mut out) {
-                Outcome::ReadFault => {
-                    assert!(rt; take.is_some());
-                }
-                Outcome::WriteFault => {
-                    assert!(rt; put.is_some());
-                }
-                _ => return Err(Fail::new("no fault")),
-            }
-            assert!(rt; out.bytes().is_empty());
-        }
-    }
-    Ok(())
+    expect_fault(&rt, rt.alloc(), Some(3), None)?;
+    expect_fault(&rt, rt.alloc(), None, Some(1))
 }
 
 /// A reply up to the end leaves none behind it.
 #[test]
 fn the_end_is_cut(rt: HostRuntime) -> Result<(), Fail> {
-    let reply = Bytes::new(rt.alloc(), b"HTTP/1.1 200 OK\r\n\r\nDataset{Byte b;}d;\n")?;
-    let mut source = MemSource::new(reply, 7, failing(rt.alloc(), None)?);
-    let mut out = MemSink::new(rt.alloc(), 65536, 65536, failing(rt.alloc(), None)?)?;
+    let reply = b"HTTP/1.1 200 OK\r\n\r\nDataset{Byte b;}d;\n";
+    let mut source = source(rt.alloc(), reply, 7, None)?;
+    let mut out = sink(rt.alloc(), 65536, None)?;
     let mut replies = Replies::new(rt.alloc())?;
     for answer in [
         Answer::Shown(19),
         Answer::Wrong(Bad::Cut, 0),
         Answer::Wrong(Bad::Cut, 0),
     ] {
-        let outcome = replies.next(&mut source, Kind::Dds, &mut out);
-        assert!(rt; answers(&outcome, answer));
+        assert!(rt; answers(&next_dds(&mut replies, &mut source, &mut out), answer));
     }
-    assert_eq!(rt; out.bytes(), b"Dataset {\n    Byte b;\n} d;\n".as_slice());
+    expect(
+        &rt,
+        out.bytes(),
+        b"Dataset {\n    Byte b;\n} d;\n".as_slice(),
+    );
     Ok(())
 }

@@ -1,6 +1,6 @@
 use crate::tests::cases::{TABLE, TABLE_ROWS, TABLE_SHOWN};
 use crate::tests::replies::read;
-use crate::tests::showing::{Answer, answers};
+use crate::tests::showing::{Answer, is_shown};
 use dap_http::Kind;
 use std::alloc::Global;
 use std::test::Fail;
@@ -98,14 +98,20 @@ fn table_rows() -> [Row<'static>; 11] {
     ]
 }
 
-fn is_row(alloc: Global, row: Row<'static>, piece: u32) -> Result<bool, Fail> {
-    let (head, before, behind, answer, out) = row;
+/// A reply with the table in the middle.
+fn around_table(alloc: Global, head: &[u8], before: &[u8], behind: &[u8]) -> Result<Vec<u8>, Fail> {
     let mut reply = Vec::from_slice(alloc, head)?;
     reply.extend_from_slice(before)?;
     reply.extend_from_slice(TABLE)?;
     reply.extend_from_slice(behind)?;
+    Ok(reply)
+}
+
+fn is_row(alloc: Global, row: Row<'static>, piece: u32) -> Result<bool, Fail> {
+    let (head, before, behind, answer, out) = row;
+    let reply = around_table(alloc, head, before, behind)?;
     let found = read(alloc, reply.as_slice(), Kind::Dods, piece, None, None)?;
-    Ok(answers(&found.outcome, answer) && found.out.bytes() == out)
+    Ok(is_shown(&found, answer, out))
 }
 
 #[test]
@@ -197,7 +203,7 @@ fn text_rows() -> [Text<'static>; 11] {
 fn is_text(alloc: Global, row: Text<'static>, piece: u32) -> Result<bool, Fail> {
     let (kind, reply, answer, out) = row;
     let found = read(alloc, reply, kind, piece, None, None)?;
-    Ok(answers(&found.outcome, answer) && found.out.bytes() == out)
+    Ok(is_shown(&found, answer, out))
 }
 
 #[test]

@@ -1,4 +1,6 @@
-use dap_client::{Outcome, show};
+use crate::tests::expecting::expect;
+use crate::tests::showing::show_all;
+use dap_client::Outcome;
 use dap_outside::{MemSink, SureSource};
 use dap_types::{Bytes, List, Memory};
 use std::alloc::Global;
@@ -60,17 +62,25 @@ fn body(alloc: Global) -> Result<Vec<u8>, Memory> {
     Ok(out)
 }
 
+/// Shows the data response in a sink.
+fn shown(alloc: Global, out: &mut MemSink) -> Result<Outcome, Fail> {
+    let body = Bytes::from_vec(body(alloc)?);
+    let mut source = SureSource::new(body, 4099);
+    Ok(show_all(alloc, &mut source, out))
+}
+
+fn lines_in(text: &[u8]) -> usize {
+    text.iter().filter(|byte| **byte == b'\n').count()
+}
+
 /// All of 11,993 elements are shown, behind the 10 lines of the DDS.
 #[test]
 fn a_grid_is_shown(rt: HostRuntime) -> Result<(), Fail> {
-    let body = body(rt.alloc())?;
-    let mut source = SureSource::new(Bytes::new(rt.alloc(), body.as_slice())?, 4099);
     let mut out = MemSink::new(rt.alloc(), 1048576, 65536, List::new(rt.alloc()))?;
-    let outcome = show(rt.alloc(), &mut source, &mut out);
+    let outcome = shown(rt.alloc(), &mut out)?;
     assert!(rt; matches!(outcome, Outcome::Complete { bytes: 48696 }));
     assert!(rt; out.bytes().starts_with(FIRST));
     assert!(rt; out.bytes().ends_with(LAST));
-    let lines = out.bytes().iter().filter(|byte| **byte == b'\n').count();
-    assert_eq!(rt; lines, 12004);
+    expect(&rt, lines_in(out.bytes()), 12004);
     Ok(())
 }

@@ -1,10 +1,12 @@
 //! Replies whose heads or whose framing differ in one byte, and heads before the final one.
 
 use crate::tests::cases::{TABLE, TABLE_ROWS, TABLE_SHOWN};
+use crate::tests::expecting::expect;
 use crate::tests::replies::{DATA_HEAD, read, reply_of};
-use crate::tests::showing::{Answer, answers};
+use crate::tests::showing::{Answer, answers, is_shown};
 use dap_http::Kind;
-use std::alloc::Global;
+use std::alloc::{AllocError, Global};
+use std::process::Abort;
 use std::test::Fail;
 use xdr_decode::Bad;
 
@@ -45,13 +47,13 @@ fn is_changed(
         *byte ^= change;
     }
     let found = read(alloc, reply.as_slice(), Kind::Dods, 65536, None, None)?;
-    Ok(answers(&found.outcome, answer) && found.out.bytes() == out)
+    Ok(is_shown(&found, answer, out))
 }
 
 #[test]
 fn each_byte_of_a_head_is_changed(rt: HostRuntime) -> Result<(), Fail> {
     for (change, letters) in CHANGED {
-        assert_eq!(rt; letters.len(), DATA_HEAD.len());
+        expect(&rt, letters.len(), DATA_HEAD.len());
         for (at, letter) in letters.iter().enumerate() {
             let (answer, out) = meaning(*letter);
             assert!(rt;
@@ -90,49 +92,64 @@ fn each_byte_of_the_framing_is_changed(rt: HostRuntime) -> Result<(), Fail> {
     Ok(())
 }
 
+/// Writes a chunk, with an extension in its line or none.
+fn put_chunk(
+    alloc: Global,
+    reply: &mut Vec<u8>,
+    chunk: &[u8],
+    extended: bool,
+) -> Result<(), AllocError> {
+    let digits = format!(in alloc; "{:X}", chunk.len())?;
+    reply.extend_from_slice(digits.as_bytes())?;
+    reply.extend_from_slice(if extended { b" ; a=\"b\"\r\n" } else { b"\r\n" })?;
+    reply.extend_from_slice(chunk)?;
+    reply.extend_from_slice(b"\r\n")
+}
+
 /// A reply with the table in chunks of a size, in every second line of them an extension, and with a
 /// trailer.
 fn in_chunks(alloc: Global, size: usize) -> Result<Vec<u8>, Fail> {
     let mut reply = Vec::from_slice(alloc, DATA_HEAD)?;
     for (number, chunk) in TABLE.chunks(size.max(1)).enumerate() {
-        let digits = format!(in alloc; "{:X}", chunk.len())?;
-        reply.extend_from_slice(digits.as_bytes())?;
-        reply.extend_from_slice(if number % 2 == 0 {
-            b"\r\n"
-        } else {
-            b" ; a=\"b\"\r\n"
-        })?;
-        reply.extend_from_slice(chunk)?;
-        reply.extend_from_slice(b"\r\n")?;
+        put_chunk(alloc, &mut reply, chunk, number % 2 != 0)?;
     }
     reply.extend_from_slice(b"000\r\nX: y\r\n\r\nrest")?;
     Ok(reply)
+}
+
+/// A reply in pieces of a size is shown as the table.
+fn expect_table<R: Abort>(rt: &R, alloc: Global, reply: &[u8], piece: u32) -> Result<(), Fail> {
+    let found = read(alloc, reply, Kind::Dods, piece, None, None)?;
+    assert!(rt; answers(&found.outcome, Answer::Shown(138)));
+    expect(rt, found.out.bytes(), TABLE_SHOWN);
+    Ok(())
 }
 
 #[test]
 fn chunks_have_any_size(rt: HostRuntime) -> Result<(), Fail> {
     for size in 1..140 {
         let reply = in_chunks(rt.alloc(), size)?;
-        let found = read(rt.alloc(), reply.as_slice(), Kind::Dods, 50, None, None)?;
-        assert!(rt; answers(&found.outcome, Answer::Shown(138)), "{size}");
-        assert_eq!(rt; found.out.bytes(), TABLE_SHOWN);
+        expect_table(&rt, rt.alloc(), reply.as_slice(), 50)?;
     }
     Ok(())
 }
 
-/// A hundred heads of status 100 to 199 are passed over.
-#[test]
-fn heads_before_the_final_one_are_passed_over(rt: HostRuntime) -> Result<(), Fail> {
-    let mut reply = Vec::new(rt.alloc());
+/// The reply with the table behind a hundred heads of status 100 to 199.
+fn behind_heads(alloc: Global) -> Result<Vec<u8>, Fail> {
+    let mut reply = Vec::new(alloc);
     for _ in 0..50 {
         reply.extend_from_slice(b"HTTP/1.1 100 Continue\r\n\r\n")?;
         reply.extend_from_slice(b"HTTP/1.1 199 \r\nContent-Encoding: gzip\r\n\r\n")?;
     }
-    reply.extend_from_slice(reply_of(rt.alloc(), TABLE)?.as_slice())?;
+    reply.extend_from_slice(reply_of(alloc, TABLE)?.as_slice())?;
+    Ok(reply)
+}
+
+#[test]
+fn heads_before_the_final_one_are_passed_over(rt: HostRuntime) -> Result<(), Fail> {
+    let reply = behind_heads(rt.alloc())?;
     for piece in [1, 7, 65536] {
-        let found = read(rt.alloc(), reply.as_slice(), Kind::Dods, piece, None, None)?;
-        assert!(rt; answers(&found.outcome, Answer::Shown(138)));
-        assert_eq!(rt; found.out.bytes(), TABLE_SHOWN);
+        expect_table(&rt, rt.alloc(), reply.as_slice(), piece)?;
     }
     Ok(())
 }

@@ -2,12 +2,12 @@
 
 use crate::tests::cases::TABLE;
 use crate::tests::replies::reply_of;
-use crate::tests::showing::failing;
+use crate::tests::showing::source;
 use dap_client::{BodyOutcome, read_body};
 use dap_http::Kind;
-use dap_outside::MemSource;
-use dap_types::Bytes;
+use dap_outside::Source;
 use std::alloc::Global;
+use std::process::Abort;
 use std::test::Fail;
 use xdr_decode::Bad;
 
@@ -34,6 +34,10 @@ fn is_wanted(outcome: &BodyOutcome, wanted: Wanted) -> bool {
     }
 }
 
+fn read_dods<I: Source>(alloc: Global, source: &mut I, limit: u32) -> BodyOutcome {
+    read_body(alloc, source, Kind::Dods, limit)
+}
+
 /// Reads the body of a reply to a request for a data response, that comes in pieces of a size.
 fn read(
     alloc: Global,
@@ -42,9 +46,24 @@ fn read(
     limit: u32,
     fails: Option<u64>,
 ) -> Result<BodyOutcome, Fail> {
-    let takes = failing(alloc, fails)?;
-    let mut source = MemSource::new(Bytes::new(alloc, reply)?, piece.max(1), takes);
-    Ok(read_body(alloc, &mut source, Kind::Dods, limit))
+    let mut source = source(alloc, reply, piece, fails)?;
+    Ok(read_dods(alloc, &mut source, limit))
+}
+
+/// This is read of a reply in pieces of each of these sizes, within a limit.
+fn expect_read<R: Abort>(
+    rt: &R,
+    alloc: Global,
+    reply: &[u8],
+    pieces: &[u32],
+    limit: u32,
+    wanted: Wanted<'_>,
+) -> Result<(), Fail> {
+    for piece in pieces {
+        let outcome = read(alloc, reply, *piece, limit, None)?;
+        assert!(rt; is_wanted(&outcome, wanted), "{outcome:?} at {limit}");
+    }
+    Ok(())
 }
 
 #[test]
@@ -58,10 +77,14 @@ fn a_body_is_held_up_to_the_limit(rt: HostRuntime) -> Result<(), Fail> {
         (139, Wanted::Good(TABLE)),
         (4_294_967_295, Wanted::Good(TABLE)),
     ] {
-        for piece in [1, 7, 65536] {
-            let outcome = read(rt.alloc(), reply.as_slice(), piece, limit, None)?;
-            assert!(rt; is_wanted(&outcome, wanted), "{outcome:?} at {limit}");
-        }
+        expect_read(
+            &rt,
+            rt.alloc(),
+            reply.as_slice(),
+            &[1, 7, 65536],
+            limit,
+            wanted,
+        )?;
     }
     Ok(())
 }
@@ -113,11 +136,8 @@ const CASES: [(&[u8], u32, Wanted<'static>); 8] = [
 
 #[test]
 fn what_is_wrong_within_the_limit_goes_first(rt: HostRuntime) -> Result<(), Fail> {
-    for (number, (reply, limit, wanted)) in CASES.iter().enumerate() {
-        for piece in [1, 65536] {
-            let outcome = read(rt.alloc(), reply, piece, *limit, None)?;
-            assert!(rt; is_wanted(&outcome, *wanted), "{number}: {outcome:?}");
-        }
+    for (reply, limit, wanted) in &CASES {
+        expect_read(&rt, rt.alloc(), reply, &[1, 65536], *limit, *wanted)?;
     }
     Ok(())
 }
@@ -126,12 +146,14 @@ fn what_is_wrong_within_the_limit_goes_first(rt: HostRuntime) -> Result<(), Fail
 fn a_held_body_is_cut(rt: HostRuntime) -> Result<(), Fail> {
     let reply = reply_of(rt.alloc(), TABLE)?;
     let cut = &reply.as_slice()[..reply.len().saturating_sub(5)];
-    let outcome = read(rt.alloc(), cut, 7, 1000, None)?;
-    assert!(rt;
-        is_wanted(&outcome, Wanted::Wrong(Bad::Cut, 138)),
-        "{outcome:?}"
-    );
-    Ok(())
+    expect_read(
+        &rt,
+        rt.alloc(),
+        cut,
+        &[7],
+        1000,
+        Wanted::Wrong(Bad::Cut, 138),
+    )
 }
 
 #[test]

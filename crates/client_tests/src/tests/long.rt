@@ -1,10 +1,11 @@
 use crate::tests::replies::read;
-use crate::tests::showing::{Answer, answers, show_body};
-use dap_client::{Outcome, show};
+use crate::tests::showing::{Answer, is_shown, show_all, show_body};
+use dap_client::Outcome;
 use dap_http::Kind;
 use dap_outside::{MemSink, SureSource};
 use dap_types::{Bytes, List};
 use std::alloc::Global;
+use std::process::Abort;
 use std::test::Fail;
 use xdr_decode::Bad;
 
@@ -26,7 +27,7 @@ fn is_answered(
 ) -> Result<bool, Fail> {
     let body = spaced(alloc, front, blanks, rest)?;
     let found = show_body(alloc, body.as_slice(), 65536, None, None)?;
-    Ok(answers(&found.outcome, answer) && found.out.bytes().is_empty())
+    Ok(is_shown(&found, answer, b""))
 }
 
 const OBJECT: &[u8] = b"Error { code = 7; message = \"x\"; }";
@@ -74,29 +75,37 @@ fn is_told(
     reply.resize(reply.len().saturating_add(count), byte)?;
     reply.extend_from_slice(rest)?;
     let found = read(alloc, reply.as_slice(), kind, 65536, None, None)?;
-    Ok(answers(&found.outcome, answer) && found.out.bytes().is_empty())
+    Ok(is_shown(&found, answer, b""))
+}
+
+/// What is told of a first word that is long: an object behind white space, what begins a text of that kind and
+/// other words behind the limit, and white space up to it.
+fn expect_first_word<R: Abort>(
+    rt: &R,
+    alloc: Global,
+    kind: Kind,
+    begun: &[u8],
+    bad: Bad,
+) -> Result<(), Fail> {
+    let object = Answer::Wrong(Bad::BadError, 65536);
+    assert!(rt; is_told(alloc, kind, b' ', 16777216, OBJECT, object)?);
+    let far = Answer::Wrong(bad, 16777216);
+    for rest in [begun, b"Err" as &[u8], b"" as &[u8]] {
+        assert!(rt; is_told(alloc, kind, b' ', 16777216, rest, far)?);
+        assert!(rt; is_told(alloc, kind, b'A', 16777216, rest, far)?);
+    }
+    let cut = Answer::Wrong(Bad::Cut, 16777215);
+    assert!(rt; is_told(alloc, kind, b' ', 16777215, b"", cut)?);
+    assert!(rt; is_told(alloc, kind, b'A', 16777215, b"", cut)?);
+    Ok(())
 }
 
 /// Of a DDS and of a DAS a first word is whole within the limit, or bad there.
 #[test]
 fn a_first_word_is_long(rt: HostRuntime) -> Result<(), Fail> {
     let alloc = rt.alloc();
-    let object = Answer::Wrong(Bad::BadError, 65536);
-    for (kind, begun, bad) in [
-        (Kind::Dds, b"Dataset {" as &[u8], Bad::BadDds),
-        (Kind::Das, b"Attributes {" as &[u8], Bad::BadDas),
-    ] {
-        assert!(rt; is_told(alloc, kind, b' ', 16777216, OBJECT, object)?);
-        let far = Answer::Wrong(bad, 16777216);
-        for rest in [begun, b"Err" as &[u8], b"" as &[u8]] {
-            assert!(rt; is_told(alloc, kind, b' ', 16777216, rest, far)?);
-            assert!(rt; is_told(alloc, kind, b'A', 16777216, rest, far)?);
-        }
-        let cut = Answer::Wrong(Bad::Cut, 16777215);
-        assert!(rt; is_told(alloc, kind, b' ', 16777215, b"", cut)?);
-        assert!(rt; is_told(alloc, kind, b'A', 16777215, b"", cut)?);
-    }
-    Ok(())
+    expect_first_word(&rt, alloc, Kind::Dds, b"Dataset {", Bad::BadDds)?;
+    expect_first_word(&rt, alloc, Kind::Das, b"Attributes {", Bad::BadDas)
 }
 
 /// A Sequence of so many rows.
@@ -115,12 +124,17 @@ fn ends(text: &[u8], end: &[u8]) -> bool {
     text.len() >= end.len() && &text[text.len() - end.len()..] == end
 }
 
+/// Shows a million rows in a sink.
+fn shown(alloc: Global, out: &mut MemSink) -> Result<Outcome, Fail> {
+    let body = Bytes::from_vec(rows(alloc, 1000000)?);
+    let mut source = SureSource::new(body, 65536);
+    Ok(show_all(alloc, &mut source, out))
+}
+
 #[test]
 fn a_million_rows_are_shown(rt: HostRuntime) -> Result<(), Fail> {
-    let body = rows(rt.alloc(), 1000000)?;
-    let mut source = SureSource::new(Bytes::new(rt.alloc(), body.as_slice())?, 65536);
     let mut out = MemSink::new(rt.alloc(), 40000000, 65536, List::new(rt.alloc()))?;
-    let outcome = show(rt.alloc(), &mut source, &mut out);
+    let outcome = shown(rt.alloc(), &mut out)?;
     assert!(rt; matches!(outcome, Outcome::Complete { bytes: 8000049 }));
     assert!(rt; ends(out.bytes(), b"q[999999].n = 63\ncomplete 8000049\n"));
     Ok(())

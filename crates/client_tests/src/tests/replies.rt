@@ -1,25 +1,39 @@
 use crate::tests::cases::{TABLE, TABLE_ROWS, TABLE_SHOWN};
 use crate::tests::counted::Counted;
-use crate::tests::showing::{Answer, Showing, answers, failing};
+use crate::tests::cut::answer_of;
+use crate::tests::expecting::expect;
+use crate::tests::showing::{Answer, Showing, answers, is_shown, sink, source, told};
 use dap_client::{Outcome, read_reply};
 use dap_http::Kind;
-use dap_outside::{MemSink, MemSource};
-use dap_types::Bytes;
+use dap_outside::{Sink, Source};
 use std::alloc::Global;
+use std::process::Abort;
 use std::test::Fail;
-use xdr_decode::{AllRefusal, Bad, decode_all};
+use xdr_decode::Bad;
+
+fn read_dds<I: Source, O: Sink>(alloc: Global, source: &mut I, out: &mut O) -> Outcome {
+    read_reply(alloc, source, Kind::Dds, out)
+}
+
+fn read_das<I: Source, O: Sink>(alloc: Global, source: &mut I, out: &mut O) -> Outcome {
+    read_reply(alloc, source, Kind::Das, out)
+}
+
+fn read_dods<I: Source, O: Sink>(alloc: Global, source: &mut I, out: &mut O) -> Outcome {
+    read_reply(alloc, source, Kind::Dods, out)
+}
 
 /// Reads a reply to a request of that kind.
-fn read_kind(
+fn read_kind<I: Source, O: Sink>(
     alloc: Global,
-    source: &mut Counted<MemSource>,
+    source: &mut I,
     kind: Kind,
-    out: &mut Counted<MemSink>,
+    out: &mut O,
 ) -> Outcome {
     match kind {
-        Kind::Dds => read_reply(alloc, source, Kind::Dds, out),
-        Kind::Das => read_reply(alloc, source, Kind::Das, out),
-        Kind::Dods => read_reply(alloc, source, Kind::Dods, out),
+        Kind::Dds => read_dds(alloc, source, out),
+        Kind::Das => read_das(alloc, source, out),
+        Kind::Dods => read_dods(alloc, source, out),
         Kind::Ver => Outcome::LinkFault,
     }
 }
@@ -33,17 +47,10 @@ pub fn read(
     take_fails: Option<u64>,
     put_fails: Option<u64>,
 ) -> Result<Showing, Fail> {
-    let takes = failing(alloc, take_fails)?;
-    let puts = failing(alloc, put_fails)?;
-    let mut source = Counted::new(MemSource::new(Bytes::new(alloc, reply)?, piece.max(1), takes));
-    let mut out = Counted::new(MemSink::new(alloc, 65536, piece.max(1), puts)?);
+    let mut source = Counted::new(source(alloc, reply, piece, take_fails)?);
+    let mut out = Counted::new(sink(alloc, piece, put_fails)?);
     let outcome = read_kind(alloc, &mut source, kind, &mut out);
-    Ok(Showing {
-        outcome,
-        out: Bytes::new(alloc, out.end.bytes())?,
-        takes: source.calls,
-        puts: out.calls,
-    })
+    Ok(told(alloc, outcome, &out, source.calls)?)
 }
 
 /// How a server begins its reply with a data response.
@@ -59,16 +66,12 @@ pub fn reply_of(alloc: Global, body: &[u8]) -> Result<Vec<u8>, Fail> {
     Ok(reply)
 }
 
-fn is_read(found: &Showing, answer: Answer, out: &[u8]) -> bool {
-    answers(&found.outcome, answer) && found.out.bytes() == out
-}
-
 #[test]
 fn a_reply_is_read_in_any_pieces(rt: HostRuntime) -> Result<(), Fail> {
     let reply = reply_of(rt.alloc(), TABLE)?;
     for piece in [1, 7, 65536] {
         let found = read(rt.alloc(), reply.as_slice(), Kind::Dods, piece, None, None)?;
-        assert!(rt; is_read(&found, Answer::Shown(138), TABLE_SHOWN));
+        assert!(rt; is_shown(&found, Answer::Shown(138), TABLE_SHOWN));
     }
     Ok(())
 }
@@ -101,7 +104,7 @@ fn a_reply_without_its_last_chunk_is_cut(rt: HostRuntime) -> Result<(), Fail> {
     let reply = reply_of(rt.alloc(), TABLE)?;
     let part = front(reply.as_slice(), reply.len().saturating_sub(5));
     let found = read(rt.alloc(), part, Kind::Dods, 7, None, None)?;
-    assert!(rt; is_read(&found, Answer::Wrong(Bad::Cut, 138), TABLE_ROWS));
+    assert!(rt; is_shown(&found, Answer::Wrong(Bad::Cut, 138), TABLE_ROWS));
     Ok(())
 }
 
@@ -109,12 +112,7 @@ fn a_reply_without_its_last_chunk_is_cut(rt: HostRuntime) -> Result<(), Fail> {
 fn same(alloc: Global, body: &[u8]) -> Result<bool, Fail> {
     let reply = reply_of(alloc, body)?;
     let found = read(alloc, reply.as_slice(), Kind::Dods, 64, None, None)?;
-    let answer = match decode_all(alloc, body) {
-        Ok(_) => Answer::Shown(body.len() as u64),
-        Err(AllRefusal::Refused(field)) => Answer::Wrong(field.kind, field.place),
-        Err(AllRefusal::Memory) => return Err(Fail::new("no memory")),
-    };
-    Ok(answers(&found.outcome, answer))
+    Ok(answers(&found.outcome, answer_of(alloc, body)?))
 }
 
 #[test]
@@ -127,20 +125,43 @@ fn each_byte_of_a_body_is_changed(rt: HostRuntime) -> Result<(), Fail> {
     Ok(())
 }
 
+/// A take fails of the source of a reply.
+fn expect_take_fault<R: Abort>(
+    rt: &R,
+    alloc: Global,
+    reply: &[u8],
+    number: u64,
+) -> Result<(), Fail> {
+    let found = read(alloc, reply, Kind::Dods, 48, Some(number), None)?;
+    assert!(rt; matches!(found.outcome, Outcome::ReadFault), "{number}");
+    expect(rt, found.takes, number);
+    assert!(rt; TABLE_ROWS.starts_with(found.out.bytes()));
+    Ok(())
+}
+
 /// Each call of the source fails in turn: as many as a run without a fault makes.
 #[test]
 fn each_take_of_a_reply_fails(rt: HostRuntime) -> Result<(), Fail> {
     let reply = reply_of(rt.alloc(), TABLE)?;
-    let reply = reply.as_slice();
-    let sure = read(rt.alloc(), reply, Kind::Dods, 48, None, None)?;
+    let sure = read(rt.alloc(), reply.as_slice(), Kind::Dods, 48, None, None)?;
     assert!(rt; answers(&sure.outcome, Answer::Shown(138)));
-    assert_eq!(rt; sure.takes, reply.len().div_ceil(48) as u64);
+    expect(&rt, sure.takes, reply.len().div_ceil(48) as u64);
     for number in 1..sure.takes.saturating_add(1) {
-        let found = read(rt.alloc(), reply, Kind::Dods, 48, Some(number), None)?;
-        assert!(rt; matches!(found.outcome, Outcome::ReadFault), "{number}");
-        assert_eq!(rt; found.takes, number);
-        assert!(rt; TABLE_ROWS.starts_with(found.out.bytes()));
+        expect_take_fault(&rt, rt.alloc(), reply.as_slice(), number)?;
     }
+    Ok(())
+}
+
+/// A put fails of what is shown of a reply, behind so many bytes at once: a front of that is out.
+fn expect_put_fault<R: Abort>(
+    rt: &R,
+    found: &Showing,
+    number: u64,
+    shown: &[u8],
+) -> Result<(), Fail> {
+    assert!(rt; matches!(found.outcome, Outcome::WriteFault), "{number}");
+    assert!(rt; shown.starts_with(found.out.bytes()));
+    assert!(rt; found.out.bytes().len() < shown.len());
     Ok(())
 }
 
@@ -153,34 +174,36 @@ fn each_put_of_a_reply_fails(rt: HostRuntime) -> Result<(), Fail> {
     assert!(rt; sure.puts > 2);
     for number in 1..sure.puts.saturating_add(1) {
         let found = read(rt.alloc(), reply, Kind::Dods, 48, None, Some(number))?;
-        assert!(rt; matches!(found.outcome, Outcome::WriteFault), "{number}");
-        assert_eq!(rt; found.puts, number);
-        assert!(rt; TABLE_SHOWN.starts_with(found.out.bytes()));
-        assert!(rt; found.out.bytes().len() < TABLE_SHOWN.len());
+        expect(&rt, found.puts, number);
+        expect_put_fault(&rt, &found, number, TABLE_SHOWN)?;
     }
     Ok(())
 }
 
 /// A text in a reply of which each put fails in turn: nothing is put before its body has ended, and a front
 /// of the text is out then.
-#[test]
-fn each_put_of_a_text_fails(rt: HostRuntime) -> Result<(), Fail> {
-    for (kind, reply, shown) in [
-        (Kind::Dds, DDS_REPLY, DDS_SHOWN),
-        (Kind::Das, DAS_REPLY, DAS_SHOWN),
-    ] {
-        let sure = read(rt.alloc(), reply, kind, 5, None, None)?;
-        assert!(rt; sure.out.bytes() == shown);
-        assert_eq!(rt; sure.puts, shown.len().div_ceil(5) as u64);
-        for number in 1..sure.puts.saturating_add(1) {
-            let found = read(rt.alloc(), reply, kind, 5, None, Some(number))?;
-            assert!(rt; matches!(found.outcome, Outcome::WriteFault), "{number}");
-            assert_eq!(rt; found.takes, sure.takes);
-            assert!(rt; shown.starts_with(found.out.bytes()));
-            assert!(rt; found.out.bytes().len() < shown.len());
-        }
+fn expect_text_faults<R: Abort>(
+    rt: &R,
+    alloc: Global,
+    kind: Kind,
+    reply: &[u8],
+    shown: &[u8],
+) -> Result<(), Fail> {
+    let sure = read(alloc, reply, kind, 5, None, None)?;
+    expect(rt, sure.out.bytes(), shown);
+    expect(rt, sure.puts, shown.len().div_ceil(5) as u64);
+    for number in 1..sure.puts.saturating_add(1) {
+        let found = read(alloc, reply, kind, 5, None, Some(number))?;
+        expect(rt, found.takes, sure.takes);
+        expect_put_fault(rt, &found, number, shown)?;
     }
     Ok(())
+}
+
+#[test]
+fn each_put_of_a_text_fails(rt: HostRuntime) -> Result<(), Fail> {
+    expect_text_faults(&rt, rt.alloc(), Kind::Dds, DDS_REPLY, DDS_SHOWN)?;
+    expect_text_faults(&rt, rt.alloc(), Kind::Das, DAS_REPLY, DAS_SHOWN)
 }
 
 const DDS_REPLY: &[u8] =

@@ -1,6 +1,6 @@
 use crate::tests::counted::Counted;
 use dap_client::{Outcome, show};
-use dap_outside::{MemSink, MemSource};
+use dap_outside::{MemSink, MemSource, Sink, Source};
 use dap_types::{Bytes, List, Memory};
 use std::alloc::Global;
 use std::test::Fail;
@@ -46,6 +46,45 @@ pub fn failing(alloc: Global, number: Option<u64>) -> Result<List<u64>, Memory> 
     Ok(numbers)
 }
 
+/// A source of these bytes, which come in pieces of a size. That take fails, if any.
+pub fn source(
+    alloc: Global,
+    bytes: &[u8],
+    piece: u32,
+    fails: Option<u64>,
+) -> Result<MemSource, Memory> {
+    let bytes = Bytes::new(alloc, bytes)?;
+    let fails = failing(alloc, fails)?;
+    Ok(MemSource::new(bytes, piece.max(1), fails))
+}
+
+/// A sink that takes so many bytes at once. That put fails, if any.
+pub fn sink(alloc: Global, piece: u32, fails: Option<u64>) -> Result<MemSink, Memory> {
+    let fails = failing(alloc, fails)?;
+    MemSink::new(alloc, 65536, piece.max(1), fails)
+}
+
+pub fn show_all<I: Source, O: Sink>(alloc: Global, source: &mut I, out: &mut O) -> Outcome {
+    show(alloc, source, out)
+}
+
+/// What was answered and put.
+pub fn told(
+    alloc: Global,
+    outcome: Outcome,
+    out: &Counted<MemSink>,
+    takes: u64,
+) -> Result<Showing, Memory> {
+    let puts = out.calls;
+    let out = Bytes::new(alloc, out.end.bytes())?;
+    Ok(Showing {
+        outcome,
+        out,
+        takes,
+        puts,
+    })
+}
+
 /// Shows a body that is taken in pieces of a size, of which the sink takes as much at once.
 pub fn show_body(
     alloc: Global,
@@ -54,15 +93,13 @@ pub fn show_body(
     take_fails: Option<u64>,
     put_fails: Option<u64>,
 ) -> Result<Showing, Fail> {
-    let takes = failing(alloc, take_fails)?;
-    let puts = failing(alloc, put_fails)?;
-    let mut source = Counted::new(MemSource::new(Bytes::new(alloc, body)?, piece.max(1), takes));
-    let mut out = Counted::new(MemSink::new(alloc, 65536, piece.max(1), puts)?);
-    let outcome = show(alloc, &mut source, &mut out);
-    Ok(Showing {
-        outcome,
-        out: Bytes::new(alloc, out.end.bytes())?,
-        takes: source.calls,
-        puts: out.calls,
-    })
+    let mut source = Counted::new(source(alloc, body, piece, take_fails)?);
+    let mut out = Counted::new(sink(alloc, piece, put_fails)?);
+    let outcome = show_all(alloc, &mut source, &mut out);
+    Ok(told(alloc, outcome, &out, source.calls)?)
+}
+
+/// Whether this was answered and put.
+pub fn is_shown(found: &Showing, answer: Answer, out: &[u8]) -> bool {
+    answers(&found.outcome, answer) && found.out.bytes() == out
 }

@@ -1,14 +1,16 @@
 //! Each call of the shelf and each put that a run makes fails in turn.
 
-use super::samples::{alone, bytes_of, coads, file, files};
+use super::samples::{alone, coads, file, files};
 use super::texts::{
-    COADS_TARGET, EACH_SECOND, Row, SAVED_DEPTHS, UNSIGNED, WHOLE_GRID, WHOLE_TABLE, coads_body,
+    COADS_TARGET, EACH_SECOND, Row, SAVED_DEPTHS, UNSIGNED, WHOLE_GRID, WHOLE_TABLE, answer_of,
+    coads_body,
 };
-use super::{Faults, SURE, answered, joins};
+use super::{Faults, SURE, answered, joins, sink};
 use crate::counted::Counted;
-use crate::said::run_words;
+use crate::expecting::expect;
+use crate::said::{Said, no_dial, run_words};
 use dap_commands::Status;
-use dap_outside::{MemDial, MemFile, MemShelf, MemSink, SureSource};
+use dap_outside::{MemFile, MemShelf, MemSink, Shelf, Sink, SureSource};
 use dap_types::{Bytes, List, Memory};
 use std::alloc::Global;
 use std::process::Abort;
@@ -16,11 +18,26 @@ use std::test::Fail;
 use std::thread::Threads;
 
 /// The small files, or the usual grid alone where its bytes are given.
-fn files_or(alloc: Global, grid: &[u8]) -> Result<List<MemFile>, Memory> {
+pub fn files_or(alloc: Global, grid: &[u8]) -> Result<List<MemFile>, Memory> {
     if grid.is_empty() {
         return files(alloc);
     }
     alone(alloc, file(alloc, "coads.nc", &[], grid)?)
+}
+
+/// Answers the target by seven workers, without room for a line.
+fn answer<R: Threads + AllocGlobal + Sync, S: Shelf, O: Sink>(
+    rt: &R,
+    target: &str,
+    shelf: &mut S,
+    out: &mut O,
+) -> Result<Status, Memory> {
+    let alloc = rt.alloc();
+    let mut input = SureSource::new(Bytes::new(alloc, b"")?, 1);
+    let mut err = MemSink::new(alloc, 0, 1, List::new(alloc))?;
+    let mut dial = no_dial(alloc)?;
+    let words = ["answer", target, "7"];
+    run_words(rt, &words, shelf, &mut input, out, &mut err, &mut dial)
 }
 
 /// How often the shelf is called in a run without a fault, and how often such a piece is put.
@@ -32,19 +49,19 @@ fn calls_of<R: Threads + Abort + AllocGlobal + Sync>(
     piece: u32,
 ) -> Result<(u64, u64), Fail> {
     let alloc = rt.alloc();
-    let files = files_or(alloc, grid)?;
-    let mut shelf = Counted::new(MemShelf::new(files, List::new(alloc)));
-    let mut input = SureSource::new(Bytes::new(alloc, b"")?, 1);
-    let mut out = Counted::new(MemSink::new(alloc, 100000, piece.max(1), List::new(alloc))?);
-    let mut err = MemSink::new(alloc, 0, 1, List::new(alloc))?;
-    let mut dial = MemDial::new(alloc, List::new(alloc), List::new(alloc))?;
-    let words = ["answer", target, "7"];
-    let status = run_words(
-        rt, &words, &mut shelf, &mut input, &mut out, &mut err, &mut dial,
-    )?;
-    assert_eq!(rt; status, Status::Complete);
-    assert_eq!(rt; out.inner.bytes(), whole);
+    let mut shelf = Counted::new(MemShelf::new(files_or(alloc, grid)?, List::new(alloc)));
+    let mut out = Counted::new(sink(alloc, Faults { piece, ..SURE })?);
+    let status = answer(rt, target, &mut shelf, &mut out)?;
+    expect(rt, status, Status::Complete);
+    expect(rt, out.inner.bytes(), whole);
     Ok((shelf.calls, out.calls))
+}
+
+/// A run ended with this fault, a front of the text and this line.
+fn expect_front<R: Abort>(rt: &R, found: &Said, fault: Status, whole: &[u8], line: &[u8]) {
+    expect(rt, found.status, fault);
+    expect(rt, found.err.bytes(), line);
+    assert!(rt; whole.starts_with(found.out.bytes()));
 }
 
 /// A run of which a call fails ends with that fault, a front of the text and the line.
@@ -57,15 +74,26 @@ fn expect_fault<R: Threads + Abort + AllocGlobal + Sync>(
 ) -> Result<(), Fail> {
     let files = files_or(rt.alloc(), grid)?;
     let found = answered(rt, files, &["answer", target, "7"], faults)?;
-    let (fault, line) = if faults.out.is_empty() {
-        (Status::ReadFault, b"dap2: read fault\n".as_slice())
+    if faults.out.is_empty() {
+        expect_front(rt, &found, Status::ReadFault, whole, b"dap2: read fault\n");
     } else {
-        (Status::WriteFault, b"dap2: write fault\n".as_slice())
-    };
-    assert_eq!(rt; found.status, fault);
-    assert_eq!(rt; found.err.bytes(), line);
-    assert!(rt; whole.starts_with(found.out.bytes()));
+        expect_front(
+            rt,
+            &found,
+            Status::WriteFault,
+            whole,
+            b"dap2: write fault\n",
+        );
+    }
     Ok(())
+}
+
+fn shelf_fault(shelf: &[u64]) -> Faults<'_> {
+    Faults { shelf, ..SURE }
+}
+
+fn put_fault(out: &[u64], piece: u32) -> Faults<'_> {
+    Faults { out, piece, ..SURE }
 }
 
 /// Each call of the shelf fails, at least two, the look-up and a read; and each put of such a piece.
@@ -79,22 +107,19 @@ fn expect_each_fault<R: Threads + Abort + AllocGlobal + Sync>(
     let (calls, puts) = calls_of(rt, target, grid, whole, piece)?;
     assert!(rt; calls >= 2 && puts >= 1);
     for n in 1..=calls {
-        let shelf: &[u64] = &[n];
-        expect_fault(rt, target, grid, whole, Faults { shelf, ..SURE })?;
+        let fails: [u64; 1] = [n];
+        expect_fault(rt, target, grid, whole, shelf_fault(&fails))?;
     }
     for n in 1..=puts {
-        let out: &[u64] = &[n];
-        let faults = Faults { out, piece, ..SURE };
-        expect_fault(rt, target, grid, whole, faults)?;
+        let fails: [u64; 1] = [n];
+        expect_fault(rt, target, grid, whole, put_fault(&fails, piece))?;
     }
     Ok(())
 }
 
 fn expect_faults<R: Threads + Abort + AllocGlobal + Sync>(rt: &R, row: Row) -> Result<(), Fail> {
-    let (target, text, words) = row;
-    let alloc = rt.alloc();
-    let mut whole = Vec::from_slice(alloc, text)?;
-    whole.extend_from_slice(&bytes_of(alloc, words, b"")?)?;
+    let (target, _, _) = row;
+    let whole = answer_of(rt.alloc(), row)?;
     expect_each_fault(rt, target, b"", &whole, 7)
 }
 

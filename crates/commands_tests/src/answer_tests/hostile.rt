@@ -1,11 +1,13 @@
 //! Connections of which each call of the shelf fails in turn.
 
-use super::samples::{alone, bytes_of, coads, file, files};
-use super::texts::{EACH_SECOND, coads_body};
+use super::each_call::files_or;
+use super::samples::{bytes_of, coads};
+use super::texts::{EACH_SECOND, answer_of, coads_body};
 use crate::counted::Counted;
+use crate::expecting::expect;
 use crate::said::numbers;
-use dap_outside::{MemLink, MemShelf};
-use dap_server::{Ending, serve_connection};
+use dap_outside::{MemLink, MemShelf, Shelf};
+use dap_server::{Ending, Served, serve_connection};
 use dap_types::{Bytes, List, Memory};
 use std::alloc::Global;
 use std::process::Abort;
@@ -35,10 +37,24 @@ fn reply_of(alloc: Global, line: &[u8], body: &[u8]) -> Result<Vec<u8>, Memory> 
 /// How a connection was served, what was written, and how often the shelf was called.
 #[derive(Drop)]
 struct Done {
-    replies: u32,
-    ending: Ending,
+    served: Served,
     written: Bytes,
     calls: u64,
+}
+
+fn link(alloc: Global, input: &[u8]) -> Result<MemLink, Memory> {
+    let input = Bytes::new(alloc, input)?;
+    let none = List::new(alloc);
+    MemLink::new(alloc, input, 100_000, 65_536, none, List::new(alloc))
+}
+
+fn serve<R: Threads + Sync, S: Shelf>(
+    rt: &R,
+    alloc: Global,
+    shelf: &mut S,
+    link: &mut MemLink,
+) -> Served {
+    serve_connection(rt, alloc, shelf, link, 7)
 }
 
 /// Serves a connection over a shelf whose calls with these numbers fail.
@@ -49,22 +65,37 @@ fn served_over<R: Threads + AllocGlobal + Sync>(
     fails: &[u64],
 ) -> Result<Done, Memory> {
     let alloc = rt.alloc();
-    let files = if grid.is_empty() {
-        files(alloc)?
-    } else {
-        alone(alloc, file(alloc, "coads.nc", &[], grid)?)?
-    };
-    let mut shelf = Counted::new(MemShelf::new(files, numbers(alloc, fails)?));
-    let input = Bytes::new(alloc, input)?;
-    let none = List::new(alloc);
-    let mut link = MemLink::new(alloc, input, 100_000, 65_536, none, List::new(alloc))?;
-    let served = serve_connection(rt, alloc, &mut shelf, &mut link, 7);
+    let fails = numbers(alloc, fails)?;
+    let mut shelf = Counted::new(MemShelf::new(files_or(alloc, grid)?, fails));
+    let mut link = link(alloc, input)?;
+    let served = serve(rt, alloc, &mut shelf, &mut link);
+    let written = Bytes::new(alloc, link.written())?;
     Ok(Done {
-        replies: served.replies,
-        ending: served.ending,
-        written: Bytes::new(alloc, link.written())?,
+        served,
+        written,
         calls: shelf.calls,
     })
+}
+
+fn expect_ending<R: Abort>(rt: &R, found: &Done, replies: u32, ending: Ending) {
+    expect(
+        rt,
+        (found.served.replies, found.served.ending),
+        (replies, ending),
+    );
+}
+
+/// The reply tells a failed read.
+fn expect_told<R: Abort>(rt: &R, found: &Done) {
+    expect(rt, found.written.bytes(), READ_FAILED);
+    expect_ending(rt, found, 1, Ending::Gone);
+}
+
+/// A front of the whole reply is written, and no reply is counted.
+fn expect_broken_off<R: Abort>(rt: &R, found: &Done, whole: &[u8]) {
+    let written = found.written.bytes();
+    assert!(rt; whole.starts_with(written) && written.len() < whole.len());
+    expect_ending(rt, found, 0, Ending::Broken);
 }
 
 /// The first two calls that fail are told by the reply; each later one breaks it off.
@@ -75,17 +106,14 @@ fn expect_failed_reads<R: Threads + Abort + AllocGlobal + Sync>(
     whole: &[u8],
 ) -> Result<(), Fail> {
     let sure = served_over(rt, grid, input, &[])?;
-    assert_eq!(rt; sure.written.bytes(), whole);
+    expect(rt, sure.written.bytes(), whole);
     assert!(rt; sure.calls > 2);
     for n in 1..=sure.calls {
         let found = served_over(rt, grid, input, &[n])?;
-        let written = found.written.bytes();
         if n < 3 {
-            assert_eq!(rt; written, READ_FAILED);
-            assert_eq!(rt; (found.replies, found.ending), (1, Ending::Gone));
+            expect_told(rt, &found);
         } else {
-            assert_eq!(rt; (found.replies, found.ending), (0, Ending::Broken));
-            assert!(rt; whole.starts_with(written) && written.len() < whole.len());
+            expect_broken_off(rt, &found, whole);
         }
     }
     Ok(())
@@ -94,10 +122,13 @@ fn expect_failed_reads<R: Threads + Abort + AllocGlobal + Sync>(
 #[test]
 fn each_read_for_a_reply_may_fail(rt: HostRuntime) -> Result<(), Fail> {
     let alloc = rt.alloc();
-    let (_, text, words) = EACH_SECOND;
-    let mut part = Vec::from_slice(alloc, text)?;
-    part.extend_from_slice(&bytes_of(alloc, words, b"")?)?;
-    expect_failed_reads(&rt, b"", GET_PART, &reply_of(alloc, b"53\r\n", &part)?)?;
+    let part = answer_of(alloc, EACH_SECOND)?;
+    expect_failed_reads(&rt, b"", GET_PART, &reply_of(alloc, b"53\r\n", &part)?)
+}
+
+#[test]
+fn each_read_for_a_long_reply_may_fail(rt: HostRuntime) -> Result<(), Fail> {
+    let alloc = rt.alloc();
     let whole = reply_of(alloc, b"be38\r\n", &coads_body(alloc)?)?;
     expect_failed_reads(&rt, &coads(alloc)?, GET_COADS, &whole)
 }

@@ -2,12 +2,15 @@
 
 use super::samples::{R, alone, file, files};
 use super::texts::Row;
-use super::{SURE, answered};
+use super::{SURE, answered, expect_answer};
+use crate::expecting::expect;
 use dap_commands::Status;
 use dap_outside::MemFile;
 use dap_types::{List, Memory};
 use std::alloc::Global;
+use std::process::Abort;
 use std::test::Fail;
+use std::thread::Threads;
 
 /// Each second record, from the second on.
 pub const EACH_SECOND: Row = (
@@ -16,8 +19,8 @@ pub const EACH_SECOND: Row = (
     &[3, 3, 2, 4, 6],
 );
 
-/// The small files, and a list of two of them in turn: so many lines, and line feeds behind them up to that length.
-fn long_list(alloc: Global, lines: u32, len: usize) -> Result<List<MemFile>, Memory> {
+/// So many lines of two files in turn.
+fn in_turn(alloc: Global, lines: u32) -> Result<Vec<u8>, Memory> {
     let mut list = Vec::new(alloc);
     for line in 0..lines {
         list.extend_from_slice(if line % 2 == 0 {
@@ -26,6 +29,12 @@ fn long_list(alloc: Global, lines: u32, len: usize) -> Result<List<MemFile>, Mem
             b"r2.nc\n".as_slice()
         })?;
     }
+    Ok(list)
+}
+
+/// The small files, and a list of two of them in turn: so many lines, and line feeds behind them up to that length.
+fn long_list(alloc: Global, lines: u32, len: usize) -> Result<List<MemFile>, Memory> {
+    let mut list = in_turn(alloc, lines)?;
     if list.len() < len {
         list.resize(len, b'\n')?;
     }
@@ -42,51 +51,71 @@ fn as_many_files_as_a_list_may_have(rt: HostRuntime) -> Result<(), Fail> {
         b"Dataset {\n    Int16 s[t = 2];\n} long.join;\nData:\n\0\0\0\x02\0\0\0\x02\0\0\0\x01\0\0\0\x06";
     for workers in ["1", "7", "64"] {
         let words = ["answer", "long.join.dods?s[0:191:191]", workers];
-        let found = answered(&rt, long_list(alloc, 64, 0)?, &words, SURE)?;
-        assert_eq!(rt; found.status, Status::Complete);
-        assert_eq!(rt; found.out.bytes(), text.as_slice());
+        expect_answer(&rt, long_list(alloc, 64, 0)?, &words, text)?;
     }
+    Ok(())
+}
+
+const BAD_LINE: &[u8] = b"dap2: damaged: damaged file: bad line 65\n";
+
+const TOO_LONG: &[u8] = b"dap2: damaged: damaged file: join too long\n";
+
+/// Such a list is answered with this line.
+fn expect_damaged<R: Threads + Abort + AllocGlobal + Sync>(
+    rt: &R,
+    lines: u32,
+    len: usize,
+    line: &[u8],
+) -> Result<(), Fail> {
+    let files = long_list(rt.alloc(), lines, len)?;
+    let found = answered(rt, files, &["answer", "long.join.dds"], SURE)?;
+    expect(rt, found.status, Status::Damaged);
+    expect(rt, found.err.bytes(), line);
     Ok(())
 }
 
 /// 65 lines, and lists of 65,536 and of 65,537 bytes.
 #[test]
 fn lists_above_their_limits(rt: HostRuntime) -> Result<(), Fail> {
-    let alloc = rt.alloc();
-    for (lines, len, line) in [
-        (65u32, 0, "dap2: damaged: damaged file: bad line 65\n"),
-        (64, 65_536, "dap2: damaged: damaged file: bad line 65\n"),
-        (64, 65_537, "dap2: damaged: damaged file: join too long\n"),
-    ] {
-        let files = long_list(alloc, lines, len)?;
-        let found = answered(&rt, files, &["answer", "long.join.dds"], SURE)?;
-        assert_eq!(rt; found.status, Status::Damaged);
-        assert_eq!(rt; found.err.bytes(), line.as_bytes());
-    }
-    Ok(())
+    expect_damaged(&rt, 65, 0, BAD_LINE)?;
+    expect_damaged(&rt, 64, 65_536, BAD_LINE)?;
+    expect_damaged(&rt, 64, 65_537, TOO_LONG)
 }
 
-/// 64 lines of a name of 255 bytes, ended by CR LF: no list that is joined is longer.
-#[test]
-fn as_long_names_as_a_list_may_have(rt: HostRuntime) -> Result<(), Fail> {
-    let alloc = rt.alloc();
+/// A name of 255 bytes.
+fn long_name(alloc: Global) -> Result<String, Memory> {
     let mut name = String::new(alloc);
     for _ in 0..252u32 {
         name.push('n')?;
     }
     name.push_str(".nc")?;
+    Ok(name)
+}
+
+/// A list of 64 lines of that name.
+fn list_of(alloc: Global, name: &str) -> Result<Vec<u8>, Memory> {
     let mut list = Vec::new(alloc);
     for _ in 0..64u32 {
         list.extend_from_slice(name.as_bytes())?;
         list.extend_from_slice(b"\r\n")?;
     }
+    Ok(list)
+}
+
+/// A file of that name, and that list.
+fn long_names(alloc: Global) -> Result<List<MemFile>, Memory> {
+    let name = long_name(alloc)?;
+    let list = list_of(alloc, name.as_str())?;
     let mut files = alone(alloc, file(alloc, name.as_str(), R, b"\0\x01\0\x02\0\x03")?)?;
     files.push(file(alloc, "long.join", &[], &list)?)?;
+    Ok(files)
+}
+
+/// 64 lines of a name of 255 bytes, ended by CR LF: no list that is joined is longer.
+#[test]
+fn as_long_names_as_a_list_may_have(rt: HostRuntime) -> Result<(), Fail> {
     let words = ["answer", "long.join.dods?s[0:191:191]", "2"];
-    let found = answered(&rt, files, &words, SURE)?;
     let text =
         b"Dataset {\n    Int16 s[t = 2];\n} long.join;\nData:\n\0\0\0\x02\0\0\0\x02\0\0\0\x01\0\0\0\x03";
-    assert_eq!(rt; found.status, Status::Complete);
-    assert_eq!(rt; found.out.bytes(), text.as_slice());
-    Ok(())
+    expect_answer(&rt, long_names(rt.alloc())?, &words, text)
 }

@@ -54,10 +54,9 @@ pub fn bytes_of(alloc: Global, words: &[u32], behind: &[u8]) -> Result<Vec<u8>, 
 }
 
 pub fn file(alloc: Global, name: &str, words: &[u32], behind: &[u8]) -> Result<MemFile, Memory> {
-    Ok(MemFile {
-        name: Name::new(alloc, name)?,
-        bytes: Bytes::from_vec(bytes_of(alloc, words, behind)?),
-    })
+    let name = Name::new(alloc, name)?;
+    let bytes = Bytes::from_vec(bytes_of(alloc, words, behind)?);
+    Ok(MemFile { name, bytes })
 }
 
 /// A file alone.
@@ -92,13 +91,19 @@ pub fn files(alloc: Global) -> Result<List<MemFile>, Memory> {
     Ok(files)
 }
 
+/// Appends the first numbers, so many.
+fn append_first(bytes: &mut Vec<u8>, len: u64) -> Result<(), Memory> {
+    for n in 0..len {
+        bytes.extend_from_slice(&n.to_be_bytes())?;
+    }
+    Ok(())
+}
+
 /// The 780,188 bytes of that grid, where element n of each variable has the bits of n.
 pub fn coads(alloc: Global) -> Result<Vec<u8>, Memory> {
     let mut bytes = bytes_of(alloc, COADS_HEADER, b"")?;
     for len in [12u64, 90, 180] {
-        for n in 0..len {
-            bytes.extend_from_slice(&n.to_be_bytes())?;
-        }
+        append_first(&mut bytes, len)?;
     }
     for n in 0..194400u32 {
         bytes.extend_from_slice(&n.to_be_bytes())?;

@@ -7,6 +7,14 @@ use std::alloc::Global;
 /// A target, and what it is answered with: a text, and words of XDR behind it.
 pub type Row = (&'static str, &'static [u8], &'static [u32]);
 
+/// All that the row's target is answered with.
+pub fn answer_of(alloc: Global, row: Row) -> Result<Vec<u8>, Memory> {
+    let (_, text, words) = row;
+    let mut answer = Vec::from_slice(alloc, text)?;
+    answer.extend_from_slice(&bytes_of(alloc, words, b"")?)?;
+    Ok(answer)
+}
+
 const WHOLE_BUOYS: &[u8] =
     b"Dataset {\n    Sequence {\n        String station;\n        Int32 depth;\n    } buoys;\n} buoys.csv;\nData:\n";
 
@@ -50,28 +58,50 @@ pub const COADS_TARGET: &str = "coads.nc.dods?SST[0:11][40:50][0:2:179]";
 pub const COADS_TEXT: &[u8] =
     b"Dataset {\n    Grid {\n      Array:\n        Float32 SST[TIME = 12][COADSY = 11][COADSX = 90];\n      Maps:\n        Float64 TIME[TIME = 12];\n        Float64 COADSY[COADSY = 11];\n        Float64 COADSX[COADSX = 90];\n    } SST;\n} coads.nc;\nData:\n";
 
+/// Every second element of a row of the grid.
+fn append_row(body: &mut Vec<u8>, time: u32, row: u32) -> Result<(), Memory> {
+    let first = time.wrapping_mul(90).wrapping_add(row).wrapping_mul(180);
+    for half in 0..90u32 {
+        body.extend_from_slice(&first.wrapping_add(2 * half).to_be_bytes())?;
+    }
+    Ok(())
+}
+
+/// The array, with its counts.
+fn append_array(body: &mut Vec<u8>) -> Result<(), Memory> {
+    append_count(body, 11880)?;
+    for time in 0..12u32 {
+        for row in 40..51u32 {
+            append_row(body, time, row)?;
+        }
+    }
+    Ok(())
+}
+
+/// A count, which stands twice.
+fn append_count(body: &mut Vec<u8>, count: u32) -> Result<(), Memory> {
+    body.extend_from_slice(&count.to_be_bytes())?;
+    body.extend_from_slice(&count.to_be_bytes())?;
+    Ok(())
+}
+
+/// So many elements of a map, each so much greater than the one before it, with their counts.
+fn append_map(body: &mut Vec<u8>, count: u32, first: u64, step: u64) -> Result<(), Memory> {
+    append_count(body, count)?;
+    let mut element = first;
+    for _ in 0..count {
+        body.extend_from_slice(&element.to_be_bytes())?;
+        element = element.wrapping_add(step);
+    }
+    Ok(())
+}
+
 /// What that target is answered with: element n of each variable has the bits of n.
 pub fn coads_body(alloc: Global) -> Result<Vec<u8>, Memory> {
     let mut body = Vec::from_slice(alloc, COADS_TEXT)?;
-    body.extend_from_slice(&bytes_of(alloc, &[11880, 11880], b"")?)?;
-    for time in 0..12u32 {
-        for row in 40..51u32 {
-            for half in 0..90u32 {
-                body.extend_from_slice(&((time * 90 + row) * 180 + 2 * half).to_be_bytes())?;
-            }
-        }
-    }
-    body.extend_from_slice(&bytes_of(alloc, &[12, 12], b"")?)?;
-    for time in 0..12u64 {
-        body.extend_from_slice(&time.to_be_bytes())?;
-    }
-    body.extend_from_slice(&bytes_of(alloc, &[11, 11], b"")?)?;
-    for row in 40..51u64 {
-        body.extend_from_slice(&row.to_be_bytes())?;
-    }
-    body.extend_from_slice(&bytes_of(alloc, &[90, 90], b"")?)?;
-    for half in 0..90u64 {
-        body.extend_from_slice(&(2 * half).to_be_bytes())?;
-    }
+    append_array(&mut body)?;
+    append_map(&mut body, 12, 0, 1)?;
+    append_map(&mut body, 11, 40, 1)?;
+    append_map(&mut body, 90, 0, 2)?;
     Ok(body)
 }

@@ -1,9 +1,10 @@
 ghost use Rattle.std.specs.Prelude.{◌<◌};
 
 use crate::tests::expecting::expect;
-use crate::tests::feeding::{body, decoder, feed, sink, wrong};
+use crate::tests::feeding::{body, decoder, expect_wrong, feed, sink};
 use dap_types::Memory;
 use std::alloc::Global;
+use std::process::Abort;
 use std::test::Fail;
 use text_lines::{put, put_hex, put_number};
 use xdr_decode::{Bad, BadField};
@@ -107,28 +108,44 @@ fn grid_lines(alloc: Global) -> Result<Vec<u8>, Memory> {
     Ok(out)
 }
 
+fn lines_in(text: &[u8]) -> usize {
+    text.iter().filter(|byte| **byte == b'\n').count()
+}
+
+/// The body of the Grid is right.
+fn expect_right<R: Abort>(rt: &R, alloc: Global, values: &[u8]) -> Result<(), Fail> {
+    let whole = body(alloc, GRID, values)?;
+    expect(rt, whole.len(), 48696);
+    expect_wrong(rt, alloc, whole.as_slice(), None)
+}
+
+/// The values of the Grid in pieces of a size are shown so.
+fn expect_shown<R: Abort>(
+    rt: &R,
+    alloc: Global,
+    values: &[u8],
+    size: usize,
+    lines: &[u8],
+) -> Result<(), Fail> {
+    let mut decoder = decoder(alloc, GRID, 240)?;
+    let mut out = sink(alloc, 1_048_576)?;
+    if values.len() > 65536 {
+        return Err(Fail::new("too many values"));
+    }
+    feed(&mut decoder, values, size, &mut out);
+    expect(rt, decoder.finish(), Ok(()));
+    assert!(rt; out.bytes() == lines);
+    Ok(())
+}
+
 #[test]
 fn a_grid_is_shown(rt: HostRuntime) -> Result<(), Fail> {
     let values = grid_values(rt.alloc())?;
     let lines = grid_lines(rt.alloc())?;
-    let count = lines
-        .as_slice()
-        .iter()
-        .filter(|byte| **byte == b'\n')
-        .count();
-    expect(&rt, count, 11993);
-    let whole = body(rt.alloc(), GRID, values.as_slice())?;
-    expect(&rt, whole.len(), 48696);
-    expect(&rt, wrong(rt.alloc(), whole.as_slice())?, None);
-    if values.len() > 65536 {
-        return Err(Fail::new("too many values"));
-    }
+    expect(&rt, lines_in(lines.as_slice()), 11993);
+    expect_right(&rt, rt.alloc(), values.as_slice())?;
     for size in [1, 7, 65536] {
-        let mut decoder = decoder(rt.alloc(), GRID, 240)?;
-        let mut out = sink(rt.alloc(), 1_048_576)?;
-        feed(&mut decoder, values.as_slice(), size, &mut out);
-        expect(&rt, decoder.finish(), Ok(()));
-        assert!(rt; out.bytes() == lines.as_slice());
+        expect_shown(&rt, rt.alloc(), values.as_slice(), size, lines.as_slice())?;
     }
     Ok(())
 }

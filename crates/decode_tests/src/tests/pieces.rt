@@ -1,17 +1,14 @@
-use crate::tests::cases::{CASES, TABLE, TABLE_SHOWN, TABLE_VALUES};
+use crate::tests::cases::{CASES, Case, TABLE, TABLE_SHOWN, TABLE_VALUES};
 use crate::tests::expecting::expect;
-use crate::tests::feeding::{body, decoder, feed, sink, wrong};
+use crate::tests::feeding::{body, decoder, expect_wrong, feed, from, sink, wrong};
 use std::alloc::Global;
+use std::process::Abort;
 use std::test::Fail;
 use xdr_decode::{Bad, BadField, Pushed};
 
-/// What is wrong, where places count from a start.
-fn from(start: u64, wrong: Option<(Bad, u64)>) -> Option<BadField> {
-    let (kind, place) = wrong?;
-    Some(BadField {
-        kind,
-        place: place.saturating_add(start),
-    })
+fn fault_of(ended: Result<(), BadField>) -> Option<(Bad, u64)> {
+    let bad = ended.err()?;
+    Some((bad.kind, bad.place))
 }
 
 /// What the decoder says of values in pieces of a size.
@@ -27,32 +24,36 @@ fn told(
         return Err(Fail::new("too many values"));
     }
     feed(&mut decoder, values, size, &mut out);
-    match decoder.finish() {
-        Ok(()) => Ok(None),
-        Err(bad) => Ok(Some((bad.kind, bad.place))),
+    Ok(fault_of(decoder.finish()))
+}
+
+/// The values of a case in pieces of a size are shown so, and wrong so.
+fn expect_shown<R: Abort>(rt: &R, alloc: Global, case: &Case, size: usize) -> Result<(), Fail> {
+    let mut decoder = decoder(alloc, case.text, 102)?;
+    let mut out = sink(alloc, 4096)?;
+    if case.values.len() > 65536 {
+        return Err(Fail::new("too many values"));
     }
+    feed(&mut decoder, case.values, size, &mut out);
+    expect(rt, decoder.finish().err(), from(102, case.wrong));
+    expect(rt, out.bytes(), case.shown);
+    Ok(())
+}
+
+/// The body of a case is wrong so.
+fn expect_judged<R: Abort>(rt: &R, alloc: Global, case: &Case) -> Result<(), Fail> {
+    let whole = body(alloc, case.text, case.values)?;
+    let start = whole.len().saturating_sub(case.values.len()) as u64;
+    expect_wrong(rt, alloc, whole.as_slice(), from(start, case.wrong))
 }
 
 #[test]
 fn cases_are_shown(rt: HostRuntime) -> Result<(), Fail> {
     for case in &CASES {
         for size in [1, 7, 65536] {
-            let mut decoder = decoder(rt.alloc(), case.text, 102)?;
-            let mut out = sink(rt.alloc(), 4096)?;
-            if case.values.len() > 65536 {
-                return Err(Fail::new("too many values"));
-            }
-            feed(&mut decoder, case.values, size, &mut out);
-            expect(&rt, decoder.finish().err(), from(102, case.wrong));
-            expect(&rt, out.bytes(), case.shown);
+            expect_shown(&rt, rt.alloc(), case, size)?;
         }
-        let whole = body(rt.alloc(), case.text, case.values)?;
-        let start = whole.len().saturating_sub(case.values.len()) as u64;
-        expect(
-            &rt,
-            wrong(rt.alloc(), whole.as_slice())?,
-            from(start, case.wrong),
-        );
+        expect_judged(&rt, rt.alloc(), case)?;
     }
     Ok(())
 }
@@ -63,25 +64,42 @@ fn same(alloc: Global, text: &[u8], values: &[u8], size: usize) -> Result<bool, 
     let whole = body(alloc, text, values)?;
     let start = whole.len().saturating_sub(values.len()) as u64;
     let pieces = told(alloc, text, values, size)?;
-    match wrong(alloc, whole.as_slice())? {
-        Some(bad) if bad.kind == Bad::Trailing => Ok(pieces.is_none()),
-        other => Ok(other == from(start, pieces)),
+    let all = wrong(alloc, whole.as_slice())?;
+    Ok(is_same(all, from(start, pieces)))
+}
+
+fn is_same(all: Option<BadField>, pieces: Option<BadField>) -> bool {
+    match all {
+        Some(bad) if bad.kind == Bad::Trailing => pieces.is_none(),
+        other => other == pieces,
     }
+}
+
+/// The values of a case with each of their bytes changed.
+fn expect_changed<R: Abort>(rt: &R, alloc: Global, case: &Case, change: u8) -> Result<(), Fail> {
+    for at in 0..case.values.len() {
+        let mut values = Vec::from_slice(alloc, case.values)?;
+        values.as_mut_slice()[at] ^= change;
+        assert!(rt; same(alloc, case.text, values.as_slice(), 7)?);
+    }
+    Ok(())
+}
+
+/// The values cut before each of their bytes.
+fn expect_cut<R: Abort>(rt: &R, alloc: Global, case: &Case) -> Result<(), Fail> {
+    for cut in 0..case.values.len() {
+        assert!(rt; same(alloc, case.text, &case.values[..cut], 5)?);
+    }
+    Ok(())
 }
 
 /// The values cut before each of their bytes, and with each changed to four others.
 #[test]
 fn cut_and_changed(rt: HostRuntime) -> Result<(), Fail> {
     for case in &CASES {
-        for cut in 0..case.values.len() {
-            assert!(rt; same(rt.alloc(), case.text, &case.values[..cut], 5)?);
-        }
-        for at in 0..case.values.len() {
-            for change in [1, 0x80, 0x5a, 0xff] {
-                let mut values = Vec::from_slice(rt.alloc(), case.values)?;
-                values.as_mut_slice()[at] ^= change;
-                assert!(rt; same(rt.alloc(), case.text, values.as_slice(), 7)?);
-            }
+        expect_cut(&rt, rt.alloc(), case)?;
+        for change in [1, 0x80, 0x5a, 0xff] {
+            expect_changed(&rt, rt.alloc(), case, change)?;
         }
     }
     Ok(())

@@ -1,7 +1,7 @@
 use crate::tests::cases::{MIXED, MIXED_VALUES, TABLE, TABLE_VALUES};
 use crate::tests::expecting::expect;
 use crate::tests::feeding::body;
-use dap_types::{BaseType, Decl, Memory, Tree, Value};
+use dap_types::{BaseType, Column, Dataset, Decl, Memory, Tree, Value};
 use std::alloc::Global;
 use std::process::Abort;
 use std::test::Fail;
@@ -73,79 +73,85 @@ fn expect_written<R: Abort>(
     Ok(())
 }
 
-/// The values of each kind of variable.
+/// A text, values of each kind of variable, and how they are written.
+const ROWS: [(&[u8], &[u8], &[u8]); 17] = [
+    (b"Dataset { Byte q; } f;", b"\xff\xff\xff\x80", b" 128"),
+    (b"Dataset { Int16 q; } f;", b"\xff\xff\x80\0", b" -32768"),
+    (b"Dataset { UInt16 q; } f;", b"\0\0\xff\xff", b" 65535"),
+    (b"Dataset { Int32 q; } f;", b"\x80\0\0\0", b" -2147483648"),
+    (
+        b"Dataset { UInt32 q; } f;",
+        b"\xff\xff\xff\xff",
+        b" 4294967295",
+    ),
+    (b"Dataset { Float32 q; } f;", b"\0\0\x01\0", b" f256"),
+    (
+        b"Dataset { Float64 q; } f;",
+        b"\0\0\0\x01\0\0\0\0",
+        b" d4294967296",
+    ),
+    (
+        b"Dataset { String q; Url u; } f;",
+        b"\0\0\0\x02ab\0\0\0\0\0\0",
+        b" 'ab' ''",
+    ),
+    (
+        b"Dataset { Int32 q[2][2]; } f;",
+        b"\0\0\0\x04\0\0\0\x04\0\0\0\x01\0\0\0\x02\0\0\0\x03\0\0\0\x04",
+        b" [ [ 1 2] [ 3 4]]",
+    ),
+    (
+        b"Dataset { Byte q[2][0]; } f;",
+        b"\0\0\0\0\0\0\0\0",
+        b" [ [] []]",
+    ),
+    (
+        b"Dataset { Byte q[5]; } f;",
+        b"\0\0\0\x05\0\0\0\x05\x01\x02\xff\0\x07\0\0\0",
+        b" [ 1 2 255 0 7]",
+    ),
+    (
+        b"Dataset { String q[2]; } f;",
+        b"\0\0\0\x02\0\0\0\x02ab\0\0\0\0\0\x04wxyz",
+        b" [ 'ab' 'wxyz']",
+    ),
+    (
+        b"Dataset { Sequence { Byte b; } q; } f;",
+        b"\xa5\0\0\0",
+        b" []",
+    ),
+    (TABLE, TABLE_VALUES, b" [ [ 'A1' 5] [ 'B22' -7]]"),
+    (b"Dataset { Structure { } s; } f;", b"", b" []"),
+    (b"Dataset { } f;", b"", b""),
+    (
+        MIXED,
+        MIXED_VALUES,
+        b" [ -2 [] [ [ [ 1 2 3] [ 4 5 -1]] [ d4607182418800017408 d0] [ 1 128 255]]] 'a\"\x01' [ '' '\\wxy'] [ [ 65535]] f1075838976 4294967295 128 []",
+    ),
+];
+
 #[test]
 fn values_are_trees(rt: HostRuntime) -> Result<(), Fail> {
-    let rows = [
-        (
-            b"Dataset { Byte q; } f;".as_slice(),
-            b"\xff\xff\xff\x80".as_slice(),
-            b" 128".as_slice(),
-        ),
-        (b"Dataset { Int16 q; } f;", b"\xff\xff\x80\0", b" -32768"),
-        (b"Dataset { UInt16 q; } f;", b"\0\0\xff\xff", b" 65535"),
-        (b"Dataset { Int32 q; } f;", b"\x80\0\0\0", b" -2147483648"),
-        (
-            b"Dataset { UInt32 q; } f;",
-            b"\xff\xff\xff\xff",
-            b" 4294967295",
-        ),
-        (b"Dataset { Float32 q; } f;", b"\0\0\x01\0", b" f256"),
-        (
-            b"Dataset { Float64 q; } f;",
-            b"\0\0\0\x01\0\0\0\0",
-            b" d4294967296",
-        ),
-        (
-            b"Dataset { String q; Url u; } f;",
-            b"\0\0\0\x02ab\0\0\0\0\0\0",
-            b" 'ab' ''",
-        ),
-        (
-            b"Dataset { Int32 q[2][2]; } f;",
-            b"\0\0\0\x04\0\0\0\x04\0\0\0\x01\0\0\0\x02\0\0\0\x03\0\0\0\x04",
-            b" [ [ 1 2] [ 3 4]]",
-        ),
-        (
-            b"Dataset { Byte q[2][0]; } f;",
-            b"\0\0\0\0\0\0\0\0",
-            b" [ [] []]",
-        ),
-        (
-            b"Dataset { Byte q[5]; } f;",
-            b"\0\0\0\x05\0\0\0\x05\x01\x02\xff\0\x07\0\0\0",
-            b" [ 1 2 255 0 7]",
-        ),
-        (
-            b"Dataset { String q[2]; } f;",
-            b"\0\0\0\x02\0\0\0\x02ab\0\0\0\0\0\x04wxyz",
-            b" [ 'ab' 'wxyz']",
-        ),
-        (
-            b"Dataset { Sequence { Byte b; } q; } f;",
-            b"\xa5\0\0\0",
-            b" []",
-        ),
-        (TABLE, TABLE_VALUES, b" [ [ 'A1' 5] [ 'B22' -7]]"),
-        (b"Dataset { Structure { } s; } f;", b"", b" []"),
-        (b"Dataset { } f;", b"", b""),
-        (
-            MIXED,
-            MIXED_VALUES,
-            b" [ -2 [] [ [ [ 1 2 3] [ 4 5 -1]] [ d4607182418800017408 d0] [ 1 128 255]]] 'a\"\x01' [ '' '\\wxy'] [ [ 65535]] f1075838976 4294967295 128 []",
-        ),
-    ];
-    for (text, values, expected) in rows {
+    for (text, values, expected) in ROWS {
         expect_written(&rt, rt.alloc(), text, values, expected)?;
     }
     Ok(())
 }
 
+fn expect_column<R: Abort>(rt: &R, column: &Column, name: &[u8], base: BaseType) {
+    expect(rt, column.name.bytes(), name);
+    expect(rt, column.base, base);
+}
+
 /// The dataset of a table.
+fn table(alloc: Global) -> Result<Dataset, Fail> {
+    let body = body(alloc, TABLE, TABLE_VALUES)?;
+    Ok(decode_all(alloc, body.as_slice())?.dataset)
+}
+
 #[test]
 fn a_dataset_is_read(rt: HostRuntime) -> Result<(), Fail> {
-    let body = body(rt.alloc(), TABLE, TABLE_VALUES)?;
-    let dataset = decode_all(rt.alloc(), body.as_slice())?.dataset;
+    let dataset = table(rt.alloc())?;
     expect(&rt, dataset.name.bytes(), b"buoys.csv");
     let [Decl::Sequence(name, columns)] = dataset.members.items() else {
         return Err(Fail::new("no Sequence"));
@@ -154,9 +160,7 @@ fn a_dataset_is_read(rt: HostRuntime) -> Result<(), Fail> {
     let [station, depth] = columns.items() else {
         return Err(Fail::new("no two columns"));
     };
-    expect(&rt, station.name.bytes(), b"station");
-    expect(&rt, station.base, BaseType::Text);
-    expect(&rt, depth.name.bytes(), b"depth");
-    expect(&rt, depth.base, BaseType::Int32);
+    expect_column(&rt, station, b"station", BaseType::Text);
+    expect_column(&rt, depth, b"depth", BaseType::Int32);
     Ok(())
 }

@@ -1,6 +1,8 @@
 ghost use Rattle.std.specs.Prelude.{◌≡◌, ℕ};
 
-use dap_outside::{Failed, Sink, Source};
+use dap_outside::{Failed, MemSink, MemSource, Sink, Source};
+use dap_types::{Bytes, List, Memory};
+use std::alloc::Global;
 
 /// A source or a sink that counts its calls.
 #[derive(Drop)]
@@ -45,4 +47,32 @@ impl<I: Source> Source for Counted<I> {
     ghost ends_whole = { λ s. I.ends_whole s.inner };
 
     ghost ended_empty = { λ s. I.ended_empty s.inner };
+}
+
+fn failing(alloc: Global, number: u64) -> Result<List<u64>, Memory> {
+    let mut list = List::new(alloc);
+    list.push(number)?;
+    Ok(list)
+}
+
+fn five_at_once(bytes: Bytes, fails: List<u64>) -> MemSource {
+    MemSource::new(bytes, 5, fails)
+}
+
+/// A source of which a call fails. No call has the number 0.
+pub fn source(alloc: Global, input: &[u8], number: u64) -> Result<Counted<MemSource>, Memory> {
+    let bytes = Bytes::new(alloc, input)?;
+    let fails = failing(alloc, number)?;
+    let inner = five_at_once(bytes, fails);
+    Ok(Counted { inner, calls: 0 })
+}
+
+fn room(alloc: Global, piece: u32, fails: List<u64>) -> Result<MemSink, Memory> {
+    MemSink::new(alloc, 1_000_000, piece.max(1), fails)
+}
+
+/// A sink that takes so many bytes a call, of which one fails. No call has the number 0.
+pub fn sink(alloc: Global, piece: u32, number: u64) -> Result<Counted<MemSink>, Memory> {
+    let inner = room(alloc, piece, failing(alloc, number)?)?;
+    Ok(Counted { inner, calls: 0 })
 }

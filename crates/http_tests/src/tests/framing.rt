@@ -1,8 +1,10 @@
-use crate::tests::counted::Counted;
+ghost use Rattle.std.specs.Prelude.{◌<◌, length};
+
+use crate::tests::counted::{Counted, sink};
 use crate::tests::expecting::expect;
 use dap_http::{Framer, put_framed};
-use dap_outside::{MemSink, Sink, put_all};
-use dap_types::{List, Memory};
+use dap_outside::{Failed, MemSink, Sink, put_all};
+use dap_types::Memory;
 use std::alloc::Global;
 use std::process::Abort;
 use std::test::Fail;
@@ -10,16 +12,28 @@ use std::test::Fail;
 /// What goes out before a body.
 const HEAD: &[u8] = b"HTTP/1.1 200 OK\r\n\r\n";
 
-/// A sink that takes so many bytes a call; these calls fail, and no call has the number 0.
-fn sink(alloc: Global, piece: u32, fails: &[u64]) -> Result<Counted<MemSink>, Memory> {
-    let mut numbers = List::new(alloc);
-    for number in fails {
-        numbers.push(*number)?;
-    }
-    Ok(Counted {
-        inner: MemSink::new(alloc, 1_000_000, piece.max(1), numbers)?,
-        calls: 0,
-    })
+/// Puts a body and its end.
+fn put_whole<O: Sink>(framer: Framer, out: &mut O, body: &[u8]) -> Result<(), Failed> {
+    let mut framing = framer.over(out);
+    put_all(&mut framing, body)?;
+    framing.end()
+}
+
+/// Puts a body, which has to go well, and breaks it off.
+fn put_broken<R: Abort, O: Sink>(
+    rt: &R,
+    framer: Framer,
+    out: &mut O,
+    body: &[u8],
+) -> Result<(), Failed> {
+    let mut framing = framer.over(out);
+    assert!(rt; put_all(&mut framing, body).is_ok());
+    framing.break_off()
+}
+
+/// Puts a body in one call.
+fn put_at_once<O: Sink>(framer: Framer, out: &mut O, body: &[u8]) -> Result<(), Failed> {
+    put_framed(framer, out, body)
 }
 
 /// A body is put so.
@@ -30,10 +44,9 @@ fn expect_framed<R: Abort>(
     body: &[u8],
     wanted: &[u8],
 ) -> Result<(), Fail> {
-    let mut out = sink(alloc, 3, &[])?;
-    let mut framing = Framer::new(alloc, chunked)?.over(&mut out);
-    assert!(rt; put_all(&mut framing, body).is_ok());
-    assert!(rt; framing.end().is_ok());
+    let mut out = sink(alloc, 3, 0)?;
+    let framer = Framer::new(alloc, chunked)?;
+    expect(rt, put_whole(framer, &mut out, body), Ok(()));
     expect(rt, out.inner.bytes(), wanted);
     Ok(())
 }
@@ -66,9 +79,9 @@ fn expect_behind<R: Abort>(
     body: &[u8],
     wanted: &[u8],
 ) -> Result<(), Fail> {
-    let mut out = sink(alloc, 1_000_000, &[])?;
+    let mut out = sink(alloc, 1_000_000, 0)?;
     let framer = Framer::behind(alloc, chunked, front)?;
-    assert!(rt; put_framed(framer, &mut out, body).is_ok());
+    expect(rt, put_at_once(framer, &mut out, body), Ok(()));
     expect(rt, out.inner.bytes(), wanted);
     expect(rt, out.calls, 1);
     Ok(())
@@ -102,6 +115,20 @@ fn bytes(alloc: Global, count: usize) -> Result<Vec<u8>, Memory> {
     Ok(body)
 }
 
+/// So many bytes were put in so many puts, with this front and this end.
+fn expect_put<R: Abort>(
+    rt: &R,
+    out: &Counted<MemSink>,
+    front: &[u8],
+    end: &[u8],
+    wanted: (usize, u64),
+) {
+    let put = out.inner.bytes();
+    assert!(rt; put.starts_with(front));
+    assert!(rt; put.ends_with(end));
+    expect(rt, (put.len(), out.calls), wanted);
+}
+
 /// A body of so many bytes is put as so many bytes in so many puts, with this front and this end.
 fn expect_cut<R: Abort>(
     rt: &R,
@@ -113,13 +140,9 @@ fn expect_cut<R: Abort>(
     wanted: (usize, u64),
 ) -> Result<(), Fail> {
     let body = bytes(alloc, count)?;
-    let mut out = sink(alloc, 1_000_000, &[])?;
-    let mut framing = framer.over(&mut out);
-    assert!(rt; put_all(&mut framing, body.as_slice()).is_ok());
-    assert!(rt; framing.end().is_ok());
-    assert!(rt; out.inner.bytes().starts_with(front));
-    assert!(rt; out.inner.bytes().ends_with(end));
-    expect(rt, (out.inner.bytes().len(), out.calls), wanted);
+    let mut out = sink(alloc, 1_000_000, 0)?;
+    expect(rt, put_whole(framer, &mut out, body.as_slice()), Ok(()));
+    expect_put(rt, &out, front, end, wanted);
     Ok(())
 }
 
@@ -171,6 +194,12 @@ fn a_front_takes_no_room_of_the_body(rt: HostRuntime) -> Result<(), Fail> {
         let framer = Framer::behind(rt.alloc(), true, HEAD)?;
         expect_cut(&rt, rt.alloc(), framer, count, front, end, wanted)?;
     }
+    Ok(())
+}
+
+/// So it does where the body is sent as it is.
+#[test]
+fn a_front_takes_no_room_of_a_plain_body(rt: HostRuntime) -> Result<(), Fail> {
     let plain: [(usize, (usize, u64)); 3] = [
         (65_535, (65_554, 1)),
         (65_536, (65_555, 1)),
@@ -194,12 +223,13 @@ fn expect_broken<R: Abort>(
     wanted: (usize, u64),
 ) -> Result<(), Fail> {
     let body = bytes(alloc, count)?;
-    let mut out = sink(alloc, 1_000_000, &[])?;
-    let mut framing = framer.over(&mut out);
-    assert!(rt; put_all(&mut framing, body.as_slice()).is_ok());
-    assert!(rt; framing.break_off().is_ok());
-    assert!(rt; out.inner.bytes().ends_with(end));
-    expect(rt, (out.inner.bytes().len(), out.calls), wanted);
+    let mut out = sink(alloc, 1_000_000, 0)?;
+    expect(
+        rt,
+        put_broken(rt, framer, &mut out, body.as_slice()),
+        Ok(()),
+    );
+    expect_put(rt, &out, b"", end, wanted);
     Ok(())
 }
 
@@ -229,13 +259,39 @@ fn a_broken_body_is_its_whole_chunks(rt: HostRuntime) -> Result<(), Fail> {
 #[test]
 fn a_body_may_fail_as_it_is_broken_off(rt: HostRuntime) -> Result<(), Fail> {
     for chunked in [true, false] {
-        let mut out = sink(rt.alloc(), 7, &[2])?;
-        let mut framing = Framer::behind(rt.alloc(), chunked, HEAD)?.over(&mut out);
-        assert!(rt; put_all(&mut framing, b"abc").is_ok());
-        assert!(rt; framing.break_off().is_err());
+        let mut out = sink(rt.alloc(), 7, 2)?;
+        let framer = Framer::behind(rt.alloc(), chunked, HEAD)?;
+        expect(&rt, put_broken(&rt, framer, &mut out, b"abc"), Err(Failed));
         expect(&rt, out.inner.bytes(), b"HTTP/1.".as_slice());
     }
     Ok(())
+}
+
+fn put<O: Sink>(framing: &mut O, bytes: &[u8]) -> Result<usize, Failed>
+    requires { 0 < length bytes.now }
+{
+    framing.put(bytes)
+}
+
+/// Puts a body in at most ten calls and then its end, and answers how many of these failed.
+fn put_anyhow<O: Sink>(framer: Framer, out: &mut O, body: &[u8]) -> u64 {
+    let mut framing = framer.over(out);
+    let mut at = 0usize;
+    let mut failed = 0u64;
+    for _ in 0..10 {
+        if let Some(rest) = body.get(at..) {
+            if !rest.is_empty() {
+                match put(&mut framing, rest) {
+                    Ok(count) => at = at.saturating_add(count),
+                    Err(_) => failed = failed.saturating_add(1),
+                }
+            }
+        }
+    }
+    if framing.end().is_err() {
+        failed = failed.saturating_add(1);
+    }
+    failed
 }
 
 /// What a body becomes over a sink of which a call fails: that sink, and how many calls of the framing
@@ -246,28 +302,49 @@ fn sent(
     body: &[u8],
     failing: u64,
 ) -> Result<(Counted<MemSink>, u64), Memory> {
-    let mut out = sink(alloc, 40_000, &[failing])?;
-    let mut framing = framer.over(&mut out);
-    let mut at = 0usize;
-    let mut failed = 0u64;
-    for _ in 0..10 {
-        if let Some(rest) = body.get(at..) {
-            if !rest.is_empty() {
-                match framing.put(rest) {
-                    Ok(count) => at = at.saturating_add(count),
-                    Err(_) => failed = failed.saturating_add(1),
-                }
-            }
-        }
-    }
-    if framing.end().is_err() {
-        failed = failed.saturating_add(1);
-    }
+    let mut out = sink(alloc, 40_000, failing)?;
+    let failed = put_anyhow(framer, &mut out, body);
     Ok((out, failed))
 }
 
-/// Each call of the other sink fails in turn, of as many as a run without a fault makes. Behind a failed
-/// `put` the next goes on in the middle of the chunk; behind a failed end a front was put.
+/// 65,536 bytes and one other.
+fn body(alloc: Global) -> Result<Vec<u8>, Memory> {
+    let mut body = bytes(alloc, 65_536)?;
+    body.push(b'b')?;
+    Ok(body)
+}
+
+/// Of that body this is put in three calls where none of them fails.
+fn expect_whole<R: Abort>(
+    rt: &R,
+    alloc: Global,
+    framer: Framer,
+    end: &[u8],
+    wanted: usize,
+) -> Result<Counted<MemSink>, Fail> {
+    let (whole, failed) = sent(alloc, framer, body(alloc)?.as_slice(), 0)?;
+    expect(rt, failed, 0);
+    expect_put(rt, &whole, b"", end, (wanted, 3));
+    Ok(whole)
+}
+
+/// Behind a failed `put` the next goes on in the middle of the chunk; behind a failed end, the third call, a
+/// front was put.
+fn expect_failed<R: Abort>(
+    rt: &R,
+    alloc: Global,
+    framer: Framer,
+    failing: u64,
+    whole: &[u8],
+) -> Result<(), Fail> {
+    let (out, failed) = sent(alloc, framer, body(alloc)?.as_slice(), failing)?;
+    expect(rt, failed, 1);
+    assert!(rt; whole.starts_with(out.inner.bytes()));
+    expect(rt, out.inner.bytes().len() == whole.len(), failing < 3);
+    Ok(())
+}
+
+/// Each call of the other sink fails in turn, of as many as a run without a fault makes.
 fn expect_goes_on<R: Abort>(
     rt: &R,
     alloc: Global,
@@ -276,20 +353,11 @@ fn expect_goes_on<R: Abort>(
     end: &[u8],
     wanted: usize,
 ) -> Result<(), Fail> {
-    let mut body = bytes(alloc, 65_536)?;
-    body.push(b'b')?;
     let framer = Framer::behind(alloc, chunked, front)?;
-    let (whole, failed) = sent(alloc, framer, body.as_slice(), 0)?;
-    expect(rt, failed, 0);
-    expect(rt, whole.inner.bytes().len(), wanted);
-    assert!(rt; whole.inner.bytes().ends_with(end));
-    expect(rt, whole.calls, 3);
+    let whole = expect_whole(rt, alloc, framer, end, wanted)?;
     for failing in 1..whole.calls.saturating_add(1) {
         let framer = Framer::behind(alloc, chunked, front)?;
-        let (out, failed) = sent(alloc, framer, body.as_slice(), failing)?;
-        expect(rt, failed, 1);
-        assert!(rt; whole.inner.bytes().starts_with(out.inner.bytes()));
-        expect(rt, out.inner.bytes().len() == wanted, failing < 3);
+        expect_failed(rt, alloc, framer, failing, whole.inner.bytes())?;
     }
     Ok(())
 }

@@ -1,8 +1,8 @@
-use crate::tests::counted::Counted;
+use crate::tests::counted::{Counted, source};
 use crate::tests::expecting::expect;
 use dap_http::{HeadRead, HeadReader};
-use dap_outside::{MemSource, SureSource};
-use dap_types::{Bytes, List, Memory};
+use dap_outside::{MemSource, Source, SureSource};
+use dap_types::{Bytes, Memory};
 use std::alloc::{AllocError, Global};
 use std::process::Abort;
 use std::test::Fail;
@@ -16,17 +16,25 @@ enum Read {
     TooLong,
 }
 
-/// What the first read of an input gives that comes in pieces.
-fn first(alloc: Global, input: &[u8], piece: u32) -> Result<Option<Read>, Memory> {
-    let mut source = SureSource::new(Bytes::new(alloc, input)?, piece.max(1));
-    let mut reader = HeadReader::new(alloc)?;
-    Ok(match reader.read(&mut source) {
+fn kind_of(read: &HeadRead) -> Option<Read> {
+    match read {
         HeadRead::Head(_) => Some(Read::Head),
         HeadRead::Gone => Some(Read::Gone),
         HeadRead::BadRequest => Some(Read::Bad),
         HeadRead::HeadTooLong => Some(Read::TooLong),
         HeadRead::ReadFault | HeadRead::Memory { .. } => None,
-    })
+    }
+}
+
+fn next<I: Source>(reader: &mut HeadReader, source: &mut I) -> HeadRead {
+    reader.read(source)
+}
+
+/// What the first read of an input gives that comes in pieces.
+fn first(alloc: Global, input: &[u8], piece: u32) -> Result<Option<Read>, Memory> {
+    let mut source = SureSource::new(Bytes::new(alloc, input)?, piece.max(1));
+    let mut reader = HeadReader::new(alloc)?;
+    Ok(kind_of(&next(&mut reader, &mut source)))
 }
 
 /// The first read of an input that comes in pieces of each of these sizes comes to this.
@@ -114,12 +122,33 @@ fn expect_next<R: Abort>(
     request: Request<'_>,
 ) -> Result<(), Fail> {
     let (method, target, minor, ends) = request;
-    let HeadRead::Head(head) = reader.read(source) else {
+    let HeadRead::Head(head) = next(reader, source) else {
         return Err(Fail::new("no head"));
     };
     expect(rt, head.method.as_str(), method);
     expect(rt, head.target.bytes(), target);
     expect(rt, (head.minor, head.ends), (minor, ends));
+    Ok(())
+}
+
+/// The heads of an input that comes in pieces are these, and no more.
+fn expect_requests<R: Abort>(
+    rt: &R,
+    alloc: Global,
+    input: &[u8],
+    piece: u32,
+    requests: &[Request<'_>],
+) -> Result<(), Fail> {
+    let mut source = SureSource::new(Bytes::new(alloc, input)?, piece.max(1));
+    let mut reader = HeadReader::new(alloc)?;
+    for request in requests {
+        expect_next(rt, &mut reader, &mut source, *request)?;
+    }
+    expect(
+        rt,
+        kind_of(&next(&mut reader, &mut source)),
+        Some(Read::Gone),
+    );
     Ok(())
 }
 
@@ -137,12 +166,7 @@ fn requests_follow_each_other(rt: HostRuntime) -> Result<(), Fail> {
         ("GET", b"/g", 1, false),
     ];
     for piece in [1, 50, 4_096] {
-        let mut source = SureSource::new(Bytes::new(rt.alloc(), input)?, piece);
-        let mut reader = HeadReader::new(rt.alloc())?;
-        for request in rows {
-            expect_next(&rt, &mut reader, &mut source, request)?;
-        }
-        assert!(rt; matches!(reader.read(&mut source), HeadRead::Gone));
+        expect_requests(&rt, rt.alloc(), input, piece, &rows)?;
     }
     Ok(())
 }
@@ -188,32 +212,37 @@ fn heads_tell_their_methods(rt: HostRuntime) -> Result<(), Fail> {
     Ok(())
 }
 
-/// A source of which a call fails. No call has the number 0.
-fn source(alloc: Global, input: &[u8], failing: u64) -> Result<Counted<MemSource>, Memory> {
-    let mut fails = List::new(alloc);
-    fails.push(failing)?;
-    Ok(Counted {
-        inner: MemSource::new(Bytes::new(alloc, input)?, 5, fails),
-        calls: 0,
-    })
+/// The next read of the source is a head, and so many calls were made of it then.
+fn expect_head<R: Abort>(
+    rt: &R,
+    reader: &mut HeadReader,
+    source: &mut Counted<MemSource>,
+    calls: u64,
+) {
+    expect(rt, kind_of(&next(reader, source)), Some(Read::Head));
+    expect(rt, source.calls, calls);
 }
 
-/// Each call of the source fails in turn, of as many as a run without a fault makes, and the next read
-/// goes on with what was kept. Behind a whole head nothing is taken.
+/// A call of the source fails, and the next read goes on with what was kept.
+fn expect_goes_on<R: Abort>(rt: &R, alloc: Global, input: &[u8], failing: u64) -> Result<(), Fail> {
+    let mut broken = source(alloc, input, failing)?;
+    let mut reader = HeadReader::new(alloc)?;
+    assert!(rt; matches!(next(&mut reader, &mut broken), HeadRead::ReadFault));
+    expect(rt, broken.calls, failing);
+    expect_head(rt, &mut reader, &mut broken, 5);
+    Ok(())
+}
+
+/// Each call of the source fails in turn, of as many as a run without a fault makes. Behind a whole head nothing
+/// is taken.
 #[test]
 fn a_head_goes_on_behind_a_fault(rt: HostRuntime) -> Result<(), Fail> {
     let input = b"GET /a HTTP/1.1\r\n\r\nGET /b HTTP/1.1\r\n\r\n".as_slice();
     let mut whole = source(rt.alloc(), input, 0)?;
     let mut reader = HeadReader::new(rt.alloc())?;
-    assert!(rt; matches!(reader.read(&mut whole), HeadRead::Head(_)));
-    expect(&rt, whole.calls, 4);
+    expect_head(&rt, &mut reader, &mut whole, 4);
     for failing in 1..whole.calls.saturating_add(1) {
-        let mut broken = source(rt.alloc(), input, failing)?;
-        let mut reader = HeadReader::new(rt.alloc())?;
-        assert!(rt; matches!(reader.read(&mut broken), HeadRead::ReadFault));
-        expect(&rt, broken.calls, failing);
-        assert!(rt; matches!(reader.read(&mut broken), HeadRead::Head(_)));
-        expect(&rt, broken.calls, 5);
+        expect_goes_on(&rt, rt.alloc(), input, failing)?;
     }
     Ok(())
 }

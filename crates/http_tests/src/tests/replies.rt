@@ -1,26 +1,36 @@
-use crate::tests::counted::Counted;
+use crate::tests::counted::source;
 use crate::tests::expecting::expect;
 use dap_http::{Coding, ReplyRead, ReplyReader};
-use dap_outside::{MemSource, SureSource};
-use dap_types::{Bytes, List, Memory};
+use dap_outside::{Source, SureSource};
+use dap_types::{Bytes, Memory};
 use reply_faults::{Bad, BadField};
 use std::alloc::{AllocError, Global};
 use std::process::Abort;
 use std::test::Fail;
+
+fn next<I: Source>(reader: &mut ReplyReader, source: &mut I) -> ReplyRead {
+    reader.read(source)
+}
+
+/// The coding or the fault that a read gives, where its place is 0.
+fn answer_of(read: &ReplyRead) -> Option<Result<Coding, Bad>> {
+    match read {
+        ReplyRead::Final(coding) => Some(Ok(*coding)),
+        ReplyRead::Refused(BadField { kind, place: 0 }) => Some(Err(*kind)),
+        _ => None,
+    }
+}
 
 /// What a first read of an input gives that comes in pieces, and how many bytes it keeps.
 fn first(
     alloc: Global,
     input: &[u8],
     piece: u32,
-) -> Result<Option<(Result<Coding, Bad>, usize)>, Memory> {
+) -> Result<(Option<Result<Coding, Bad>>, usize), Memory> {
     let mut source = SureSource::new(Bytes::new(alloc, input)?, piece.max(1));
     let mut reader = ReplyReader::new(alloc)?;
-    Ok(match reader.read(&mut source) {
-        ReplyRead::Final(coding) => Some((Ok(coding), reader.rest().len())),
-        ReplyRead::Refused(BadField { kind, place: 0 }) => Some((Err(kind), reader.rest().len())),
-        _ => None,
-    })
+    let answer = answer_of(&next(&mut reader, &mut source));
+    Ok((answer, reader.rest().len()))
 }
 
 /// The first read of an input that comes in pieces gives this.
@@ -31,73 +41,73 @@ fn expect_first<R: Abort>(
     piece: u32,
     wanted: Result<Coding, Bad>,
 ) -> Result<(), Fail> {
-    match first(alloc, input, piece)? {
-        Some((answer, _)) => expect(rt, answer, wanted),
-        None => return Err(Fail::new("no answer")),
-    }
+    let (answer, _) = first(alloc, input, piece)?;
+    expect(rt, answer, Some(wanted));
     Ok(())
 }
 
+/// Replies, and what is told of them.
+const CODINGS: [(&[u8], Result<Coding, Bad>); 19] = [
+    (b"HTTP/1.1 200 OK\r\n\r\n", Ok(Coding::ToEnd)),
+    (b"HTTP/1.0 404\n\n", Ok(Coding::ToEnd)),
+    (
+        b"HTTP/1.1 200 OK\r\nContent-Length: 057\r\n\r\n",
+        Ok(Coding::Length(57)),
+    ),
+    (
+        b"HTTP/1.1 200 OK\r\nContent-Length: 5\r\ncontent-length:5\t\r\n\r\n",
+        Ok(Coding::Length(5)),
+    ),
+    (
+        b"HTTP/1.1 200 OK\r\nContent-Length: 999999999999999999\r\n\r\n",
+        Ok(Coding::Length(999_999_999_999_999_999)),
+    ),
+    (
+        b"HTTP/1.1 200 OK\r\nTransfer-Encoding: Chunked\r\n\r\n",
+        Ok(Coding::Chunked),
+    ),
+    (
+        b"HTTP/1.1 200 OK\r\nContent-Length: x\r\nTransfer-Encoding: chunked\r\nContent-Encoding: IDENTITY\r\n\r\n",
+        Ok(Coding::Chunked),
+    ),
+    (
+        b"HTTP/1.1 100 Continue\r\n\r\nHTTP/1.1 199\r\nContent-Encoding: gzip\r\n\r\nHTTP/1.1 200 OK\r\n\r\n",
+        Ok(Coding::ToEnd),
+    ),
+    (
+        b"HTTP/1.1 200 OK\r\nContent-Length: 1000000000000000000\r\n\r\n",
+        Err(Bad::BadHead),
+    ),
+    (
+        b"HTTP/1.1 200 OK\r\nContent-Length:\r\n\r\n",
+        Err(Bad::BadHead),
+    ),
+    (
+        b"HTTP/1.1 200 OK\r\nContent-Length: 5\r\nContent-Length: 05\r\n\r\n",
+        Err(Bad::BadHead),
+    ),
+    (
+        b"HTTP/1.1 200 OK\r\nContent-Length: x\r\nContent-Encoding: gzip\r\n\r\n",
+        Err(Bad::Coded),
+    ),
+    (
+        b"HTTP/1.1 200 OK\r\nTransfer-Encoding: gzip, chunked\r\n\r\n",
+        Err(Bad::Coded),
+    ),
+    (
+        b"HTTP/1.1 200 OK\r\nTransfer-Encoding: chunked\r\nTransfer-Encoding: gzip\r\n\r\n",
+        Err(Bad::Coded),
+    ),
+    (b"HTTP/1.1 2x0 OK\r\n\r\n", Err(Bad::BadHead)),
+    (b"HTTP/1.1 100\r\n\r\nx", Err(Bad::BadHead)),
+    (b"", Err(Bad::Cut)),
+    (b"HTTP/1.1 200 OK\r\nA: b\r\n\r", Err(Bad::Cut)),
+    (b"HTTP/1.1 100\r\n\r\nHTTP", Err(Bad::Cut)),
+];
+
 #[test]
 fn the_coding_of_the_final_head_is_told(rt: HostRuntime) -> Result<(), Fail> {
-    let rows: [(&[u8], Result<Coding, Bad>); 19] = [
-        (b"HTTP/1.1 200 OK\r\n\r\n", Ok(Coding::ToEnd)),
-        (b"HTTP/1.0 404\n\n", Ok(Coding::ToEnd)),
-        (
-            b"HTTP/1.1 200 OK\r\nContent-Length: 057\r\n\r\n",
-            Ok(Coding::Length(57)),
-        ),
-        (
-            b"HTTP/1.1 200 OK\r\nContent-Length: 5\r\ncontent-length:5\t\r\n\r\n",
-            Ok(Coding::Length(5)),
-        ),
-        (
-            b"HTTP/1.1 200 OK\r\nContent-Length: 999999999999999999\r\n\r\n",
-            Ok(Coding::Length(999_999_999_999_999_999)),
-        ),
-        (
-            b"HTTP/1.1 200 OK\r\nTransfer-Encoding: Chunked\r\n\r\n",
-            Ok(Coding::Chunked),
-        ),
-        (
-            b"HTTP/1.1 200 OK\r\nContent-Length: x\r\nTransfer-Encoding: chunked\r\nContent-Encoding: IDENTITY\r\n\r\n",
-            Ok(Coding::Chunked),
-        ),
-        (
-            b"HTTP/1.1 100 Continue\r\n\r\nHTTP/1.1 199\r\nContent-Encoding: gzip\r\n\r\nHTTP/1.1 200 OK\r\n\r\n",
-            Ok(Coding::ToEnd),
-        ),
-        (
-            b"HTTP/1.1 200 OK\r\nContent-Length: 1000000000000000000\r\n\r\n",
-            Err(Bad::BadHead),
-        ),
-        (
-            b"HTTP/1.1 200 OK\r\nContent-Length:\r\n\r\n",
-            Err(Bad::BadHead),
-        ),
-        (
-            b"HTTP/1.1 200 OK\r\nContent-Length: 5\r\nContent-Length: 05\r\n\r\n",
-            Err(Bad::BadHead),
-        ),
-        (
-            b"HTTP/1.1 200 OK\r\nContent-Length: x\r\nContent-Encoding: gzip\r\n\r\n",
-            Err(Bad::Coded),
-        ),
-        (
-            b"HTTP/1.1 200 OK\r\nTransfer-Encoding: gzip, chunked\r\n\r\n",
-            Err(Bad::Coded),
-        ),
-        (
-            b"HTTP/1.1 200 OK\r\nTransfer-Encoding: chunked\r\nTransfer-Encoding: gzip\r\n\r\n",
-            Err(Bad::Coded),
-        ),
-        (b"HTTP/1.1 2x0 OK\r\n\r\n", Err(Bad::BadHead)),
-        (b"HTTP/1.1 100\r\n\r\nx", Err(Bad::BadHead)),
-        (b"", Err(Bad::Cut)),
-        (b"HTTP/1.1 200 OK\r\nA: b\r\n\r", Err(Bad::Cut)),
-        (b"HTTP/1.1 100\r\n\r\nHTTP", Err(Bad::Cut)),
-    ];
-    for (input, wanted) in rows {
+    for (input, wanted) in CODINGS {
         for piece in [1, 5, 4_096] {
             expect_first(&rt, rt.alloc(), input, piece, wanted)?;
         }
@@ -166,9 +176,35 @@ fn heads_cut_behind_any_byte_are_cut(rt: HostRuntime) -> Result<(), Fail> {
     for end in 0..whole.len() {
         if let Some(part) = whole.get(..end) {
             let found = first(rt.alloc(), part, 4_096)?;
-            expect(&rt, found, Some((Err(Bad::Cut), end)));
+            expect(&rt, found, (Some(Err(Bad::Cut)), end));
         }
     }
+    Ok(())
+}
+
+/// The next read of the source gives this coding.
+fn expect_final<R: Abort, I: Source>(
+    rt: &R,
+    reader: &mut ReplyReader,
+    source: &mut I,
+    coding: Coding,
+) {
+    expect(rt, answer_of(&next(reader, source)), Some(Ok(coding)));
+}
+
+fn skip(reader: &mut ReplyReader, count: usize) -> Result<(), Fail> {
+    if reader.rest().len() < count {
+        return Err(Fail::new("too few"));
+    }
+    reader.skip(count);
+    Ok(())
+}
+
+fn keep(reader: &mut ReplyReader, bytes: &[u8]) -> Result<(), Fail> {
+    if reader.rest().len() > 100 || bytes.len() > 100 {
+        return Err(Fail::new("too many"));
+    }
+    reader.keep(bytes);
     Ok(())
 }
 
@@ -178,36 +214,25 @@ fn a_reader_goes_on_behind_a_reply(rt: HostRuntime) -> Result<(), Fail> {
         b"HTTP/1.1 200 OK\r\nContent-Length: 3\r\n\r\nabcHTTP/1.1 404 \r\n\r\nxyz".as_slice();
     let mut source = SureSource::new(Bytes::new(rt.alloc(), input)?, 4_096);
     let mut reader = ReplyReader::new(rt.alloc())?;
-    assert!(rt;
-        matches!(
-            reader.read(&mut source),
-            ReplyRead::Final(Coding::Length(3))
-        )
-    );
+    expect_final(&rt, &mut reader, &mut source, Coding::Length(3));
     assert!(rt; reader.rest().starts_with(b"abcHTTP"));
-    if reader.rest().len() < 3 {
-        return Err(Fail::new("too few"));
-    }
-    reader.skip(3);
-    assert!(rt; matches!(reader.read(&mut source), ReplyRead::Final(Coding::ToEnd)));
+    skip(&mut reader, 3)?;
+    expect_final(&rt, &mut reader, &mut source, Coding::ToEnd);
     expect(&rt, reader.rest(), b"xyz");
-    reader.skip(reader.rest().len());
-    if reader.rest().len() > 100 {
-        return Err(Fail::new("too many"));
-    }
-    reader.keep(b"HTTP/1.1 200\r\n\r\n");
-    assert!(rt; matches!(reader.read(&mut source), ReplyRead::Final(Coding::ToEnd)));
+    let rest = reader.rest().len();
+    skip(&mut reader, rest)?;
+    keep(&mut reader, b"HTTP/1.1 200\r\n\r\n")?;
+    expect_final(&rt, &mut reader, &mut source, Coding::ToEnd);
     Ok(())
 }
 
-/// A source of which a call fails. No call has the number 0.
-fn source(alloc: Global, input: &[u8], failing: u64) -> Result<Counted<MemSource>, Memory> {
-    let mut fails = List::new(alloc);
-    fails.push(failing)?;
-    Ok(Counted {
-        inner: MemSource::new(Bytes::new(alloc, input)?, 5, fails),
-        calls: 0,
-    })
+/// A read of a source of which a call fails is a fault, behind so many calls.
+fn expect_fault<R: Abort>(rt: &R, alloc: Global, input: &[u8], failing: u64) -> Result<(), Fail> {
+    let mut broken = source(alloc, input, failing)?;
+    let mut reader = ReplyReader::new(alloc)?;
+    assert!(rt; matches!(next(&mut reader, &mut broken), ReplyRead::ReadFault));
+    expect(rt, broken.calls, failing);
+    Ok(())
 }
 
 /// Each call of the source fails in turn, of as many as a run without a fault makes.
@@ -216,13 +241,10 @@ fn each_take_fails(rt: HostRuntime) -> Result<(), Fail> {
     let input = b"HTTP/1.1 100\r\n\r\nHTTP/1.1 200\r\n\r\nabcdef".as_slice();
     let mut whole = source(rt.alloc(), input, 0)?;
     let mut reader = ReplyReader::new(rt.alloc())?;
-    assert!(rt; matches!(reader.read(&mut whole), ReplyRead::Final(Coding::ToEnd)));
+    expect_final(&rt, &mut reader, &mut whole, Coding::ToEnd);
     expect(&rt, whole.calls, 7);
     for failing in 1..whole.calls.saturating_add(1) {
-        let mut broken = source(rt.alloc(), input, failing)?;
-        let mut reader = ReplyReader::new(rt.alloc())?;
-        assert!(rt; matches!(reader.read(&mut broken), ReplyRead::ReadFault));
-        expect(&rt, broken.calls, failing);
+        expect_fault(&rt, rt.alloc(), input, failing)?;
     }
     Ok(())
 }

@@ -17,6 +17,12 @@ fn heads_are_sent_as_they_are_laid_out(rt: HostRuntime) -> Result<(), Fail> {
         old.bytes(),
         b"HTTP/1.1 200 OK\r\nXDODS-Server: dap2/1.0\r\nXDAP: 2.0\r\nContent-Description: dods_data\r\nContent-Type: application/octet-stream\r\n\r\n",
     );
+    Ok(())
+}
+
+#[test]
+fn heads_with_a_length_are_sent_so(rt: HostRuntime) -> Result<(), Fail> {
+    let alloc = rt.alloc();
     let refused = reply_head(alloc, 405, b"dods_error", Some(52), false, true)?;
     expect(
         &rt,
@@ -29,10 +35,14 @@ fn heads_are_sent_as_they_are_laid_out(rt: HostRuntime) -> Result<(), Fail> {
         text.bytes(),
         b"HTTP/1.1 200 OK\r\nXDODS-Server: dap2/1.0\r\nXDAP: 2.0\r\nContent-Description: dods_version\r\nContent-Type: text/plain\r\nContent-Length: 47\r\n\r\n",
     );
+    Ok(())
+}
+
+#[test]
+fn kinds_have_their_words_and_are_chunked_or_not(rt: HostRuntime) {
     expect(&rt, Kind::Dds.description(), b"dods_dds");
     expect(&rt, Kind::Das.description(), b"dods_das");
     assert!(rt; Kind::Dods.is_chunked(1) && !Kind::Dods.is_chunked(0) && !Kind::Das.is_chunked(1));
-    Ok(())
 }
 
 #[test]
@@ -63,6 +73,13 @@ fn requests_are_sent_as_they_are_laid_out(rt: HostRuntime) -> Result<(), Fail> {
         plain.bytes(),
         b"GET /v.nc.das HTTP/1.1\r\nHost: h:8080\r\nUser-Agent: dap2/1.0\r\nAccept-Encoding: identity\r\nConnection: close\r\n\r\n",
     );
+    Ok(())
+}
+
+#[test]
+fn constraints_are_sent_escaped(rt: HostRuntime) -> Result<(), Fail> {
+    let alloc = rt.alloc();
+    let url = Url::read(alloc, "http://h:8080/v.nc")?;
     let constrained = request_bytes(
         alloc,
         &url,

@@ -1,5 +1,5 @@
 use crate::tests::expecting::expect;
-use crate::tests::made::push_words;
+use crate::tests::made::{push_words, push_zeros};
 use crate::tests::seen::printed;
 use dap_types::Bytes;
 use std::alloc::Global;
@@ -142,13 +142,6 @@ const VARIABLES: [u32; 28] = [
     0,
     324,
 ];
-
-fn push_zeros(bytes: &mut Vec<u8>, count: usize) -> Result<(), Fail> {
-    for _ in 0..count {
-        bytes.push(0)?;
-    }
-    Ok(())
-}
 
 /// The attributes of a variable.
 fn sample(alloc: Global) -> Result<Bytes, Fail> {

@@ -1,6 +1,6 @@
 use crate::tests::expecting::expect;
-use crate::tests::made::{Variable, file};
-use crate::tests::seen::{describe, element, header, number};
+use crate::tests::made::{Variable, file, with_attributes};
+use crate::tests::seen::{element, has_variables, header, number};
 use netcdf_source::Header;
 use std::alloc::Global;
 use std::process::Abort;
@@ -12,14 +12,9 @@ const UNITS: [u32; 8] = [12, 1, 5, 0x756e_6974, 0x7300_0000, 2, 1, 0x7500_0000];
 /// Where the data begins, behind the header.
 const DATA: u32 = 332;
 
-fn variable<'a>(name: &'a [u8], dimensions: &'a [u32], number: u32, begin: u32) -> Variable<'a> {
-    Variable {
-        name,
-        dimensions,
-        attributes: &UNITS,
-        number,
-        begin,
-    }
+/// A variable with the attribute `units`.
+fn with_units<'a>(name: &'a [u8], dimensions: &'a [u32], number: u32, begin: u32) -> Variable<'a> {
+    with_attributes(name, dimensions, &UNITS, number, begin)
 }
 
 /// A file as the usual tools make it: three Float64 coordinate variables, and a Float32 variable
@@ -27,10 +22,10 @@ fn variable<'a>(name: &'a [u8], dimensions: &'a [u32], number: u32, begin: u32) 
 fn climate(alloc: Global) -> Result<Vec<u8>, Fail> {
     let dims: [(&[u8], u32); 3] = [(b"TIME", 12), (b"COADSY", 90), (b"COADSX", 180)];
     let variables = [
-        variable(b"TIME", &[0], 6, DATA),
-        variable(b"COADSY", &[1], 6, DATA + 96),
-        variable(b"COADSX", &[2], 6, DATA + 816),
-        variable(b"SST", &[0, 1, 2], 5, DATA + 2256),
+        with_units(b"TIME", &[0], 6, DATA),
+        with_units(b"COADSY", &[1], 6, DATA + 96),
+        with_units(b"COADSX", &[2], 6, DATA + 816),
+        with_units(b"SST", &[0, 1, 2], 5, DATA + 2256),
     ];
     let mut bytes = file(alloc, 1, 0, &dims, &variables, 0)?;
     if bytes.len() != DATA as usize {
@@ -60,19 +55,13 @@ fn expect_number<R: Abort>(
     expect(rt, (leaf, found), (leaf, Some(expected)));
 }
 
-/// The variables of its dataset.
-fn described(alloc: Global, header: &Header) -> Result<Vec<u8>, Fail> {
-    describe(alloc, &header.dataset(alloc, b"coads.nc")?)
-}
-
 #[test]
 fn a_climatology_is_read(rt: HostRuntime) -> Result<(), Fail> {
     let bytes = climate(rt.alloc())?;
     let header = header(rt.alloc(), &bytes, bytes.len() as u64)?;
-    let made = described(rt.alloc(), &header)?;
     let dataset =
         b"coads.nc:Float64 TIME[TIME=12];Float64 COADSY[COADSY=90];Float64 COADSX[COADSX=180];SST(Float32 SST[TIME=12][COADSY=90][COADSX=180];Float64 TIME[TIME=12];Float64 COADSY[COADSY=90];Float64 COADSX[COADSX=180];)";
-    assert!(rt; made.as_slice() == dataset.as_slice());
+    assert!(rt; has_variables(rt.alloc(), &header, b"coads.nc", dataset)?);
     for (leaf, last) in [(1, 11), (2, 89), (3, 179), (6, 11), (7, 89), (8, 179)] {
         expect_number(&rt, &header, &bytes, (leaf, &[0]), 0);
         expect_number(&rt, &header, &bytes, (leaf, &[last as u64]), last);

@@ -1,17 +1,12 @@
-use crate::tests::seen::{describe, element, header, number};
+use crate::tests::seen::{element, has_variables, header, number};
+use netcdf_source::Header;
 use std::alloc::Global;
 use std::test::Fail;
 
-/// The words of a file and the bytes behind them, the variables of its dataset, and some of its
-/// elements: each with its leaf, its indexes and its number.
-#[derive(Clone, Copy)]
-struct Sample<'a> {
-    words: &'a [u32],
-    tail: &'a [u8],
-    dataset: &'a [u8],
-    elements: &'a [(u32, &'a [u64], i64)],
-}
+/// An element: its leaf, its indexes and its number.
+type Element<'a> = (u32, &'a [u64], i64);
 
+/// The bytes of some words, and of what stands behind them.
 fn bytes_of(alloc: Global, words: &[u32], tail: &[u8]) -> Result<Vec<u8>, Fail> {
     let mut bytes = Vec::new(alloc);
     for word in words {
@@ -21,18 +16,35 @@ fn bytes_of(alloc: Global, words: &[u32], tail: &[u8]) -> Result<Vec<u8>, Fail> 
     Ok(bytes)
 }
 
-/// Whether a file becomes this dataset, and has these elements at the places of its layouts.
-fn is_read(alloc: Global, sample: &Sample) -> Result<bool, Fail> {
-    let bytes = bytes_of(alloc, sample.words, sample.tail)?;
-    let header = header(alloc, &bytes, bytes.len() as u64)?;
-    let made = describe(alloc, &header.dataset(alloc, b"f.nc")?)?;
-    for (leaf, indexes, expected) in sample.elements {
-        let found = element(&header, &bytes, *leaf, indexes);
-        if found.and_then(number) != Some(*expected) {
-            return Ok(false);
+/// Whether the element of a leaf at these indexes is that number.
+fn is_number(header: &Header, file: &[u8], leaf: u32, indexes: &[u64], expected: i64) -> bool {
+    element(header, file, leaf, indexes).and_then(number) == Some(expected)
+}
+
+/// Whether a file has these elements at the places of its layouts.
+fn are_numbers(header: &Header, file: &[u8], elements: &[Element]) -> bool {
+    for (leaf, indexes, expected) in elements {
+        if !is_number(header, file, *leaf, indexes, *expected) {
+            return false;
         }
     }
-    Ok(made.as_slice() == sample.dataset)
+    true
+}
+
+/// Whether a file of these words and the bytes behind them becomes this dataset, and has these elements at the
+/// places of its layouts.
+fn is_read(
+    alloc: Global,
+    words: &[u32],
+    tail: &[u8],
+    dataset: &[u8],
+    elements: &[Element],
+) -> Result<bool, Fail> {
+    let bytes = bytes_of(alloc, words, tail)?;
+    let header = header(alloc, &bytes, bytes.len() as u64)?;
+    let is_described = has_variables(alloc, &header, b"f.nc", dataset)?;
+    let has_elements = are_numbers(&header, &bytes, elements);
+    Ok(is_described & has_elements)
 }
 
 /// Int32 over two dimensions.
@@ -43,19 +55,17 @@ fn plain(alloc: Global) -> Result<bool, Fail> {
     ];
     is_read(
         alloc,
-        &Sample {
-            words: &words,
-            tail: &[],
-            dataset: b"f.nc:Int32 v[y=3][x=4];",
-            elements: &[
-                (1, &[0, 1], 1),
-                (1, &[0, 2], 2),
-                (1, &[0, 3], 3),
-                (1, &[2, 1], 9),
-                (1, &[2, 2], 10),
-                (1, &[2, 3], 11),
-            ],
-        },
+        &words,
+        &[],
+        b"f.nc:Int32 v[y=3][x=4];",
+        &[
+            (1, &[0, 1], 1),
+            (1, &[0, 2], 2),
+            (1, &[0, 3], 3),
+            (1, &[2, 1], 9),
+            (1, &[2, 2], 10),
+            (1, &[2, 3], 11),
+        ],
     )
 }
 
@@ -68,21 +78,19 @@ fn grid(alloc: Global) -> Result<bool, Fail> {
     ];
     is_read(
         alloc,
-        &Sample {
-            words: &words,
-            tail: &[],
-            dataset: b"f.nc:Int32 lat[lat=2];Int32 lon[lon=3];g(Int16 g[lat=2][lon=3];Int32 lat[lat=2];Int32 lon[lon=3];)",
-            elements: &[
-                (1, &[1], 20),
-                (4, &[0, 0], -1),
-                (4, &[0, 1], 32767),
-                (4, &[0, 2], 3),
-                (4, &[1, 2], 6),
-                (5, &[0], 10),
-                (6, &[1], 2),
-                (6, &[2], 3),
-            ],
-        },
+        &words,
+        &[],
+        b"f.nc:Int32 lat[lat=2];Int32 lon[lon=3];g(Int16 g[lat=2][lon=3];Int32 lat[lat=2];Int32 lon[lon=3];)",
+        &[
+            (1, &[1], 20),
+            (4, &[0, 0], -1),
+            (4, &[0, 1], 32767),
+            (4, &[0, 2], 3),
+            (4, &[1, 2], 6),
+            (5, &[0], 10),
+            (6, &[1], 2),
+            (6, &[2], 3),
+        ],
     )
 }
 
@@ -94,23 +102,13 @@ fn records(alloc: Global) -> Result<bool, Fail> {
     ];
     let full = is_read(
         alloc,
-        &Sample {
-            words: &words,
-            tail: &[0, 1, 0, 2, 0, 3],
-            dataset: b"f.nc:Int16 s[t=3];",
-            elements: &[(1, &[0], 1), (1, &[1], 2), (1, &[2], 3)],
-        },
+        &words,
+        &[0, 1, 0, 2, 0, 3],
+        b"f.nc:Int16 s[t=3];",
+        &[(1, &[0], 1), (1, &[1], 2), (1, &[2], 3)],
     )?;
     words[1] = 0;
-    let empty = is_read(
-        alloc,
-        &Sample {
-            words: &words,
-            tail: &[],
-            dataset: b"f.nc:Int16 s[t=0];",
-            elements: &[],
-        },
-    )?;
+    let empty = is_read(alloc, &words, &[], b"f.nc:Int16 s[t=0];", &[])?;
     Ok(full && empty)
 }
 
@@ -122,18 +120,16 @@ fn unsigned(alloc: Global) -> Result<bool, Fail> {
     ];
     is_read(
         alloc,
-        &Sample {
-            words: &words,
-            tail: &[1, 2, 0xff, 0, 7],
-            dataset: b"f.nc:Byte b[n=5];",
-            elements: &[
-                (1, &[0], 1),
-                (1, &[1], 2),
-                (1, &[2], 255),
-                (1, &[3], 0),
-                (1, &[4], 7),
-            ],
-        },
+        &words,
+        &[1, 2, 0xff, 0, 7],
+        b"f.nc:Byte b[n=5];",
+        &[
+            (1, &[0], 1),
+            (1, &[1], 2),
+            (1, &[2], 255),
+            (1, &[3], 0),
+            (1, &[4], 7),
+        ],
     )
 }
 
@@ -146,13 +142,24 @@ fn padded(alloc: Global) -> Result<bool, Fail> {
     ];
     is_read(
         alloc,
-        &Sample {
-            words: &words,
-            tail: &[],
-            dataset: b"f.nc:Int16 a[t=2];Int16 b[t=2];",
-            elements: &[(1, &[0], 1), (1, &[1], 2), (2, &[0], 10), (2, &[1], 11)],
-        },
+        &words,
+        &[],
+        b"f.nc:Int16 a[t=2];Int16 b[t=2];",
+        &[(1, &[0], 1), (1, &[1], 2), (2, &[0], 10), (2, &[1], 11)],
     )
+}
+
+/// Whether the element of the first leaf at this index is that text.
+fn is_text(header: &Header, file: &[u8], index: u64, expected: &[u8]) -> bool {
+    element(header, file, 1, &[index]) == Some(expected)
+}
+
+/// Whether the first leaf alone is one of chars, and its elements are the two texts.
+fn are_texts(header: &Header, file: &[u8]) -> bool {
+    header.is_char(1)
+        && !header.is_char(2)
+        && is_text(header, file, 0, b"ab\0\0")
+        && is_text(header, file, 1, b"wxyz")
 }
 
 /// Texts of four bytes, the first with zero bytes at its end.
@@ -163,14 +170,9 @@ fn texts(alloc: Global) -> Result<bool, Fail> {
     ];
     let bytes = bytes_of(alloc, &words, b"ab\0\0wxyz")?;
     let header = header(alloc, &bytes, bytes.len() as u64)?;
-    let made = describe(alloc, &header.dataset(alloc, b"f.nc")?)?;
-    Ok(
-        made.as_slice() == b"f.nc:String c[k=2];".as_slice()
-            && header.is_char(1)
-            && !header.is_char(2)
-            && element(&header, &bytes, 1, &[0]) == Some(b"ab\0\0".as_slice())
-            && element(&header, &bytes, 1, &[1]) == Some(b"wxyz".as_slice()),
-    )
+    let is_described = has_variables(alloc, &header, b"f.nc", b"f.nc:String c[k=2];")?;
+    let has_texts = are_texts(&header, &bytes);
+    Ok(is_described & has_texts)
 }
 
 #[test]

@@ -1,17 +1,18 @@
 use crate::tests::expecting::expect;
-use crate::tests::made::{Variable, file, sample};
-use crate::tests::seen::{describe, header};
+use crate::tests::made::{Variable, file, sample, with_attributes};
+use crate::tests::seen::{header, is_described};
 use netcdf_source::Header;
 use std::alloc::Global;
 use std::test::Fail;
 
-type Dimensions<'a> = &'a [(&'a [u8], u32)];
+/// A dimension: its name and its length.
+type Dimension<'a> = (&'a [u8], u32);
 
 /// The header of a file of version 1 without attributes of its own.
 fn made(
     alloc: Global,
     records: u32,
-    dimensions: Dimensions,
+    dimensions: &[Dimension],
     variables: &[Variable],
 ) -> Result<Header, Fail> {
     let bytes = file(alloc, 1, records, dimensions, variables, 700)?;
@@ -19,8 +20,8 @@ fn made(
 }
 
 /// Whether a file with two variables over `t` and `n` has the shape of this one.
-fn is_same(alloc: Global, dimensions: Dimensions, variables: &[Variable]) -> Result<bool, Fail> {
-    let dims: [(&[u8], u32); 2] = [(b"t", 0), (b"n", 3)];
+fn is_same(alloc: Global, dimensions: &[Dimension], variables: &[Variable]) -> Result<bool, Fail> {
+    let dims: [Dimension; 2] = [(b"t", 0), (b"n", 3)];
     let both = [sample(b"a", &[0], 1, 600), sample(b"b", &[1], 4, 610)];
     let one = made(alloc, 2, &dims, &both)?;
     let other = made(alloc, 9, dimensions, variables)?;
@@ -28,7 +29,7 @@ fn is_same(alloc: Global, dimensions: Dimensions, variables: &[Variable]) -> Res
 }
 
 /// Whether the shape stays with these dimensions.
-fn has_dimensions(alloc: Global, first: (&[u8], u32), second: (&[u8], u32)) -> Result<bool, Fail> {
+fn has_dimensions(alloc: Global, first: Dimension, second: Dimension) -> Result<bool, Fail> {
     let both = [sample(b"a", &[0], 1, 600), sample(b"b", &[1], 4, 610)];
     is_same(alloc, &[first, second], &both)
 }
@@ -45,7 +46,7 @@ fn dimensions_are_compared(rt: HostRuntime) -> Result<(), Fail> {
 
 /// Whether the shape stays with this first variable.
 fn has_variable(alloc: Global, first: Variable) -> Result<bool, Fail> {
-    let dims: [(&[u8], u32); 2] = [(b"t", 0), (b"n", 3)];
+    let dims: [Dimension; 2] = [(b"t", 0), (b"n", 3)];
     is_same(alloc, &dims, &[first, sample(b"b", &[1], 4, 640)])
 }
 
@@ -65,11 +66,8 @@ fn variables_are_compared(rt: HostRuntime) -> Result<(), Fail> {
 #[test]
 fn places_and_attributes_are_not_compared(rt: HostRuntime) -> Result<(), Fail> {
     let alloc = rt.alloc();
-    let dims: [(&[u8], u32); 2] = [(b"t", 0), (b"n", 3)];
-    let a = Variable {
-        attributes: &[12, 1, 1, 0x6100_0000, 1, 0],
-        ..sample(b"a", &[0], 1, 630)
-    };
+    let dims: [Dimension; 2] = [(b"t", 0), (b"n", 3)];
+    let a = with_attributes(b"a", &[0], &[12, 1, 1, 0x6100_0000, 1, 0], 1, 630);
     let b = sample(b"b", &[1], 4, 610);
     assert!(rt; is_same(alloc, &dims, &[a, b])?);
     assert!(rt; !is_same(alloc, &dims, &[b, a])?);
@@ -80,7 +78,7 @@ fn places_and_attributes_are_not_compared(rt: HostRuntime) -> Result<(), Fail> {
 
 /// A record dimension `t`, and variables of which `t` and `g` are over it, `g` with its maps.
 fn recorded(alloc: Global, records: u32) -> Result<Header, Fail> {
-    let dims: [(&[u8], u32); 2] = [(b"t", 0), (b"n", 3)];
+    let dims: [Dimension; 2] = [(b"t", 0), (b"n", 3)];
     let variables = [
         sample(b"t", &[0], 1, 600),
         sample(b"n", &[1], 1, 610),
@@ -131,8 +129,8 @@ fn becomes_with(
     if records > 2147483647 {
         return Ok(false);
     }
-    let made = describe(alloc, &header.dataset_with(alloc, b"a/f.nc", records)?)?;
-    Ok(made.as_slice() == dataset)
+    let made = header.dataset_with(alloc, b"a/f.nc", records)?;
+    is_described(alloc, &made, dataset)
 }
 
 #[test]

@@ -11,15 +11,28 @@ pub struct Variable<'a> {
     pub begin: u32,
 }
 
-/// A variable without attributes, in versions 1 and 2.
-pub fn sample<'a>(name: &'a [u8], dimensions: &'a [u32], number: u32, begin: u32) -> Variable<'a> {
+pub fn with_attributes<'a>(
+    name: &'a [u8],
+    dimensions: &'a [u32],
+    attributes: &'a [u32],
+    number: u32,
+    begin: u32,
+) -> Variable<'a> {
     Variable {
         name,
         dimensions,
-        attributes: &[0, 0],
+        attributes,
         number,
         begin,
     }
+}
+
+/// The words of an empty list, in versions 1 and 2.
+const NO_ATTRIBUTES: [u32; 2] = [0, 0];
+
+/// A variable without attributes, in versions 1 and 2.
+pub fn sample<'a>(name: &'a [u8], dimensions: &'a [u32], number: u32, begin: u32) -> Variable<'a> {
+    with_attributes(name, dimensions, &NO_ATTRIBUTES, number, begin)
 }
 
 pub fn push_word(bytes: &mut Vec<u8>, word: u32) -> Result<(), Fail> {
@@ -34,38 +47,96 @@ pub fn push_words(bytes: &mut Vec<u8>, words: &[u32]) -> Result<(), Fail> {
     Ok(())
 }
 
+pub fn push_zeros(bytes: &mut Vec<u8>, count: usize) -> Result<(), Fail> {
+    for _ in 0..count {
+        bytes.push(0)?;
+    }
+    Ok(())
+}
+
 /// A number of the version's width.
 fn push_number(bytes: &mut Vec<u8>, version: u8, number: u32) -> Result<(), Fail> {
     if version == 5 {
-        push_word(bytes, 0)?;
+        push_words(bytes, &[0, number])
+    } else {
+        push_word(bytes, number)
     }
-    push_word(bytes, number)
 }
 
-fn push_name(bytes: &mut Vec<u8>, version: u8, name: &[u8]) -> Result<(), Fail> {
-    push_number(bytes, version, (name.len() % 1000) as u32)?;
-    bytes.extend_from_slice(name)?;
-    for _ in 0..(4 - name.len() % 4) % 4 {
+/// How many items follow.
+fn push_count(bytes: &mut Vec<u8>, version: u8, count: usize) -> Result<(), Fail> {
+    push_number(bytes, version, (count % 1000) as u32)
+}
+
+fn push_padding(bytes: &mut Vec<u8>, count: usize) -> Result<(), Fail> {
+    for _ in 0..count {
         bytes.push(0xff)?;
     }
     Ok(())
 }
 
-fn push_variable(bytes: &mut Vec<u8>, version: u8, v: &Variable) -> Result<(), Fail> {
-    push_name(bytes, version, v.name)?;
-    push_number(bytes, version, (v.dimensions.len() % 1000) as u32)?;
-    for id in v.dimensions {
+fn push_name(bytes: &mut Vec<u8>, version: u8, name: &[u8]) -> Result<(), Fail> {
+    push_count(bytes, version, name.len())?;
+    bytes.extend_from_slice(name)?;
+    push_padding(bytes, (4 - name.len() % 4) % 4)
+}
+
+/// The dimensions of a variable.
+fn push_ids(bytes: &mut Vec<u8>, version: u8, ids: &[u32]) -> Result<(), Fail> {
+    push_count(bytes, version, ids.len())?;
+    for id in ids {
         push_number(bytes, version, *id)?;
     }
-    for word in v.attributes {
-        push_word(bytes, *word)?;
+    Ok(())
+}
+
+/// Where a variable begins, in version 2 above 2^32.
+fn push_begin(bytes: &mut Vec<u8>, version: u8, begin: u32) -> Result<(), Fail> {
+    if version == 2 {
+        push_words(bytes, &[1, begin])
+    } else {
+        push_number(bytes, version, begin)
     }
+}
+
+fn push_variable(bytes: &mut Vec<u8>, version: u8, v: &Variable) -> Result<(), Fail> {
+    push_name(bytes, version, v.name)?;
+    push_ids(bytes, version, v.dimensions)?;
+    push_words(bytes, v.attributes)?;
     push_word(bytes, v.number)?;
     push_number(bytes, version, 7)?;
-    if version == 2 {
-        push_word(bytes, 1)?;
+    push_begin(bytes, version, v.begin)
+}
+
+/// The tag of a list, and how many items it has.
+fn push_head(bytes: &mut Vec<u8>, version: u8, tag: u32, count: usize) -> Result<(), Fail> {
+    push_word(bytes, tag)?;
+    push_count(bytes, version, count)
+}
+
+fn push_dimension(bytes: &mut Vec<u8>, version: u8, name: &[u8], length: u32) -> Result<(), Fail> {
+    push_name(bytes, version, name)?;
+    push_number(bytes, version, length)
+}
+
+fn push_dimensions(
+    bytes: &mut Vec<u8>,
+    version: u8,
+    dimensions: &[(&[u8], u32)],
+) -> Result<(), Fail> {
+    push_head(bytes, version, 10, dimensions.len())?;
+    for (name, length) in dimensions {
+        push_dimension(bytes, version, name, *length)?;
     }
-    push_number(bytes, version, v.begin)
+    Ok(())
+}
+
+fn push_variables(bytes: &mut Vec<u8>, version: u8, variables: &[Variable]) -> Result<(), Fail> {
+    push_head(bytes, version, 11, variables.len())?;
+    for v in variables {
+        push_variable(bytes, version, v)?;
+    }
+    Ok(())
 }
 
 /// A file of that version without attributes of its own, and behind its header so many zero bytes.
@@ -79,21 +150,9 @@ pub fn file(
 ) -> Result<Vec<u8>, Fail> {
     let mut bytes = Vec::from_slice(alloc, &[0x43, 0x44, 0x46, version])?;
     push_number(&mut bytes, version, records)?;
-    push_word(&mut bytes, 10)?;
-    push_number(&mut bytes, version, (dimensions.len() % 1000) as u32)?;
-    for (name, length) in dimensions {
-        push_name(&mut bytes, version, name)?;
-        push_number(&mut bytes, version, *length)?;
-    }
-    push_word(&mut bytes, 12)?;
-    push_number(&mut bytes, version, 0)?;
-    push_word(&mut bytes, 11)?;
-    push_number(&mut bytes, version, (variables.len() % 1000) as u32)?;
-    for v in variables {
-        push_variable(&mut bytes, version, v)?;
-    }
-    for _ in 0..data {
-        bytes.push(0)?;
-    }
+    push_dimensions(&mut bytes, version, dimensions)?;
+    push_head(&mut bytes, version, 12, 0)?;
+    push_variables(&mut bytes, version, variables)?;
+    push_zeros(&mut bytes, data)?;
     Ok(bytes)
 }

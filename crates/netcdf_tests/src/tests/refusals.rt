@@ -123,14 +123,24 @@ fn refusal_at(len: usize, whole: usize, refusal: HeaderRefusal) -> HeaderRefusal
     }
 }
 
+/// A front of the file with a change is refused.
+fn expect_front_refused<R: Abort>(rt: &R, alloc: Global, change: Change, front: &[u8]) {
+    let (place, _, expected, whole) = change;
+    let len = front.len();
+    let wanted = Some(refusal_at(len, whole, expected));
+    expect(
+        rt,
+        (place, len, refusal(alloc, front)),
+        (place, len, wanted),
+    );
+}
+
 /// The file with a change is refused, and so is each of its fronts.
 fn expect_refused<R: Abort>(rt: &R, alloc: Global, change: Change) -> Result<(), Fail> {
-    let (place, word, expected, whole) = change;
+    let (place, word, expected, _) = change;
     let bytes = changed(alloc, &FILE, place, word)?;
     for len in 0..bytes.len() {
-        let found = refusal(alloc, &bytes[..len]);
-        let wanted = Some(refusal_at(len, whole, expected));
-        expect(rt, (place, len, found), (place, len, wanted));
+        expect_front_refused(rt, alloc, change, &bytes[..len]);
     }
     let uncut = if word == 0x60 { None } else { Some(expected) };
     expect(rt, (place, refusal(alloc, &bytes)), (place, uncut));

@@ -1,6 +1,6 @@
 use crate::tests::expecting::expect;
-use crate::tests::made::{Variable, file, push_words};
-use crate::tests::seen::{at, becomes, describe, element, header, printed};
+use crate::tests::made::{Variable, file, push_words, with_attributes};
+use crate::tests::seen::{at, becomes, element, has_variables, header, printed};
 use crate::tests::widths::FILE;
 use std::alloc::Global;
 use std::test::Fail;
@@ -11,15 +11,12 @@ fn bytes_of(alloc: Global, words: &[u32]) -> Result<Vec<u8>, Fail> {
     Ok(bytes)
 }
 
+/// The words of an empty list of version 5.
+const NO_ATTRIBUTES: [u32; 3] = [0, 0, 0];
+
 /// A variable of version 5 without attributes.
 fn sample<'a>(name: &'a [u8], dimensions: &'a [u32], number: u32, begin: u32) -> Variable<'a> {
-    Variable {
-        name,
-        dimensions,
-        attributes: &[0, 0, 0],
-        number,
-        begin,
-    }
+    with_attributes(name, dimensions, &NO_ATTRIBUTES, number, begin)
 }
 
 /// The numbers of `u` are those of UInt16, and `q` is not offered.
@@ -144,8 +141,7 @@ const LARGE: [u32; 59] = [
 fn large(alloc: Global) -> Result<bool, Fail> {
     let bytes = bytes_of(alloc, &LARGE)?;
     let header = header(alloc, &bytes, 236)?;
-    let made = describe(alloc, &header.dataset(alloc, b"f.nc")?)?;
-    Ok(made.as_slice() == b"f.nc:Byte b[t=0];".as_slice())
+    has_variables(alloc, &header, b"f.nc", b"f.nc:Byte b[t=0];")
 }
 
 #[test]

@@ -156,11 +156,16 @@ const IN_THE_SECOND: [Change; 14] = [
     (180, 0xffff_ffff, 0xffff_ffff, 180),
 ];
 
+/// Whether the file with a change is refused at its place.
+fn is_refused_there(alloc: Global, change: Change) -> Result<bool, Fail> {
+    let bytes = changed(alloc, change)?;
+    Ok(bad_place(alloc, &bytes) == Some(change.3))
+}
+
 /// The first of the changes with which the file is not refused at its place.
 fn first_other(alloc: Global, changes: &[Change]) -> Result<Option<Change>, Fail> {
     for change in changes {
-        let bytes = changed(alloc, *change)?;
-        if bad_place(alloc, &bytes) != Some(change.3) {
+        if !is_refused_there(alloc, *change)? {
             return Ok(Some(*change));
         }
     }
@@ -235,11 +240,20 @@ fn wants_more(alloc: Global, front: &[u8], file_len: u64) -> Result<bool, Header
     Ok(read_front(alloc, front, file_len)?.is_none())
 }
 
+/// Whether the file cut to this front is refused so.
+fn is_refused_rightly(alloc: Global, front: &[u8]) -> bool {
+    refusal(alloc, front) == Some(refusal_at(front.len()))
+}
+
+/// Whether the front wants more of the file exactly where it ends within the header.
+fn wants_rightly(alloc: Global, front: &[u8]) -> bool {
+    wants_more(alloc, front, 220) == Ok(front.len() < 188)
+}
+
 /// Whether the file cut to this front is refused so, and the front wants more of the file exactly
 /// where it ends within the header.
 fn is_cut_rightly(alloc: Global, front: &[u8]) -> bool {
-    refusal(alloc, front) == Some(refusal_at(front.len()))
-        && wants_more(alloc, front, 220) == Ok(front.len() < 188)
+    is_refused_rightly(alloc, front) && wants_rightly(alloc, front)
 }
 
 #[test]

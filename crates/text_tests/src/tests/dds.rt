@@ -1,4 +1,5 @@
 mod members;
 mod printing;
+mod pushing;
 mod reading;
 mod refusing;

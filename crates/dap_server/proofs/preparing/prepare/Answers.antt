@@ -1,6 +1,7 @@
 use Rattle.std.proofs.Common.{subst}
 use Rattle.dap_outside.specs.Files.{IsBytes}
 use Rattle.dap_server.proofs.JoinsMade.{join_accepted}
+use Rattle.dap_server.proofs.LongestLists.{within_a_list}
 use Rattle.dap_server.proofs.Making as making
 use Rattle.dap_server.proofs.OneAnswer.{all_bytes}
 use Rattle.dap_server.proofs.preparing.prepare.Goals as goal
@@ -60,3 +61,6 @@ returns-clause-asked_before g c = c.answer_of.ensures.asked_before
 
 pub returns-clause-of_list : goal.returns-clause-of_list
 returns-clause-of_list g c = c.answer_of.ensures.of_list
+
+pub returns-clause-any_list : goal.returns-clause-any_list
+returns-clause-any_list g c = λ form. within_a_list _ _ _ _ form c.answer_of.ensures.asked

@@ -1,7 +1,9 @@
 use crate::tests::expecting::expect;
+use crate::tests::lists::add;
 use dap_types::{BaseType, Bytes, Id, List, Memory};
 use das_text::{Attribute, Attributes, Entry, Word, print};
 use std::alloc::Global;
+use std::process::Abort;
 use std::test::Fail;
 use text_lines::put_line;
 
@@ -13,6 +15,18 @@ fn quoted(alloc: Global, text: &[u8]) -> Result<Word, Memory> {
     Ok(Word::Quoted(Bytes::new(alloc, text)?))
 }
 
+/// At most two values.
+fn values(alloc: Global, first: Option<Word>, second: Option<Word>) -> Result<List<Word>, Memory> {
+    let mut values = List::new(alloc);
+    if let Some(word) = first {
+        add(&mut values, word)?;
+    }
+    if let Some(word) = second {
+        add(&mut values, word)?;
+    }
+    Ok(values)
+}
+
 /// An attribute with at most two values.
 fn attribute(
     alloc: Global,
@@ -21,18 +35,9 @@ fn attribute(
     first: Option<Word>,
     second: Option<Word>,
 ) -> Result<Entry, Memory> {
-    let mut values = List::new(alloc);
-    if let Some(word) = first {
-        values.push(word)?;
-    }
-    if let Some(word) = second {
-        values.push(word)?;
-    }
-    Ok(Entry::Attr(Attribute {
-        base,
-        name: Id::raw(alloc, name)?,
-        values,
-    }))
+    let name = Id::raw(alloc, name)?;
+    let values = values(alloc, first, second)?;
+    Ok(Entry::Attr(Attribute { base, name, values }))
 }
 
 fn container(alloc: Global, name: &[u8], entries: List<Entry>) -> Result<Entry, Memory> {
@@ -42,60 +47,97 @@ fn container(alloc: Global, name: &[u8], entries: List<Entry>) -> Result<Entry, 
 /// One variable and the file, both without attributes.
 fn empty_containers(alloc: Global) -> Result<Attributes, Memory> {
     let mut containers = List::new(alloc);
-    containers.push(container(alloc, b"v", List::new(alloc))?)?;
-    containers.push(container(alloc, b"NC_GLOBAL", List::new(alloc))?)?;
+    add(&mut containers, container(alloc, b"v", List::new(alloc))?)?;
+    add(
+        &mut containers,
+        container(alloc, b"NC_GLOBAL", List::new(alloc))?,
+    )?;
     Ok(Attributes { containers })
 }
 
-/// Values of each kind, a container in another, and texts with quotes and backslashes.
-fn nested_containers(alloc: Global) -> Result<Attributes, Memory> {
-    let mut inner = List::new(alloc);
+/// Texts with quotes and backslashes, and no value.
+fn inner(alloc: Global) -> Result<List<Entry>, Memory> {
     let quotes = quoted(alloc, b"a \"b\"")?;
     let backslashes = quoted(alloc, b"c\\d\n")?;
-    inner.push(attribute(
+    let notes = attribute(
         alloc,
         BaseType::Text,
         b"notes",
         Some(quotes),
         Some(backslashes),
-    )?)?;
-    inner.push(attribute(alloc, BaseType::Url, b"none", None, None)?)?;
-    let mut outer = List::new(alloc);
+    )?;
+    let mut inner = List::new(alloc);
+    add(&mut inner, notes)?;
+    add(
+        &mut inner,
+        attribute(alloc, BaseType::Url, b"none", None, None)?,
+    )?;
+    Ok(inner)
+}
+
+/// Numbers, that container, and an empty text.
+fn outer(alloc: Global) -> Result<List<Entry>, Memory> {
     let low = plain(alloc, b"-1")?;
     let high = plain(alloc, b"2")?;
-    outer.push(attribute(alloc, BaseType::Int16, b"range", Some(low), Some(high))?)?;
-    outer.push(container(alloc, b"more", inner)?)?;
     let empty = quoted(alloc, b"")?;
-    outer.push(attribute(alloc, BaseType::Text, b"units", Some(empty), None)?)?;
+    let mut outer = List::new(alloc);
+    add(
+        &mut outer,
+        attribute(alloc, BaseType::Int16, b"range", Some(low), Some(high))?,
+    )?;
+    add(&mut outer, container(alloc, b"more", inner(alloc)?)?)?;
+    add(
+        &mut outer,
+        attribute(alloc, BaseType::Text, b"units", Some(empty), None)?,
+    )?;
+    Ok(outer)
+}
+
+/// Values of each kind, and a container in another.
+fn nested_containers(alloc: Global) -> Result<Attributes, Memory> {
     let mut containers = List::new(alloc);
-    containers.push(container(alloc, b"v", outer)?)?;
+    add(&mut containers, container(alloc, b"v", outer(alloc)?)?)?;
     Ok(Attributes { containers })
+}
+
+/// The attributes are printed so.
+fn expect_printed<R: Abort>(
+    rt: &R,
+    alloc: Global,
+    attributes: &Attributes,
+    text: &[u8],
+) -> Result<(), Fail> {
+    expect(rt, print(alloc, attributes)?.bytes(), text);
+    Ok(())
+}
+
+#[test]
+fn empty_containers_are_printed(rt: HostRuntime) -> Result<(), Fail> {
+    let lines = b"Attributes {\n    v {\n    }\n    NC_GLOBAL {\n    }\n}\n";
+    expect_printed(&rt, rt.alloc(), &empty_containers(rt.alloc())?, lines)
 }
 
 #[test]
 fn attributes_are_printed(rt: HostRuntime) -> Result<(), Fail> {
-    let alloc = rt.alloc();
-    let empty = print(alloc, &empty_containers(alloc)?)?;
-    expect(
-        &rt,
-        empty.bytes(),
-        b"Attributes {\n    v {\n    }\n    NC_GLOBAL {\n    }\n}\n",
-    );
-    let nested = print(alloc, &nested_containers(alloc)?)?;
     let lines =
         b"Attributes {\n    v {\n        Int16 range -1, 2;\n        more {\n            String notes \"a \\\"b\\\"\", \"c\\\\d\n\";\n            Url none;\n        }\n        String units \"\";\n    }\n}\n";
-    expect(&rt, nested.bytes(), lines.as_slice());
-    Ok(())
+    expect_printed(&rt, rt.alloc(), &nested_containers(rt.alloc())?, lines)
 }
 
 /// A container in a container, so many of them, around an attribute.
 fn nested(alloc: Global, depth: u8) -> Result<List<Entry>, Memory> {
     let mut entries = List::new(alloc);
     if depth == 0 {
-        entries.push(attribute(alloc, BaseType::Byte, b"b", None, None)?)?;
+        add(
+            &mut entries,
+            attribute(alloc, BaseType::Byte, b"b", None, None)?,
+        )?;
         return Ok(entries);
     }
-    entries.push(container(alloc, b"c", nested(alloc, depth - 1)?)?)?;
+    add(
+        &mut entries,
+        container(alloc, b"c", nested(alloc, depth - 1)?)?,
+    )?;
     Ok(entries)
 }
 
@@ -116,11 +158,10 @@ fn nested_lines(alloc: Global, depth: u8) -> Result<Vec<u8>, Memory> {
 /// Containers nest at most 16 deep in a text that is read; print goes deeper.
 #[test]
 fn nested_containers_are_printed(rt: HostRuntime) -> Result<(), Fail> {
-    let alloc = rt.alloc();
     for depth in [1, 15, 16, 17, 100] {
-        let containers = nested(alloc, depth)?;
-        let text = print(alloc, &Attributes { containers })?;
-        expect(&rt, text.bytes(), nested_lines(alloc, depth)?.as_slice());
+        let containers = nested(rt.alloc(), depth)?;
+        let lines = nested_lines(rt.alloc(), depth)?;
+        expect_printed(&rt, rt.alloc(), &Attributes { containers }, &lines)?;
     }
     Ok(())
 }

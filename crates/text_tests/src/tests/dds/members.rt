@@ -1,40 +1,47 @@
-use crate::tests::expecting::expect;
+use crate::tests::dds::pushing::expect_step;
 use dap_types::Memory;
 use dds_text::{DdsReader, DdsStep};
 use std::alloc::Global;
+use std::process::Abort;
 use std::test::Fail;
 use text_lines::{put, put_number};
+
+fn put_member(text: &mut Vec<u8>, number: u32) -> Result<(), Memory> {
+    put(text, b"Byte ")?;
+    put_number(text, number)?;
+    put(text, b";")
+}
 
 /// The front of a text, with so many members.
 fn front(alloc: Global, members: u32) -> Result<Vec<u8>, Memory> {
     let mut text = Vec::from_slice(alloc, b"Dataset{")?;
     for number in 0..members {
-        put(&mut text, b"Byte ")?;
-        put_number(&mut text, number)?;
-        put(&mut text, b";")?;
+        put_member(&mut text, number)?;
     }
     Ok(text)
 }
 
-fn step(alloc: Global, text: &[u8]) -> Result<DdsStep, Memory> {
+/// Behind the first piece of a text this is said.
+fn expect_first<R: Abort>(
+    rt: &R,
+    alloc: Global,
+    text: &[u8],
+    expected: DdsStep,
+) -> Result<(), Fail> {
     let mut reader = DdsReader::new(alloc, 0);
-    reader.push(text)
+    expect_step(rt, &mut reader, text, expected)
 }
 
 /// One member more than a million is bad at its first word.
 #[test]
 fn a_million_members_are_read(rt: HostRuntime) -> Result<(), Fail> {
-    let alloc = rt.alloc();
-    let mut text = front(alloc, 1_000_000)?;
+    let mut text = front(rt.alloc(), 1_000_000)?;
     let length = text.len();
     put(&mut text, b"Byte b;}d;")?;
-    let bad = DdsStep::Bad {
-        place: length as u64,
-    };
-    expect(&rt, step(alloc, &text)?, bad);
+    let place = length as u64;
+    expect_first(&rt, rt.alloc(), &text, DdsStep::Bad { place })?;
     text.truncate(length);
     put(&mut text, b"}d;")?;
-    let done = DdsStep::Done { used: text.len() };
-    expect(&rt, step(alloc, &text)?, done);
-    Ok(())
+    let used = text.len();
+    expect_first(&rt, rt.alloc(), &text, DdsStep::Done { used })
 }

@@ -1,3 +1,4 @@
+use crate::tests::dds::pushing::{expect_step, push};
 use crate::tests::expecting::expect;
 use dap_types::{Bytes, Dataset, Memory};
 use dds_text::{DdsReader, DdsStep, print};
@@ -46,36 +47,45 @@ const OTHERS: [(&[u8], &[u8]); 8] = [
     ),
 ];
 
+/// Whether this is said behind a piece.
+fn says(reader: &mut DdsReader, piece: &[u8], step: DdsStep) -> Result<bool, Memory> {
+    Ok(push(reader, piece)? == step)
+}
+
 /// Pushes the text in two pieces. The dataset has to end with it, and at no byte before.
 fn read(alloc: Global, text: &[u8], cut: usize) -> Result<Option<Dataset>, Memory> {
+    let (front, left) = text.split_at(cut.min(text.len()));
     let mut reader = DdsReader::new(alloc, 7);
-    let mut left = text;
-    if cut < text.len() {
-        if reader.push(&text[..cut])? != DdsStep::More {
-            return Ok(None);
-        }
-        left = &text[cut..];
+    let is_read = says(&mut reader, front, DdsStep::More)?
+        && says(&mut reader, left, DdsStep::Done { used: left.len() })?
+        && says(&mut reader, text, DdsStep::Done { used: 0 })?;
+    if is_read {
+        return Ok(reader.dataset());
     }
-    if reader.push(left)? != (DdsStep::Done { used: left.len() }) {
-        return Ok(None);
-    }
-    if reader.push(text)? != (DdsStep::Done { used: 0 }) {
-        return Ok(None);
-    }
-    Ok(reader.dataset())
+    Ok(None)
 }
 
 fn read_back(alloc: Global, text: &[u8], cut: usize) -> Result<Bytes, Fail> {
-    let Some(dataset) = read(alloc, text, cut)? else {
-        return Err(Fail::new("not read"));
-    };
+    let dataset = read(alloc, text, cut)?.ok_or("not read")?;
     Ok(print(alloc, &dataset)?)
+}
+
+/// The text is read in two pieces, and printed so.
+fn expect_back<R: Abort>(
+    rt: &R,
+    alloc: Global,
+    text: &[u8],
+    cut: usize,
+    printed: &[u8],
+) -> Result<(), Fail> {
+    expect(rt, read_back(alloc, text, cut)?.bytes(), printed);
+    Ok(())
 }
 
 /// The text is read in any two pieces, and printed so.
 fn expect_read<R: Abort>(rt: &R, alloc: Global, text: &[u8], printed: &[u8]) -> Result<(), Fail> {
     for cut in 0..text.len() {
-        expect(rt, read_back(alloc, text, cut)?.bytes(), printed);
+        expect_back(rt, alloc, text, cut, printed)?;
     }
     Ok(())
 }
@@ -99,16 +109,18 @@ fn texts_are_read_in_two_pieces(rt: HostRuntime) -> Result<(), Fail> {
     Ok(())
 }
 
+fn dataset_of(reader: DdsReader) -> Result<Dataset, Fail> {
+    Ok(reader.dataset().ok_or("no dataset")?)
+}
+
 /// Behind the end of a dataset no byte is used, and none is looked at.
 #[test]
 fn bytes_behind_the_end_are_left(rt: HostRuntime) -> Result<(), Fail> {
     let mut reader = DdsReader::new(rt.alloc(), 0);
     let text = b"Dataset { Int32 a; } f;\nData:\n\0\0\0\x05";
-    expect(&rt, reader.push(text)?, DdsStep::Done { used: 23 });
-    expect(&rt, reader.push(b"}")?, DdsStep::Done { used: 0 });
-    let Some(dataset) = reader.dataset() else {
-        return Err(Fail::new("no dataset"));
-    };
+    expect_step(&rt, &mut reader, text, DdsStep::Done { used: 23 })?;
+    expect_step(&rt, &mut reader, b"}", DdsStep::Done { used: 0 })?;
+    let dataset = dataset_of(reader)?;
     expect(&rt, dataset.name.bytes(), b"f");
     expect(&rt, dataset.members.items().len(), 1);
     Ok(())

@@ -1,9 +1,9 @@
-ghost use Rattle.std.specs.Prelude.{◌≤◌, length};
-
+use crate::tests::dds::pushing::{expect_step, push};
 use crate::tests::expecting::expect;
 use dap_types::Memory;
 use dds_text::{DdsReader, DdsStep};
 use std::alloc::Global;
+use std::process::Abort;
 use std::test::Fail;
 
 /// Tokens that the grammar does not let stand, outside of what has parts: each row is a good front, and
@@ -155,13 +155,24 @@ const LIMITS: [(&str, &str); 5] = [
 ];
 
 /// What is said behind each of two pieces. Places count from 100.
-fn steps(alloc: Global, text: &[u8], cut: usize) -> Result<(DdsStep, DdsStep), Memory>
-    requires { cut ≤ length text.now }
-{
+fn steps(alloc: Global, text: &[u8], cut: usize) -> Result<(DdsStep, DdsStep), Memory> {
+    let (front, left) = text.split_at(cut.min(text.len()));
     let mut reader = DdsReader::new(alloc, 100);
-    let first = reader.push(&text[..cut])?;
-    let second = reader.push(&text[cut..])?;
+    let first = push(&mut reader, front)?;
+    let second = push(&mut reader, left)?;
     Ok((first, second))
+}
+
+/// Whether the second of two steps tells the bad token, and the first one does or waits for more. It does not
+/// where it comes too soon.
+fn tells(steps: (DdsStep, DdsStep), bad: DdsStep, too_soon: bool) -> bool {
+    let (first, second) = steps;
+    let fits = if first == bad {
+        !too_soon
+    } else {
+        first == DdsStep::More
+    };
+    fits && second == bad
 }
 
 /// Whether the bad token is told however the text is cut in two, and no sooner than it is whole.
@@ -170,55 +181,60 @@ fn is_told(alloc: Global, text: &[u8], good: &str) -> Result<bool, Memory> {
         place: 100 + good.len() as u64,
     };
     for cut in 0..text.len() {
-        let (first, second) = steps(alloc, text, cut)?;
-        if second != bad || (first != bad && first != DdsStep::More) {
-            return Ok(false);
-        }
-        if first == bad && cut <= good.len() {
+        if !tells(steps(alloc, text, cut)?, bad, cut <= good.len()) {
             return Ok(false);
         }
     }
     Ok(true)
 }
 
+/// Whether the bad token of a row is told so.
+fn row_is_told(alloc: Global, good: &str, rest: &str) -> Result<bool, Memory> {
+    let mut text = Vec::from_slice(alloc, good.as_bytes())?;
+    text.extend_from_slice(rest.as_bytes())?;
+    is_told(alloc, text.as_slice(), good)
+}
+
 /// The first row whose bad token is not told so.
 fn untold(alloc: Global, rows: &[(&str, &str)]) -> Result<Option<usize>, Memory> {
     for (row, (good, rest)) in rows.iter().enumerate() {
-        let mut text = Vec::from_slice(alloc, good.as_bytes())?;
-        text.extend_from_slice(rest.as_bytes())?;
-        if !is_told(alloc, text.as_slice(), good)? {
+        if !row_is_told(alloc, good, rest)? {
             return Ok(Some(row));
         }
     }
     Ok(None)
 }
 
+/// The bad token of each row is told so.
+fn expect_told<R: Abort>(rt: &R, alloc: Global, rows: &[(&str, &str)]) -> Result<(), Fail> {
+    expect(rt, untold(alloc, rows)?, None);
+    Ok(())
+}
+
 #[test]
 fn the_first_bad_token_is_told(rt: HostRuntime) -> Result<(), Fail> {
-    expect(&rt, untold(rt.alloc(), &OUTSIDE)?, None);
-    expect(&rt, untold(rt.alloc(), &INSIDE)?, None);
-    expect(&rt, untold(rt.alloc(), &SIZES)?, None);
-    expect(&rt, untold(rt.alloc(), &NAMES)?, None);
-    expect(&rt, untold(rt.alloc(), &MAPS)?, None);
-    expect(&rt, untold(rt.alloc(), &LIMITS)?, None);
-    Ok(())
+    expect_told(&rt, rt.alloc(), &OUTSIDE)?;
+    expect_told(&rt, rt.alloc(), &INSIDE)?;
+    expect_told(&rt, rt.alloc(), &SIZES)
+}
+
+#[test]
+fn what_does_not_fit_is_told(rt: HostRuntime) -> Result<(), Fail> {
+    expect_told(&rt, rt.alloc(), &NAMES)?;
+    expect_told(&rt, rt.alloc(), &MAPS)?;
+    expect_told(&rt, rt.alloc(), &LIMITS)
 }
 
 /// A word is whole once the byte behind it is there.
 #[test]
 fn a_word_is_whole_once_it_ends(rt: HostRuntime) -> Result<(), Fail> {
     let mut reader = DdsReader::new(rt.alloc(), 0);
-    for (piece, step) in [
-        (
-            b"Dataset {\n    Int32 a;\n    Int32 a".as_slice(),
-            DdsStep::More,
-        ),
-        (b"".as_slice(), DdsStep::More),
-        (b";".as_slice(), DdsStep::Bad { place: 33 }),
-        (b"} f;".as_slice(), DdsStep::Bad { place: 33 }),
-    ] {
-        expect(&rt, reader.push(piece)?, step);
-    }
+    let front = b"Dataset {\n    Int32 a;\n    Int32 a";
+    let bad = DdsStep::Bad { place: 33 };
+    expect_step(&rt, &mut reader, front, DdsStep::More)?;
+    expect_step(&rt, &mut reader, b"", DdsStep::More)?;
+    expect_step(&rt, &mut reader, b";", bad)?;
+    expect_step(&rt, &mut reader, b"} f;", bad)?;
     assert!(rt; reader.dataset().is_none());
     Ok(())
 }
@@ -229,18 +245,10 @@ fn a_text_has_a_limit(rt: HostRuntime) -> Result<(), Fail> {
     let mut reader = DdsReader::new(rt.alloc(), 5);
     let piece = [b' '; 4096];
     for _ in 0..4095 {
-        expect(&rt, reader.push(&piece)?, DdsStep::More);
+        expect_step(&rt, &mut reader, &piece, DdsStep::More)?;
     }
-    expect(&rt, reader.push(&piece[1..])?, DdsStep::More);
-    expect(
-        &rt,
-        reader.push(&piece)?,
-        DdsStep::Bad { place: 16_777_221 },
-    );
-    expect(
-        &rt,
-        reader.push(b"Dataset")?,
-        DdsStep::Bad { place: 16_777_221 },
-    );
-    Ok(())
+    let bad = DdsStep::Bad { place: 16_777_221 };
+    expect_step(&rt, &mut reader, &piece[1..], DdsStep::More)?;
+    expect_step(&rt, &mut reader, &piece, bad)?;
+    expect_step(&rt, &mut reader, b"Dataset", bad)
 }
