@@ -1,5 +1,7 @@
 -- The files of the lines of a list, opened one after the other.
-use Rattle.std.proofs.Common.{◌≡◌, ℕ, ◌+◌, ◌≤◌, ◌<◌, List, [], ◌∷◌, ◌++◌, All, IsTrue, drop, get_or, length, Option, Ok, Err, sym, ap, ◌∙◌, subst, arith}
+use Rattle.std.proofs.Common.{◌≡◌, ℕ, ◌+◌, ◌≤◌, ◌<◌, List, [], ◌∷◌, ◌++◌, All, IsTrue, drop, get_or, length, Option, Ok, Err, sym, ap, ◌∙◌, subst, inl, inr, arith}
+use Rattle.std.specs.Prelude.{◌⊎◌}
+use Rattle.std.proofs.lemmas.List.Sums.{sum_by_more}
 use Rattle.std.proofs.lemmas.List.{drop_all, drop_more}
 use Rattle.std.proofs.lemmas.List.Elements.{All-get_or}
 use Rattle.dap_outside.specs.Files.{Told}
@@ -7,7 +9,8 @@ use Rattle.netcdf_source.specs.File.{FileHeader}
 use Rattle.join_source.specs.Names.{is_member_name}
 use Rattle.dap_server.proofs.Lines.{Reached, bad, begin, line_first, line_within, one_more, whole, zip_push}
 use Rattle.dap_server.specs.Joins.{IsMember, Member, Members}
-use Rattle.dap_server.specs.inner.Members.{AreFilesOf, AreHeadersOf, IsFileOf, IsHeaderOf, most_in_line, most_in_lines}
+use Rattle.dap_errors.specs.declared.cause.Cause.{Cause}
+use Rattle.dap_server.specs.inner.Members.{AreFilesOf, AreHeadersOf, AsksLine, AsksLines, IsFileOf, IsHeaderOf, most_in_first, most_in_line, most_in_lines}
 use Rattle.dap_server.specs.inner.Opening.{WhereRefused}
 use Rattle.dap_server.specs.declared.no_answer.Stop.{Stop}
 use Rattle.dap_server.specs.declared.no_answer.Stop.TheVariants.{Refused, ShelfFault, Memory}
@@ -66,6 +69,21 @@ module _ (names : List (List ℕ)) (k : ℕ) (name text : List ℕ) (lt : k < le
 
   pub asked_within : (told told' : Told) (start before now : ℕ) → told' ≡ told → before + most_in_lines told (drop k names) ≤ start → now ≤ before + most_in_line told' text → now ≤ start
   asked_within told told' start before now same so_far own = omega (arith, so_far, own, line_same told told' same, left told, line_within told name (drop (k + 1) names))
+
+  -- and of the lines so far
+  first_more : (told : Told) → most_in_first told (k + 1) names ≡ most_in_first told k names + most_in_line told name
+  first_more told = sum_by_more (λ n. most_in_line told n) names k name lt ∙ ap (λ n. most_in_first told k names + most_in_line told n) (sym at)
+
+  pub asked_first : (told told' : Told) (start before now : ℕ) → told' ≡ told → before ≤ start + most_in_first told k names → now ≤ before + most_in_line told' text → now ≤ start + most_in_first told (k + 1) names
+  asked_first told told' start before now same so_far own = omega (arith, so_far, own, line_same told told' same, first_more told)
+
+  pub line_told : (told told' : Told) (start before now : ℕ) (cause : Cause) → told' ≡ told → before ≤ start + most_in_first told k names → AsksLine told' text (k + 1) cause before now → AsksLines told names cause start now
+  line_told told told' start before now cause same so_far own = λ count behind. of_count count (own count behind) where
+    of_count : (count : ℕ) → ((k + 1 ≡ count + 1) × (now ≤ before)) ⊎ ((k + 1 ≡ count) × (now ≤ before + most_in_line told' text)) → now ≤ start + most_in_first told count names
+    of_count count (inl (is, asked)) =
+        let same : k ≡ count = omega (arith, is) in
+        subst (λ n. now ≤ start + most_in_first told n names) same (omega (arith, so_far, asked))
+    of_count count (inr (is, asked)) = subst (λ n. now ≤ start + most_in_first told n names) is (asked_first told told' start before now same so_far asked)
 
 -- all lines
 pub all_opened : {F : Type 0} (told : Told) (names : List (List ℕ)) (k : ℕ) (content content' : F → Option (List ℕ)) (size_of size_of' : F → ℕ) (headers : List FileHeader) (fs : List F) → length names ≤ k → content' ≡ content → size_of' ≡ size_of

@@ -229,7 +229,7 @@ told_first files name bytes form there =
 pub untold_first : (name : List ℕ) → form_of name ≡ Some joined → most_first None name ≡ 65536 + 64 * 1048576
 untold_first name form = ap most_of_form form
 
-size_is : {F : Type 0} (content : F → Option (List ℕ)) (file : F) (size : ℕ) (b : List ℕ) → HasSize (content file) size → content file ≡ Some b → size ≡ length b
+pub size_is : {F : Type 0} (content : F → Option (List ℕ)) (file : F) (size : ℕ) (b : List ℕ) → HasSize (content file) size → content file ≡ Some b → size ≡ length b
 size_is content file size b has holds = (rw holds at has)
 
 pub list_first : {F : Type 0} (told : Told) (name_of content : F → Option (List ℕ)) (name : List ℕ) (file : F) (size : ℕ) → form_of name ≡ Some joined → Finds told name_of content name (Some file) → HasSize (content file) size

@@ -1,5 +1,5 @@
 -- What answering a target may ask of a shelf (this project's).
-use Rattle.std.specs.Prelude.{◌≡◌, ℕ, ◌+◌, ◌*◌, ◌≤◌, Bool, true, false, ◌&&◌, List, [], ◌∷◌, ◌++◌, length, min, nat_lt, if◌then◌else◌, codes, is_some, Option, Some, None, Result, Ok, Err}
+use Rattle.std.specs.Prelude.{◌≡◌, ℕ, ◌+◌, ◌*◌, ◌≤◌, Bool, true, false, ◌&&◌, List, [], ◌∷◌, ◌++◌, length, min, nat_lt, sum_by, take, if◌then◌else◌, codes, is_some, Option, Some, None, Result, Ok, Err}
 use Rattle.std.specs.Option.{option_map_or}
 use Rattle.dap_types.specs.Limits.{most_header, most_lines, most_piece, most_saved, most_table}
 use Rattle.dap_outside.specs.Files.{Told}
@@ -69,9 +69,24 @@ IsBehindLines (Damaged (NoMember line)) count = line ≡ count + 1
 IsBehindLines (Damaged (BadMember line)) count = line ≡ count
 IsBehindLines other count = ⊥
 
--- then their list and the front of each were asked at most
-abbrev pub IsAskedBefore : Cause → ℕ → ℕ → Type 0
-IsAskedBefore cause before now = (count : ℕ) → IsBehindLines cause count → now ≤ before + most_of_joined count
+-- of the file of a name no more than its front
+abbrev pub most_of_name : Files → List ℕ → ℕ
+most_of_name files name = option_map_or (λ file. min (length file) most_header) (files name) 0
+
+-- of the files of the first lines of a list, so many
+abbrev pub most_of_first : Files → ℕ → Result (List (List ℕ)) ListRefusal → ℕ
+most_of_first files count (Ok names) = sum_by (λ name. most_of_name files name) (take count names)
+most_of_first files count (Err refusal) = 0
+
+-- of the list of a name, which is not read where it is too long, and of the files of its first lines
+abbrev pub most_before : Told → List ℕ → ℕ → ℕ
+most_before None name count = most_of_joined count
+most_before (Some files) name count =
+    option_map_or (λ bytes. (if nat_lt most_piece (length bytes) then 0 else length bytes) + most_of_first files count (list_of bytes)) (files name) 0
+
+-- then no more was asked than their list and the front of each: where the shelf tells its files, of those that it has
+abbrev pub IsAskedBefore : Told → List ℕ → Cause → ℕ → ℕ → Type 0
+IsAskedBefore told name cause before now = (count : ℕ) → IsBehindLines cause count → now ≤ before + most_before told name count
 
 -- the most that is read before an answer: the front of a netCDF file, another file whole, or a list and the
 -- front of each file that it names

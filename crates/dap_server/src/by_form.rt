@@ -40,7 +40,7 @@ pub fn das_by_form<S: Shelf>(alloc: Global, shelf: &mut S, name: &str) -> Result
     ensures stays { StaysBut result (S.faults shelf.old) (S.faults shelf.new) }
     ensures files { S.files shelf.new ≡ S.files shelf.old }
     ensures asked { S.asked shelf.new ≤ S.asked shelf.old + most_first (S.files shelf.old) name.now }
-    ensures asked_before { form_of name.now ≡ Some joined → IfErr result (WhereRefused (λ why. IsAskedBefore why (S.asked shelf.old) (S.asked shelf.new))) }
+    ensures asked_before { form_of name.now ≡ Some joined → IfErr result (WhereRefused (λ why. IsAskedBefore (S.files shelf.old) name.now why (S.asked shelf.old) (S.asked shelf.new))) }
     ensures list_text { form_of name.now ≡ Some joined → IfOk result (λ text. (query : List ℕ) → MayGiveWithin (S.files shelf.old) (asked_as Kind.Das name.now query) (S.asked shelf.old) (S.asked shelf.new) (Ok (result_text Kind.Das text))) }
     ensures list_refused { form_of name.now ≡ Some joined → IfErr result (WhereRefused (λ why. (query : List ℕ) → MayGiveWithin (S.files shelf.old) (asked_as Kind.Das name.now query) (S.asked shelf.old) (S.asked shelf.new) (Err why))) }
     ensures untouched { form_of name.now ≡ None → shelf.new ≡ shelf.old }
@@ -65,7 +65,7 @@ pub fn dds_by_form<S: Shelf>(
     ensures stays { StaysBut result (S.faults shelf.old) (S.faults shelf.new) }
     ensures files { S.files shelf.new ≡ S.files shelf.old }
     ensures asked { S.asked shelf.new ≤ S.asked shelf.old + most_first (S.files shelf.old) name.now }
-    ensures asked_before { form_of name.now ≡ Some joined → IfErr result (WhereRefused (λ why. IsAskedBefore why (S.asked shelf.old) (S.asked shelf.new))) }
+    ensures asked_before { form_of name.now ≡ Some joined → IfErr result (WhereRefused (λ why. IsAskedBefore (S.files shelf.old) name.now why (S.asked shelf.old) (S.asked shelf.new))) }
     ensures list_text { form_of name.now ≡ Some joined → IfOk result (λ text. MayGiveWithin (S.files shelf.old) (asked_as Kind.Dds name.now query.now) (S.asked shelf.old) (S.asked shelf.new) (Ok (result_text Kind.Dds text))) }
     ensures list_refused { form_of name.now ≡ Some joined → IfErr result (WhereRefused (λ why. MayGiveWithin (S.files shelf.old) (asked_as Kind.Dds name.now query.now) (S.asked shelf.old) (S.asked shelf.new) (Err why))) }
     ensures untouched { form_of name.now ≡ None → shelf.new ≡ shelf.old }

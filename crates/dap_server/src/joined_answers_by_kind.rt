@@ -28,7 +28,7 @@ pub fn joined_das<S: Shelf>(alloc: Global, shelf: &mut S, name: &str) -> Result<
     ensures stays { StaysBut result (S.faults shelf.old) (S.faults shelf.new) }
     ensures files { S.files shelf.new ≡ S.files shelf.old }
     ensures asked { S.asked shelf.new ≤ S.asked shelf.old + most_first (S.files shelf.old) name.now }
-    ensures asked_before { IfErr result (WhereRefused (λ why. IsAskedBefore why (S.asked shelf.old) (S.asked shelf.new))) }
+    ensures asked_before { IfErr result (WhereRefused (λ why. IsAskedBefore (S.files shelf.old) name.now why (S.asked shelf.old) (S.asked shelf.new))) }
 {
     let (joined, _files) = open_joined(alloc, shelf, name)?;
     Ok(joined_das_text(alloc, &joined)?)
@@ -49,7 +49,7 @@ pub fn joined_dds<S: Shelf>(
     ensures stays { StaysBut result (S.faults shelf.old) (S.faults shelf.new) }
     ensures files { S.files shelf.new ≡ S.files shelf.old }
     ensures asked { S.asked shelf.new ≤ S.asked shelf.old + most_first (S.files shelf.old) name.now }
-    ensures asked_before { IfErr result (WhereRefused (λ why. IsAskedBefore why (S.asked shelf.old) (S.asked shelf.new))) }
+    ensures asked_before { IfErr result (WhereRefused (λ why. IsAskedBefore (S.files shelf.old) name.now why (S.asked shelf.old) (S.asked shelf.new))) }
 {
     let (joined, _files) = open_joined(alloc, shelf, name)?;
     joined_dds_text(alloc, &joined, query)
@@ -70,7 +70,7 @@ pub fn joined_dods<S: Shelf>(
     ensures stays { StaysBut result (S.faults shelf.old) (S.faults shelf.new) }
     ensures files { S.files shelf.new ≡ S.files shelf.old }
     ensures asked { S.asked shelf.new ≤ S.asked shelf.old + most_first (S.files shelf.old) name.now }
-    ensures asked_before { IfErr result (WhereRefused (λ why. IsAskedBefore why (S.asked shelf.old) (S.asked shelf.new))) }
+    ensures asked_before { IfErr result (WhereRefused (λ why. IsAskedBefore (S.files shelf.old) name.now why (S.asked shelf.old) (S.asked shelf.new))) }
     ensures of_list { IfOk result (λ p. (text : List ℕ) × MayGiveWithin (S.files shelf.old) (asked_as Kind.Dods name.now query.now) (S.asked shelf.old) (S.asked shelf.new) (Ok (result_text Kind.Dods text))) }
     ensures asked_lines { IfOk result (λ p. S.asked shelf.new ≤ S.asked shelf.old + most_of_joined (length p.1)) }
 {

@@ -111,7 +111,7 @@ fn open_member<S: Shelf>(
     ensures contents { S.content shelf.new ≡ S.content shelf.old }
     ensures sizes { S.size_of shelf.new ≡ S.size_of shelf.old }
     ensures asked { S.asked shelf.new ≤ S.asked shelf.old + most_in_line (S.files shelf.old) name.now }
-    ensures asked_before { IfErr result (WhereRefused (λ cause. AsksLine line cause (S.asked shelf.old) (S.asked shelf.new))) }
+    ensures asked_before { IfErr result (WhereRefused (λ cause. AsksLine (S.files shelf.old) name.now line cause (S.asked shelf.old) (S.asked shelf.new))) }
 {
     let mut file = find_member(shelf, text_of(name), line)?;
     let header = member_header(alloc, shelf, &mut file, line)?;
@@ -136,7 +136,7 @@ pub fn open_members<S: Shelf>(
     ensures contents { S.content shelf.new ≡ S.content shelf.old }
     ensures sizes { S.size_of shelf.new ≡ S.size_of shelf.old }
     ensures asked { S.asked shelf.new ≤ S.asked shelf.old + most_in_lines (S.files shelf.old) names.now }
-    ensures asked_before { IfErr result (WhereRefused (λ cause. AsksLines cause (S.asked shelf.old) (S.asked shelf.new))) }
+    ensures asked_before { IfErr result (WhereRefused (λ cause. AsksLines (S.files shelf.old) names.now cause (S.asked shelf.old) (S.asked shelf.new))) }
 {
     let mut headers = List::new(alloc);
     let mut files = List::new(alloc);

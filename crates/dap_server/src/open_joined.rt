@@ -115,7 +115,7 @@ pub fn open_joined<S: Shelf>(
     ensures stays { StaysBut result (S.faults shelf.old) (S.faults shelf.new) }
     ensures files { S.files shelf.new ≡ S.files shelf.old }
     ensures asked { S.asked shelf.new ≤ S.asked shelf.old + most_first (S.files shelf.old) name.now }
-    ensures asked_before { IfErr result (WhereRefused (λ cause. IsAskedBefore cause (S.asked shelf.old) (S.asked shelf.new))) }
+    ensures asked_before { IfErr result (WhereRefused (λ cause. IsAskedBefore (S.files shelf.old) name.now cause (S.asked shelf.old) (S.asked shelf.new))) }
     ensures asked_lines { IfOk result (λ p. S.asked shelf.new ≤ S.asked shelf.old + most_of_joined (length p.1)) }
 {
     let mut list = find(shelf, name)?;

@@ -92,7 +92,7 @@ fn data_answer<R: Threads + Sync, S: Shelf>(
     ensures kept { WhereNoShelfFault result (S.faults shelf.new ≡ S.faults shelf.old) }
     ensures files { S.files shelf.new ≡ S.files shelf.old }
     ensures asked { S.asked shelf.new ≤ S.asked shelf.old + most_first (S.files shelf.old) name.now }
-    ensures asked_before { form_of name.now ≡ Some joined → WhereRefuse result (λ cause. IsAskedBefore cause (S.asked shelf.old) (S.asked shelf.new)) }
+    ensures asked_before { form_of name.now ≡ Some joined → WhereRefuse result (λ cause. IsAskedBefore (S.files shelf.old) name.now cause (S.asked shelf.old) (S.asked shelf.new)) }
     ensures asked_lines { WhereJoined result (λ body files. S.asked shelf.new ≤ S.asked shelf.old + most_of_joined (length files)) }
     ensures of_list { form_of name.now ≡ Some joined → WhereOfList result (MayGiveWithin (S.files shelf.old) (asked_as Kind.Dods name.now query.now) (S.asked shelf.old) (S.asked shelf.new)) }
     ensures untouched { form_of name.now ≡ None → shelf.new ≡ shelf.old }
@@ -123,7 +123,7 @@ fn answer_of<R: Threads + Sync, S: Shelf>(
     ensures kept { WhereNoShelfFault result (S.faults shelf.new ≡ S.faults shelf.old) }
     ensures files { S.files shelf.new ≡ S.files shelf.old }
     ensures asked { S.asked shelf.new ≤ S.asked shelf.old + most_first (S.files shelf.old) target.now.name }
-    ensures asked_before { form_of target.now.name ≡ Some joined → WhereRefuse result (λ cause. IsAskedBefore cause (S.asked shelf.old) (S.asked shelf.new)) }
+    ensures asked_before { form_of target.now.name ≡ Some joined → WhereRefuse result (λ cause. IsAskedBefore (S.files shelf.old) target.now.name cause (S.asked shelf.old) (S.asked shelf.new)) }
     ensures asked_lines { WhereJoined result (λ body files. S.asked shelf.new ≤ S.asked shelf.old + most_of_joined (length files)) }
     ensures of_list { form_of target.now.name ≡ Some joined → WhereOfList result (MayGiveWithin (S.files shelf.old) (asked_of target.now) (S.asked shelf.old) (S.asked shelf.new)) }
     ensures untouched { asks_shelf (asked_of target.now) ≡ false → shelf.new ≡ shelf.old }
@@ -200,7 +200,7 @@ pub fn prepare<R: Threads + Sync, S: Shelf>(
     ensures asked_lines { WhereJoined result (λ body files. S.asked shelf.new ≤ S.asked shelf.old + most_of_joined (length files)) }
 
     // Where a line of a list is told, its list and the front of each file up to that line.
-    ensures asked_before { form_of target.now.name ≡ Some joined → WhereRefuse result (λ cause. IsAskedBefore cause (S.asked shelf.old) (S.asked shelf.new)) }
+    ensures asked_before { form_of target.now.name ≡ Some joined → WhereRefuse result (λ cause. IsAskedBefore (S.files shelf.old) target.now.name cause (S.asked shelf.old) (S.asked shelf.new)) }
 
     ensures untouched { asks_shelf (asked_of target.now) ≡ false → shelf.new ≡ shelf.old }
 {

@@ -1,8 +1,13 @@
 //! Small files, joined, and the body that a client expects of them.
 
-use crate::testing::{body_of, expect_body, file_of, joined, r};
-use join_source::JoinRefusal;
+use crate::testing::{body_made, body_of, expect_body, file_of, joined, r};
+use dap_types::List;
+use join_source::{JoinRefusal, Joined, join};
+use netcdf_source::{Header, read_header};
+use std::alloc::Global;
+use std::process::Abort;
 use std::test::Fail;
+use xdr_encode::BodyRefusal;
 
 /// Int32 `v[y = 3][x = 4]`, the numbers from 0 on.
 const V: [u32; 36] = [
@@ -35,6 +40,23 @@ const fn c(records: u32) -> [u32; 24] {
         0x63000000, 2, 0, 1, 0, 0, 2, 4, 0x60,
     ]
 }
+
+/// String `c[t]` of one char, whose records stand side by side.
+const fn k(records: u32) -> [u32; 20] {
+    [
+        0x43444601, records, 0x0a, 1, 1, 0x74000000, 0, 0, 0, 0x0b, 1, 1, 0x63000000, 1, 0, 0, 0,
+        2, 4, 0x50,
+    ]
+}
+
+/// Byte `a[t][n = 65536]` of 16,384 records.
+const WIDE: [u32; 24] = [
+    0x43444601, 0x4000, 0x0a, 2, 1, 0x74000000, 0, 1, 0x6e000000, 0x10000, 0, 0, 0x0b, 1, 1,
+    0x61000000, 2, 0, 1, 0, 0, 1, 0x10000, 0x60,
+];
+
+/// The bytes of a file of that header.
+const WIDE_LENGTH: u64 = 0x4000_0060;
 
 /// Three record variables, whose parts of a record are padded to four bytes each: Byte `a[t][n = 3]`, Byte `b[t]`
 /// and Int16 `s[t]`.
@@ -197,6 +219,51 @@ fn texts(rt: HostRuntime) -> Result<(), Fail> {
         b"",
         all,
         &[3, 2, 0x61620000, 4, 0x7778797a, 1, 0x71000000],
+    )?;
+    let some = b"Dataset {\n    String c[t = 2];\n} j.join;\n";
+    expect_body(
+        &rt,
+        alloc,
+        &files,
+        b"c[1:2]",
+        some,
+        &[2, 4, 0x7778797a, 1, 0x71000000],
+    )?;
+    expect_body(
+        &rt,
+        alloc,
+        &files,
+        b"c[0:2:2]",
+        some,
+        &[2, 2, 0x61620000, 1, 0x71000000],
+    )
+}
+
+#[test]
+fn texts_of_one_char(rt: HostRuntime) -> Result<(), Fail> {
+    let alloc = rt.alloc();
+    let one = file_of(alloc, &k(3), b"a\x00b")?;
+    let two = file_of(alloc, &k(2), b"cd")?;
+    let files = [one.as_slice(), two.as_slice()];
+    let all = b"Dataset {\n    String c[t = 5];\n} j.join;\n";
+    expect_body(
+        &rt,
+        alloc,
+        &files,
+        b"",
+        all,
+        &[
+            5, 1, 0x61000000, 0, 1, 0x62000000, 1, 0x63000000, 1, 0x64000000,
+        ],
+    )?;
+    let some = b"Dataset {\n    String c[t = 2];\n} j.join;\n";
+    expect_body(
+        &rt,
+        alloc,
+        &files,
+        b"c[1:3:4]",
+        some,
+        &[2, 0, 1, 0x64000000],
     )
 }
 
@@ -244,4 +311,52 @@ fn too_many_records(rt: HostRuntime) -> Result<(), Fail> {
         Err(JoinRefusal::TooManyRecords) => Ok(()),
         _ => panic!(&rt; "joined"),
     }
+}
+
+/// The header of the wide file, of which nothing but the front is there.
+fn wide_header<R: Abort>(rt: &R, alloc: Global) -> Result<Header, Fail> {
+    let mut front = file_of(alloc, &WIDE, b"")?;
+    front.resize(1_048_576, 0)?;
+    assert!(rt; front.len() == 1_048_576);
+    let Ok(header) = read_header(alloc, &front, WIDE_LENGTH) else {
+        panic!(rt; "no header");
+    };
+    Ok(header)
+}
+
+/// Two of them joined.
+fn wide_joined<R: Abort>(rt: &R, alloc: Global) -> Result<Joined, Fail> {
+    let mut headers: List<Header> = List::new(alloc);
+    headers.push(wide_header(rt, alloc)?)?;
+    headers.push(wide_header(rt, alloc)?)?;
+    assert!(rt; headers.items().len() == 2);
+    let Ok(joined) = join(alloc, headers, b"j.join") else {
+        panic!(rt; "not joined");
+    };
+    Ok(joined)
+}
+
+/// What the constraint leaves of joined files is too large in its first leaf, or is not.
+fn expect_large<R: Abort>(
+    rt: &R,
+    alloc: Global,
+    joined: &Joined,
+    query: &[u8],
+    is_large: bool,
+) -> Result<(), Fail> {
+    let refusal = body_made(rt, alloc, joined, query)?.err();
+    let expected = is_large.then_some(BodyRefusal::TooLarge { leaf: 1 });
+    assert!(rt; refusal == expected);
+    Ok(())
+}
+
+/// 32,768 records of 65,536 bytes are one element more than a leaf may have, which is in neither file alone.
+#[test]
+fn a_leaf_of_too_many_elements(rt: HostRuntime) -> Result<(), Fail> {
+    let alloc = rt.alloc();
+    let joined = wide_joined(&rt, alloc)?;
+    expect_large(&rt, alloc, &joined, b"", true)?;
+    expect_large(&rt, alloc, &joined, b"a[0:32767][0:65534]", false)?;
+    expect_large(&rt, alloc, &joined, b"a[0:32766][0:65535]", false)?;
+    expect_large(&rt, alloc, &joined, b"a[0:2:32767][0:65535]", false)
 }

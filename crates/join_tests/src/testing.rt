@@ -16,7 +16,7 @@ use std::alloc::Global;
 use std::process::Abort;
 use std::test::Fail;
 use std::thread::Threads;
-use xdr_encode::Streamed;
+use xdr_encode::{BodyRefusal, Streamed};
 
 /// The header of Int16 `s[t]`, the one record variable, of so many records.
 pub const fn r(records: u32) -> [u32; 20] {
@@ -71,6 +71,26 @@ pub fn joined<R: Abort>(
     Ok(join(alloc, headers, b"j.join"))
 }
 
+/// What comes of the body of joined files for a constraint.
+pub fn body_made<R: Abort>(
+    rt: &R,
+    alloc: Global,
+    joined: &Joined,
+    query: &[u8],
+) -> Result<Result<JoinBody, BodyRefusal>, Fail>
+    ensures { IfOk result (λ r. IfOk r (λ b. FitsFiles b (lengths_of (headers_in joined.now)))) }
+{
+    let dataset = joined.dataset(alloc)?;
+    let index = Index::new(alloc, &dataset)?;
+    let Ok(constraint) = parse(alloc, query) else {
+        panic!(rt; "no constraint");
+    };
+    let Ok(marks) = resolve(alloc, &dataset, &index, &constraint) else {
+        panic!(rt; "no marks");
+    };
+    Ok(JoinBody::new(alloc, joined, &dataset, &marks))
+}
+
 /// The body of joined files for a constraint.
 pub fn body_of<R: Abort>(
     rt: &R,
@@ -83,15 +103,7 @@ pub fn body_of<R: Abort>(
     let Ok(joined) = joined(rt, alloc, files)? else {
         panic!(rt; "not joined");
     };
-    let dataset = joined.dataset(alloc)?;
-    let index = Index::new(alloc, &dataset)?;
-    let Ok(constraint) = parse(alloc, query) else {
-        panic!(rt; "no constraint");
-    };
-    let Ok(marks) = resolve(alloc, &dataset, &index, &constraint) else {
-        panic!(rt; "no marks");
-    };
-    let Ok(body) = JoinBody::new(alloc, &joined, &dataset, &marks) else {
+    let Ok(body) = body_made(rt, alloc, &joined, query)? else {
         panic!(rt; "no body");
     };
     Ok(body)

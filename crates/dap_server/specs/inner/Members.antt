@@ -1,5 +1,5 @@
 -- The files of the lines of a list, as a shelf gives them.
-use Rattle.std.specs.Prelude.{◌≡◌, ◌≤◌, ℕ, ◌+◌, ◌*◌, List, length, min, Option, Some, None, IsSome}
+use Rattle.std.specs.Prelude.{◌≡◌, ◌⊎◌, ◌≤◌, ℕ, ◌+◌, ◌*◌, List, length, min, sum_by, take, Option, Some, None, IsSome}
 use Rattle.std.specs.List.{AllZip}
 use Rattle.std.specs.Option.{option_map_or}
 use Rattle.dap_types.specs.Limits.{most_header}
@@ -38,12 +38,18 @@ abbrev pub most_in_lines : Told → List (List ℕ) → ℕ
 most_in_lines None names = length names * most_header
 most_in_lines (Some files) names = most_of_names files names
 
--- where a line is told, the fronts of so many files were asked in it and before it
-abbrev pub AsksLine : ℕ → Cause → ℕ → ℕ → Type 0
-AsksLine line cause before now = (count : ℕ) → IsBehindLines cause count → now + line * most_header ≤ before + (count + 1) * most_header
+-- and of those of the first of them, so many, each as if the others were there
+abbrev pub most_in_first : Told → ℕ → List (List ℕ) → ℕ
+most_in_first told count names = sum_by (λ name. most_in_line told name) (take count names)
 
-abbrev pub AsksLines : Cause → ℕ → ℕ → Type 0
-AsksLines cause before now = (count : ℕ) → IsBehindLines cause count → now ≤ before + count * most_header
+-- where a line is told, nothing was asked in it, or no more than the front of its file, which counts then
+abbrev pub AsksLine : Told → List ℕ → ℕ → Cause → ℕ → ℕ → Type 0
+AsksLine told name line cause before now =
+    (count : ℕ) → IsBehindLines cause count → ((line ≡ count + 1) × (now ≤ before)) ⊎ ((line ≡ count) × (now ≤ before + most_in_line told name))
+
+-- and in the lines before it no more than the fronts of theirs
+abbrev pub AsksLines : Told → List (List ℕ) → Cause → ℕ → ℕ → Type 0
+AsksLines told names cause before now = (count : ℕ) → IsBehindLines cause count → now ≤ before + most_in_first told count names
 
 -- the stop of a line whose file has no header for that stop
 abbrev pub bad_member : ℕ → Stop → Stop

@@ -34,5 +34,5 @@ returns-clause-stays g c = making.still_stays c.joined_dds_text.result _ _ c.in_
 
 pub returns-clause-asked_before : goal.returns-clause-asked_before
 returns-clause-asked_before g c =
-    left_asked (λ s. DdsAnswers s c.args.query.now) (stored_together (name_in c.in_ok-joined.joined) (members_in c.in_ok-joined.joined)) c.joined_dds_text.result _ _
+    left_asked (g.S.Shelf.files c.args.shelf.now) c.args.name.now (λ s. DdsAnswers s c.args.query.now) (stored_together (name_in c.in_ok-joined.joined) (members_in c.in_ok-joined.joined)) c.joined_dds_text.result _ _
     (λ s cause. dds-no-line s c.args.query.now cause) c.joined_dds_text.ensures.refused

@@ -33,8 +33,8 @@ returns-in_err-body-clause-refused g c =
 
 pub returns-in_err-body-clause-asked_before : goal.returns-in_err-body-clause-asked_before
 returns-in_err-body-clause-asked_before g c =
-    let stop : WhereRefused (λ why. IsAskedBefore why (g.S.Shelf.asked c.args.shelf.now) (g.S.Shelf.asked c.open_joined.new.shelf)) c.in_err-body.field-0.0 =
-    for_refused (λ why is. no_line why _ _ (dods-no-line (stored_together (name_in c.in_ok-joined.joined) (members_in c.in_ok-joined.joined) []) c.args.query.now why (is []))) c.in_err-body.field-0.0 c.in_err-body.ensures.refused in
+    let stop : WhereRefused (λ why. IsAskedBefore (g.S.Shelf.files c.args.shelf.now) c.args.name.now why (g.S.Shelf.asked c.args.shelf.now) (g.S.Shelf.asked c.open_joined.new.shelf)) c.in_err-body.field-0.0 =
+    for_refused (λ why is. no_line (g.S.Shelf.files c.args.shelf.now) c.args.name.now why _ _ (dods-no-line (stored_together (name_in c.in_ok-joined.joined) (members_in c.in_ok-joined.joined) []) c.args.query.now why (is []))) c.in_err-body.field-0.0 c.in_err-body.ensures.refused in
     search (rules, stop)
 
 pub returns-clause-of_list : goal.returns-clause-of_list

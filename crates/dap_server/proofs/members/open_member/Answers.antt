@@ -46,12 +46,15 @@ returns-in_err-file-clause-asked g c = omega (arith, c.in_err-file.ensures.asked
 
 pub returns-in_err-file-clause-asked_before : goal.returns-in_err-file-clause-asked_before
 returns-in_err-file-clause-asked_before g c =
-    let stop : WhereRefused (λ cause. AsksLine c.args.line cause (g.S.Shelf.asked c.args.shelf.now) (g.S.Shelf.asked c.find_member.new.shelf)) c.in_err-file.field-0.0 =
-    for_refused (λ cause is. missing_line c.args.line cause _ _ c.in_err-file.ensures.asked is) c.in_err-file.field-0.0 c.in_err-file.ensures.missing in
+    let stop : WhereRefused (λ cause. AsksLine (g.S.Shelf.files c.args.shelf.now) c.args.name.now c.args.line cause (g.S.Shelf.asked c.args.shelf.now) (g.S.Shelf.asked c.find_member.new.shelf)) c.in_err-file.field-0.0 =
+    for_refused (λ cause is. missing_line (g.S.Shelf.files c.args.shelf.now) c.args.name.now c.args.line cause _ _ c.in_err-file.ensures.asked is) c.in_err-file.field-0.0 c.in_err-file.ensures.missing in
     search (rules, stop)
 
 pub returns-in_err-header-clause-asked_before : goal.returns-in_err-header-clause-asked_before
 returns-in_err-header-clause-asked_before g c =
-    let stop : WhereRefused (λ cause. AsksLine c.args.line cause (g.S.Shelf.asked c.args.shelf.now) (g.S.Shelf.asked c.member_header.new.shelf)) c.in_err-header.field-0.0 =
-    for_refused (λ cause (bytes, why, read, is, e). spoiled_line c.args.line cause _ _ (omega (arith, c.in_err-header.ensures.asked, c.in_ok-file.ensures.asked)) e) c.in_err-header.field-0.0 c.in_err-header.ensures.refused in
+    let found = by_text (g.S.Shelf.files c.args.shelf.now) (g.S.Shelf.name_of c.find_member.new.shelf) (g.S.Shelf.content c.find_member.new.shelf) c.text_of.result.now c.args.name.now (Some c.in_ok-file.file) c.text_of.ensures c.in_ok-file.ensures.found in
+    let first = first_read (g.S.Shelf.files c.args.shelf.now) (g.S.Shelf.name_of c.find_member.new.shelf) (g.S.Shelf.content c.find_member.new.shelf) c.args.name.now c.in_ok-file.file
+    (g.S.Shelf.size_of c.find_member.new.shelf c.in_ok-file.file) found c.in_err-header.ensures.told in
+    let stop : WhereRefused (λ cause. AsksLine (g.S.Shelf.files c.args.shelf.now) c.args.name.now c.args.line cause (g.S.Shelf.asked c.args.shelf.now) (g.S.Shelf.asked c.member_header.new.shelf)) c.in_err-header.field-0.0 =
+    for_refused (λ cause (bytes, why, read, is, e). spoiled_line (g.S.Shelf.files c.args.shelf.now) c.args.name.now c.args.line cause _ _ (omega (arith, first, c.in_err-header.ensures.asked, c.in_ok-file.ensures.asked)) e) c.in_err-header.field-0.0 c.in_err-header.ensures.refused in
     search (rules, stop)

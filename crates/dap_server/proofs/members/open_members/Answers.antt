@@ -1,7 +1,6 @@
 use Rattle.std.proofs.Common.{◌∙◌, Err, arith, refl, rules}
-use Rattle.dap_server.proofs.AskedBefore.{lines_before, one_front}
 use Rattle.dap_server.proofs.JoinedSending.{for_refused}
-use Rattle.dap_server.proofs.OpenedLines.{all_opened, asked_more, asked_within, bad_stop, none_opened, opened_more, this_name}
+use Rattle.dap_server.proofs.OpenedLines.{all_opened, asked_first, asked_more, asked_within, bad_stop, line_told, none_opened, opened_more, this_name}
 use Rattle.dap_server.specs.Joins.{Members}
 use Rattle.dap_server.specs.inner.Members.{AsksLines}
 use Rattle.dap_server.specs.inner.Opening.{WhereRefused}
@@ -30,7 +29,8 @@ loop-k-preserved g c =
           kept.files (its.contents ∙ kept.contents) (its.sizes ∙ kept.sizes) c.in_ok-push.ensures.ok c.in_ok-push-2.ensures.ok kept.opened its.member;
       asked = asked_more c.args.names.now c.loop-k.k c.index-names-k.result c.bytes.result.now c.loop-k-test.true c.index-names-k.is c.bytes.ensures (g.S.Shelf.files c.args.shelf.now) _ (g.S.Shelf.content c.open_member.new.shelf) (g.S.Shelf.size_of c.open_member.new.shelf) c.in_ok-header.header c.in_ok-header.file _ _ _
           kept.files its.member kept.asked its.asked;
-      asked_before = one_front (g.S.Shelf.files c.loop-k.shelf) c.bytes.result.now c.loop-k.k _ _ _ kept.asked_before its.asked;
+      asked_before = asked_first c.args.names.now c.loop-k.k c.index-names-k.result c.bytes.result.now c.loop-k-test.true c.index-names-k.is c.bytes.ensures (g.S.Shelf.files c.args.shelf.now) (g.S.Shelf.files c.loop-k.shelf) _ _ _
+          kept.files kept.asked_before its.asked;
       stays = its.stays ∙ kept.stays;
       files = its.files ∙ kept.files;
       contents = its.contents ∙ kept.contents;
@@ -65,6 +65,7 @@ returns-in_err-push-2-clause-asked g c =
 
 pub returns-in_err-header-clause-asked_before : goal.returns-in_err-header-clause-asked_before
 returns-in_err-header-clause-asked_before g c =
-    let stop : WhereRefused (λ cause. AsksLines cause (g.S.Shelf.asked c.args.shelf.now) (g.S.Shelf.asked c.open_member.new.shelf)) c.in_err-header.field-0.0 =
-    for_refused (λ cause own. lines_before c.loop-k.k _ _ _ cause c.loop-k.invariant.asked_before own) c.in_err-header.field-0.0 c.in_err-header.ensures.asked_before in
+    let stop : WhereRefused (λ cause. AsksLines (g.S.Shelf.files c.args.shelf.now) c.args.names.now cause (g.S.Shelf.asked c.args.shelf.now) (g.S.Shelf.asked c.open_member.new.shelf)) c.in_err-header.field-0.0 =
+    for_refused (λ cause own. line_told c.args.names.now c.loop-k.k c.index-names-k.result c.bytes.result.now c.loop-k-test.true c.index-names-k.is c.bytes.ensures (g.S.Shelf.files c.args.shelf.now) (g.S.Shelf.files c.loop-k.shelf) _ _ _ cause
+    c.loop-k.invariant.files c.loop-k.invariant.asked_before own) c.in_err-header.field-0.0 c.in_err-header.ensures.asked_before in
     search (rules, stop)

@@ -6,7 +6,7 @@ use Rattle.dap_server.proofs.OpeningLists as opening
 use Rattle.dap_server.specs.Costs.{IsAskedBefore, most_of_joined}
 use Rattle.dap_server.specs.Joins.{Members}
 use Rattle.dap_server.specs.inner.Joining.{MayOpenWithin, most_of_size}
-use Rattle.dap_server.specs.inner.Members.{most_in_lines}
+use Rattle.dap_server.specs.inner.Members.{AsksLines, most_in_lines}
 use Rattle.dap_server.specs.inner.Opening.{WhereRefused}
 use Rattle.dap_server.proofs.open_joined.open_joined.Goals as goal
 
@@ -116,28 +116,30 @@ returns-clause-asked_lines g c =
 
 pub returns-in_err-list-clause-asked_before : goal.returns-in_err-list-clause-asked_before
 returns-in_err-list-clause-asked_before g c =
-    let none : g.S.Shelf.asked c.find.new.shelf ≤ g.S.Shelf.asked c.args.shelf.now + 65536 = omega (arith, c.in_err-list.ensures.asked) in
-    let stop : WhereRefused (λ cause. IsAskedBefore cause (g.S.Shelf.asked c.args.shelf.now) (g.S.Shelf.asked c.find.new.shelf)) c.in_err-list.field-0.0 =
-    for_refused (λ cause refused. before.list_alone cause _ _ none) c.in_err-list.field-0.0 c.in_err-list.ensures.refused in
+    let none : g.S.Shelf.asked c.find.new.shelf ≤ g.S.Shelf.asked c.args.shelf.now = omega (arith, c.in_err-list.ensures.asked) in
+    let stop : WhereRefused (λ cause. IsAskedBefore (g.S.Shelf.files c.args.shelf.now) c.args.name.now cause (g.S.Shelf.asked c.args.shelf.now) (g.S.Shelf.asked c.find.new.shelf)) c.in_err-list.field-0.0 =
+    for_refused (λ cause refused. before.nothing_asked (g.S.Shelf.files c.args.shelf.now) c.args.name.now cause _ _ none) c.in_err-list.field-0.0 c.in_err-list.ensures.refused in
     search (rules, stop)
 
 pub returns-in_err-names-clause-asked_before : goal.returns-in_err-names-clause-asked_before
 returns-in_err-names-clause-asked_before g c =
-    let listed : g.S.Shelf.asked c.open_list.new.shelf ≤ g.S.Shelf.asked c.args.shelf.now + 65536 =
-    omega (arith, opening.of_any (g.S.Shelf.size_of c.find.new.shelf c.in_ok-list.list), c.in_err-names.ensures.asked, c.in_ok-list.ensures.asked) in
-    let stop : WhereRefused (λ cause. IsAskedBefore cause (g.S.Shelf.asked c.args.shelf.now) (g.S.Shelf.asked c.open_list.new.shelf)) c.in_err-names.field-0.0 =
-    for_refused (λ cause refused. before.list_alone cause _ _ listed) c.in_err-names.field-0.0 c.in_err-names.ensures.refused in
+    let listed : g.S.Shelf.asked c.open_list.new.shelf ≤ g.S.Shelf.asked c.args.shelf.now + most_of_size (g.S.Shelf.size_of c.find.new.shelf c.in_ok-list.list) = omega (arith, c.in_err-names.ensures.asked, c.in_ok-list.ensures.asked) in
+    let stop : WhereRefused (λ cause. IsAskedBefore (g.S.Shelf.files c.args.shelf.now) c.args.name.now cause (g.S.Shelf.asked c.args.shelf.now) (g.S.Shelf.asked c.open_list.new.shelf)) c.in_err-names.field-0.0 =
+    for_refused (λ cause refused. before.list_alone (g.S.Shelf.files c.args.shelf.now) (g.S.Shelf.name_of c.find.new.shelf) (g.S.Shelf.content c.find.new.shelf) c.args.name.now c.in_ok-list.list (g.S.Shelf.size_of c.find.new.shelf c.in_ok-list.list)
+    cause _ _ c.in_ok-list.ensures.found c.in_err-names.ensures.told listed) c.in_err-names.field-0.0 c.in_err-names.ensures.refused in
     search (rules, stop)
 
 pub returns-in_err-members-clause-asked_before : goal.returns-in_err-members-clause-asked_before
 returns-in_err-members-clause-asked_before g c =
     let listed : g.S.Shelf.asked c.open_list.new.shelf ≤ g.S.Shelf.asked c.args.shelf.now + most_of_size (g.S.Shelf.size_of c.find.new.shelf c.in_ok-list.list) = omega (arith, c.in_ok-names.ensures.asked, c.in_ok-list.ensures.asked) in
-    let stop : WhereRefused (λ cause. IsAskedBefore cause (g.S.Shelf.asked c.args.shelf.now) (g.S.Shelf.asked c.open_members.new.shelf)) c.in_err-members.field-0.0 =
-    for_refused (λ cause lines. before.with_list (g.S.Shelf.size_of c.find.new.shelf c.in_ok-list.list) _ _ _ cause listed lines) c.in_err-members.field-0.0 c.in_err-members.ensures.asked_before in
+    let stop : WhereRefused (λ cause. IsAskedBefore (g.S.Shelf.files c.args.shelf.now) c.args.name.now cause (g.S.Shelf.asked c.args.shelf.now) (g.S.Shelf.asked c.open_members.new.shelf)) c.in_err-members.field-0.0 =
+    for_refused (λ cause lines. before.with_list (g.S.Shelf.files c.args.shelf.now) (g.S.Shelf.files c.open_list.new.shelf) (g.S.Shelf.name_of c.find.new.shelf) (g.S.Shelf.content c.find.new.shelf) c.args.name.now c.in_ok-list.list
+    (g.S.Shelf.size_of c.find.new.shelf c.in_ok-list.list) c.in_ok-names.names _ _ _ cause c.in_ok-list.ensures.found c.in_ok-names.ensures.told c.in_ok-names.ensures.names (c.in_ok-names.ensures.files ∙ c.in_ok-list.ensures.files) listed
+    (subst (λ ns. AsksLines (g.S.Shelf.files c.open_list.new.shelf) ns cause (g.S.Shelf.asked c.open_list.new.shelf) (g.S.Shelf.asked c.open_members.new.shelf)) c.items.ensures lines)) c.in_err-members.field-0.0 c.in_err-members.ensures.asked_before in
     search (rules, stop)
 
 pub returns-in_err-joined-clause-asked_before : goal.returns-in_err-joined-clause-asked_before
 returns-in_err-joined-clause-asked_before g c =
-    let stop : WhereRefused (λ cause. IsAskedBefore cause (g.S.Shelf.asked c.args.shelf.now) (g.S.Shelf.asked c.open_members.new.shelf)) c.in_err-joined.field-0.0 =
-    for_refused (λ cause is. before.no_line cause _ _ (before.not_together _ _ _ _ _ _ c.args.name.now cause c.in_ok-members.ensures.members is)) c.in_err-joined.field-0.0 c.in_err-joined.ensures.refused in
+    let stop : WhereRefused (λ cause. IsAskedBefore (g.S.Shelf.files c.args.shelf.now) c.args.name.now cause (g.S.Shelf.asked c.args.shelf.now) (g.S.Shelf.asked c.open_members.new.shelf)) c.in_err-joined.field-0.0 =
+    for_refused (λ cause is. before.no_line (g.S.Shelf.files c.args.shelf.now) c.args.name.now cause _ _ (before.not_together _ _ _ _ _ _ c.args.name.now cause c.in_ok-members.ensures.members is)) c.in_err-joined.field-0.0 c.in_err-joined.ensures.refused in
     search (rules, stop)

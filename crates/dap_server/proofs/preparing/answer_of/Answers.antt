@@ -1,11 +1,13 @@
 use Rattle.dap_http.specs.declared.kind.Kind.TheVariants.{Das, Dds, Dods, Ver}
-use Rattle.std.proofs.Common.{◌∙◌, ap, refl}
+use Rattle.std.proofs.Common.{◌∙◌, IfErr, ap, refl, subst}
 use Rattle.dap_server.proofs.AskedBefore.{text_refuses}
 use Rattle.dap_server.proofs.JoinsGiven.{for_err, for_ok, version_within}
 use Rattle.dap_server.proofs.JoinsMade.{list_asked, list_told, made_for, text_no_files}
 use Rattle.dap_server.proofs.Making as making
 use Rattle.dap_server.specs.Costs.{IsAskedBefore}
 use Rattle.dap_server.specs.Files.{form_of}
+use Rattle.dap_server.specs.Prepared.{WhereRefuse}
+use Rattle.dap_server.specs.inner.Opening.{WhereRefused}
 use Rattle.dap_server.proofs.preparing.answer_of.Goals as goal
 
 pub returns-in-Ver-clause-made : goal.returns-in-Ver-clause-made
@@ -65,21 +67,25 @@ returns-in-Dods-clause-asked_lines g c = c.data_answer.ensures.asked_lines
 
 pub returns-in-Ver-clause-asked_before : goal.returns-in-Ver-clause-asked_before
 returns-in-Ver-clause-asked_before g c = λ form.
-    text_refuses (λ cause. IsAskedBefore cause (g.S.Shelf.asked c.args.shelf.now) (g.S.Shelf.asked c.args.shelf.now)) Ver c.version_answer.result c.text_prepared.result c.text_prepared.ensures
+    text_refuses (λ cause. IsAskedBefore (g.S.Shelf.files c.args.shelf.now) c.args.target.now.name cause (g.S.Shelf.asked c.args.shelf.now) (g.S.Shelf.asked c.args.shelf.now)) Ver c.version_answer.result c.text_prepared.result c.text_prepared.ensures
     (making.no_refusal c.version_answer.result _ c.version_answer.ensures.refused)
 
 pub returns-in-Das-clause-asked_before : goal.returns-in-Das-clause-asked_before
 returns-in-Das-clause-asked_before g c = λ form.
-    text_refuses (λ cause. IsAskedBefore cause (g.S.Shelf.asked c.args.shelf.now) (g.S.Shelf.asked c.das_by_form.new.shelf)) Das c.das_by_form.result c.text_prepared-in-Das.result c.text_prepared-in-Das.ensures
-    (c.das_by_form.ensures.asked_before (ap form_of c.as_str-name.ensures ∙ form))
+    text_refuses (λ cause. IsAskedBefore (g.S.Shelf.files c.args.shelf.now) c.args.target.now.name cause (g.S.Shelf.asked c.args.shelf.now) (g.S.Shelf.asked c.das_by_form.new.shelf)) Das c.das_by_form.result c.text_prepared-in-Das.result c.text_prepared-in-Das.ensures
+    (subst (λ n. IfErr c.das_by_form.result (WhereRefused (λ cause. IsAskedBefore (g.S.Shelf.files c.args.shelf.now) n cause (g.S.Shelf.asked c.args.shelf.now) (g.S.Shelf.asked c.das_by_form.new.shelf)))) c.as_str-name.ensures
+    (c.das_by_form.ensures.asked_before (ap form_of c.as_str-name.ensures ∙ form)))
 
 pub returns-in-Dds-clause-asked_before : goal.returns-in-Dds-clause-asked_before
 returns-in-Dds-clause-asked_before g c = λ form.
-    text_refuses (λ cause. IsAskedBefore cause (g.S.Shelf.asked c.args.shelf.now) (g.S.Shelf.asked c.dds_by_form.new.shelf)) Dds c.dds_by_form.result c.text_prepared-in-Dds.result c.text_prepared-in-Dds.ensures
-    (c.dds_by_form.ensures.asked_before (ap form_of c.as_str-name.ensures ∙ form))
+    text_refuses (λ cause. IsAskedBefore (g.S.Shelf.files c.args.shelf.now) c.args.target.now.name cause (g.S.Shelf.asked c.args.shelf.now) (g.S.Shelf.asked c.dds_by_form.new.shelf)) Dds c.dds_by_form.result c.text_prepared-in-Dds.result c.text_prepared-in-Dds.ensures
+    (subst (λ n. IfErr c.dds_by_form.result (WhereRefused (λ cause. IsAskedBefore (g.S.Shelf.files c.args.shelf.now) n cause (g.S.Shelf.asked c.args.shelf.now) (g.S.Shelf.asked c.dds_by_form.new.shelf)))) c.as_str-name.ensures
+    (c.dds_by_form.ensures.asked_before (ap form_of c.as_str-name.ensures ∙ form)))
 
 pub returns-in-Dods-clause-asked_before : goal.returns-in-Dods-clause-asked_before
-returns-in-Dods-clause-asked_before g c = λ form. c.data_answer.ensures.asked_before (ap form_of c.as_str-name.ensures ∙ form)
+returns-in-Dods-clause-asked_before g c = λ form.
+    subst (λ n. WhereRefuse c.data_answer.result (λ cause. IsAskedBefore (g.S.Shelf.files c.args.shelf.now) n cause (g.S.Shelf.asked c.args.shelf.now) (g.S.Shelf.asked c.data_answer.new.shelf))) c.as_str-name.ensures
+    (c.data_answer.ensures.asked_before (ap form_of c.as_str-name.ensures ∙ form))
 
 pub returns-in-Ver-clause-of_list : goal.returns-in-Ver-clause-of_list
 returns-in-Ver-clause-of_list g c = λ form.

@@ -44,7 +44,7 @@ returns-clause-asked_lines g c = body_no_files _ c.dods_answer.result c.body_pre
 
 pub returns-then-is_list-clause-asked_before : goal.returns-then-is_list-clause-asked_before
 returns-then-is_list-clause-asked_before g c = λ form.
-    join_refuses (λ cause. IsAskedBefore cause (g.S.Shelf.asked c.args.shelf.now) (g.S.Shelf.asked c.joined_dods.new.shelf)) c.joined_dods.result c.join_prepared.result c.join_prepared.ensures c.joined_dods.ensures.asked_before
+    join_refuses (λ cause. IsAskedBefore (g.S.Shelf.files c.args.shelf.now) c.args.name.now cause (g.S.Shelf.asked c.args.shelf.now) (g.S.Shelf.asked c.joined_dods.new.shelf)) c.joined_dods.result c.join_prepared.result c.join_prepared.ensures c.joined_dods.ensures.asked_before
 
 pub returns-clause-asked_before : goal.returns-clause-asked_before
 returns-clause-asked_before g c = λ form. absurd (no_list_form (form_of c.args.name.now) (sym c.is_list.ensures ∙ c.if-is_list.false) form)
