@@ -6,7 +6,7 @@ ghost use Rattle.dap_http.specs.Frames.{chunked, framed};
 ghost use Rattle.dap_http.specs.inner.UnderWay.{full_head, head_of};
 
 use crate::intake::keep;
-use text_lines::hex_digit;
+use viable::hex_digit;
 
 /// Ends a body whose last bytes stand behind a place, with room for the head of a chunk before them. What stands
 /// before that room goes out with them. Answers where all of it begins.
@@ -68,7 +68,7 @@ fn write_size(frame: &mut Vec<u8>, end: usize, size: u64) -> usize
     ensures room { vec_capacity frame.new ≡ vec_capacity frame.old }
 {
     let at = end - 1;
-    frame[at] = hex_digit((size % 16) as u8);
+    frame[at] = hex_digit((size % 16) as u8, false);
     if size < 16 {
         return at;
     }

@@ -1,5 +1,5 @@
 ghost use Rattle.std.specs.Prelude.{◌≡◌, ℕ, ◌+◌, ◌<◌, ◌≤◌, List, ◌∷◌, ◌++◌, length, IfOk, IfErr, IsOk, string_bytes, is_ok, OnOk};
-ghost use Rattle.dap_types.specs.Names.{is_kept_byte, is_hex_digit, upper_case, hex_digit, escaped_byte, begins_with_digits, constraint_id, constraint_id_from, file_id};
+ghost use Rattle.dap_types.specs.Names.{is_kept_byte, is_hex_digit, upper_case, escaped_byte, begins_with_digits, constraint_id, constraint_id_from, file_id};
 
 use crate::Memory;
 use crate::held::Held;
@@ -8,6 +8,7 @@ use std::alloc::Global;
 use std::cmp::Ordering;
 use std::hash::{Hash, Hasher};
 use std::marker::Model;
+use viable::hex_digit;
 
 /// Bytes that are kept, as the text of a String. Contracts see them as their list.
 #[derive(Debug, Drop)]
@@ -219,13 +220,6 @@ fn upper(byte: u8) -> u8
     }
 }
 
-fn digit(value: u8) -> u8
-    requires { value < 16 }
-    ensures { result ≡ hex_digit value }
-{
-    if value < 10 { b'0' + value } else { 55 + value }
-}
-
 fn is_escape(bytes: &[u8]) -> bool
     ensures { result ≡ begins_with_digits bytes.now }
 {
@@ -243,8 +237,8 @@ fn push_escaped(out: &mut SmallVec<u8, ON_STACK>, byte: u8) -> Result<(), Memory
         return Ok(());
     }
     out.push(b'%')?;
-    out.push(digit(byte / 16))?;
-    out.push(digit(byte % 16))?;
+    out.push(hex_digit(byte / 16, true))?;
+    out.push(hex_digit(byte % 16, true))?;
     Ok(())
 }
 

@@ -6,4 +6,4 @@ mod lines;
 mod words;
 
 pub use lines::{put, put_hex, put_line, put_number, put_spaces};
-pub use words::{base_of_word, hex_digit, type_word};
+pub use words::{base_of_word, type_word};

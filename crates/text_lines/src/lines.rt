@@ -3,8 +3,8 @@ ghost use Rattle.std.specs.Fmt.{decimal};
 ghost use Rattle.dap_model.specs.Dds.{line};
 ghost use Rattle.dap_model.specs.Shown.{hex};
 
-use crate::words::hex_digit;
 use dap_types::Memory;
+use viable::hex_digit;
 
 /// Appends the bytes.
 pub fn put(out: &mut Vec<u8>, bytes: &[u8]) -> Result<(), Memory>
@@ -47,7 +47,7 @@ pub fn put_hex(out: &mut Vec<u8>, digits: u32, bits: u64) -> Result<(), Memory>
     ensures { OnOk result (out.new.items ≡ out.old.items ++ hex digits bits) }
 {
     for i in 0..digits {
-        out.push(hex_digit(digit_before(digits - 1 - i, bits)))?;
+        out.push(hex_digit(digit_before(digits - 1 - i, bits), false))?;
     }
     Ok(())
 }

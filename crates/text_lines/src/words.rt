@@ -1,22 +1,9 @@
-ghost use Rattle.std.specs.Prelude.{◌≡◌, ◌<◌, false};
-ghost use Rattle.std.specs.Fmt.{digit_glyph};
+ghost use Rattle.std.specs.Prelude.{◌≡◌};
 ghost use Rattle.std.specs.Str.{str_eq_ignore_ascii_case};
 ghost use Rattle.dap_model.specs.Dds.{type_word};
 ghost use Rattle.text_lines.specs.TypeWords.{base_of_word};
 
 use dap_types::BaseType;
-
-/// A digit in hexadecimal, in lower case.
-pub fn hex_digit(value: u8) -> u8
-    requires { value < 16 }
-    ensures { result ≡ digit_glyph false value }
-{
-    if value < 10 {
-        b'0' + value
-    } else {
-        b'a' + (value - 10)
-    }
-}
 
 /// The word for a type (DAP 2.0, base types).
 pub fn type_word(base: BaseType) -> &'static [u8]

@@ -8,7 +8,7 @@ mod numeral;
 mod quoted;
 
 pub use numeral::{
-    all_digits, all_hex_digits, hex_value_of, magnitude, number, number_within, value_of,
-    wide_value_of,
+    all_digits, all_hex_digits, hex_digit, hex_value_of, magnitude, number, number_within,
+    value_of, wide_value_of,
 };
 pub use quoted::{pieces_end, push_escaped, unescaped};

@@ -2,6 +2,7 @@
 
 ghost use Rattle.std.specs.Prelude.{◌≡◌, ℕ, ◌+◌, ◌-◌, ◌*◌, ◌<◌, ◌≤◌, ◌^◌, ◌⊎◌, true, false, length, IsTrue, IfSome, MatchOption, SomeIff};
 ghost use Rattle.std.specs.Char.{digit_value, is_ascii_digit, is_ascii_hexdigit};
+ghost use Rattle.std.specs.Fmt.{digit_glyph};
 ghost use Rattle.std.specs.List.{list_all};
 ghost use Rattle.std.specs.Str.Parse.{digits_value};
 ghost use Rattle.viable.specs.Numerals.{decimal, is_numeral};
@@ -98,7 +99,19 @@ pub fn number_within(digits: &[u8], most: u64) -> Option<u64>
     Some(value)
 }
 
-fn hex_digit(digit: u8) -> u8
+/// A number below 16 as a hexadecimal digit, whose letters are capital where `capital`.
+pub fn hex_digit(value: u8, capital: bool) -> u8
+    requires { value < 16 }
+    ensures { result ≡ digit_glyph capital value }
+{
+    match (value, capital) {
+        (0..=9, _) => b'0' + value,
+        (_, true) => b'A' + (value - 10),
+        (_, false) => b'a' + (value - 10),
+    }
+}
+
+fn value_of_hex_digit(digit: u8) -> u8
     requires { is_ascii_hexdigit digit ≡ true }
     ensures value { result ≡ digit_value digit }
     ensures small { result < 16 }
@@ -126,7 +139,7 @@ pub fn hex_value_of(digits: &[u8]) -> u64
 {
     let mut value = 0u64;
     for digit in digits {
-        value = value * 16 + u64::from(hex_digit(*digit));
+        value = value * 16 + u64::from(value_of_hex_digit(*digit));
     }
     value
 }

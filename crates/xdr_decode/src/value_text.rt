@@ -9,7 +9,7 @@ ghost use Rattle.dap_outside.specs.Streams.{AppendsFront};
 ghost use Rattle.std.specs.Io.KnownBytes.{Appends};
 
 use dap_outside::{Buffer, Failed, Sink};
-use text_lines::hex_digit;
+use viable::hex_digit;
 
 /// Whether a byte of a text stands for itself.
 fn is_plain(byte: u8) -> bool
@@ -30,7 +30,7 @@ fn put_byte<O: Sink>(buffer: &mut Buffer, out: &mut O, byte: u8) -> Result<(), F
         b' '..=b'~' => buffer.put(out, &[byte]),
         _ => buffer.put(
             out,
-            &[b'\\', b'x', hex_digit(byte / 16), hex_digit(byte % 16)],
+            &[b'\\', b'x', hex_digit(byte / 16, false), hex_digit(byte % 16, false)],
         ),
     }
 }
@@ -117,7 +117,7 @@ pub fn put_number<O: Sink>(buffer: &mut Buffer, out: &mut O, number: u64) -> Res
 fn last_digit(bits: u64) -> u8
     ensures { result ≡ digit_glyph false (bits % 16) }
 {
-    hex_digit((bits % 16) as u8)
+    hex_digit((bits % 16) as u8, false)
 }
 
 /// Puts the bits of a Float32.

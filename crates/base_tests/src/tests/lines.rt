@@ -1,7 +1,8 @@
 use crate::tests::expecting::expect;
 use dap_types::{BaseType, Memory};
 use std::test::Fail;
-use text_lines::{hex_digit, put, put_hex, put_line, put_number, put_spaces, type_word};
+use text_lines::{put, put_hex, put_line, put_number, put_spaces, type_word};
+use viable::hex_digit;
 
 /// A word and numbers, with spaces between them.
 fn put_words(out: &mut Vec<u8>) -> Result<(), Memory> {
@@ -69,6 +70,7 @@ fn types_have_their_words(rt: HostRuntime) {
     for (base, word) in rows {
         expect(&rt, type_word(base), word);
     }
-    expect(&rt, hex_digit(9), b'9');
-    expect(&rt, hex_digit(10), b'a');
+    expect(&rt, hex_digit(9, false), b'9');
+    expect(&rt, hex_digit(10, false), b'a');
+    expect(&rt, hex_digit(15, true), b'F');
 }
