@@ -1,4 +1,5 @@
 ghost use Rattle.std.specs.Prelude.{◌≡◌, ◌≤◌, IfOk, MatchOption, true, false, length};
+ghost use Rattle.dap_types.specs.Limits.{most_columns};
 ghost use Rattle.csv.specs.Records.{fields_of};
 ghost use Rattle.csv_source.specs.Header.{all_types, column_name, column_of, columns_of, repeated, type_mark, typed, typed_by};
 ghost use Rattle.csv_source.specs.Names.{has_suffix, before_suffix};
@@ -93,7 +94,7 @@ fn typed_by<'a>(bases: &[BaseType], field: &'a [u8]) -> (&'a [u8], BaseType)
 /// The number of the first column with the name of an earlier one. Names are kept in order, so that
 /// crafted ones cost no more than others.
 pub(crate) fn first_repeated(alloc: Global, columns: &[Column]) -> Result<Option<u32>, Memory>
-    requires { length columns.now ≤ 1024 }
+    requires { length columns.now ≤ most_columns }
     ensures { IfOk result (λ number. number ≡ repeated columns.now) }
 {
     let mut names = BTreeMap::new(alloc);

@@ -1,5 +1,6 @@
 ghost use Rattle.std.specs.Prelude.{◌≡◌, ◌≢◌, ◌≤◌, ◌+◌, ◌∷◌, ◌++◌, [], length, Err, Ok, IfErr, IfOk, OnOk, Some, true};
 ghost use Rattle.std.specs.List.{list_all};
+ghost use Rattle.dap_types.specs.Limits.{most_columns, most_table};
 ghost use Rattle.csv.specs.Records.{fields_of};
 ghost use Rattle.csv_source.specs.Causes.{is_row, row_cause, table_of};
 ghost use Rattle.csv_source.specs.Csv.{csv_records};
@@ -64,12 +65,12 @@ fn read_rows(
     columns: &[Column],
 ) -> Result<(Fields, u32), TableRefusal>
     requires stands { Stands bytes.now (fields_of header ∷ []) reader }
-    requires short { length bytes.now ≤ 67108864 }
-    requires few { length columns.now ≤ 1024 }
+    requires short { length bytes.now ≤ most_table }
+    requires few { length columns.now ≤ most_columns }
     ensures rows { IfOk result (λ r. csv_records bytes.now ≡ fields_of header ∷ rows_of (length columns.now) r.1 (fields_in r.0.ends.items r.0.text.items)) }
     ensures are_rows { IfOk result (λ r. list_all (is_row columns.now) (rows_of (length columns.now) r.1 (fields_in r.0.ends.items r.0.text.items)) ≡ true) }
     ensures are_ends { IfOk result (λ r. AreEnds 0 r.0.ends.items (length r.0.text.items)) }
-    ensures short { IfOk result (λ r. length r.0.text.items ≤ 67108864) }
+    ensures short { IfOk result (λ r. length r.0.text.items ≤ most_table) }
     ensures first_cause { IfErr result (λ e. e ≢ Memory → HasBadRow columns.now (fields_of header) e (csv_records bytes.now)) }
 {
     let mut cells = Fields::with_room(alloc, bytes.len())?;
@@ -91,8 +92,8 @@ fn push_row(
     columns: &[Column],
 ) -> Result<(), TableRefusal>
     requires are_ends { AreEnds 0 cells.old.ends.items (length cells.old.text.items) }
-    requires short { length cells.old.text.items + total (fields_of row.now) ≤ 67108864 }
-    requires few { length columns.now ≤ 1024 }
+    requires short { length cells.old.text.items + total (fields_of row.now) ≤ most_table }
+    requires few { length columns.now ≤ most_columns }
     ensures fields { OnOk result (fields_in cells.new.ends.items cells.new.text.items ≡ fields_in cells.old.ends.items cells.old.text.items ++ fields_of row.now) }
     ensures are_ends { OnOk result (AreEnds 0 cells.new.ends.items (length cells.new.text.items)) }
     ensures length { OnOk result (length cells.new.text.items ≡ length cells.old.text.items + total (fields_of row.now)) }

@@ -2,6 +2,7 @@
 //! else the body may be. Each call takes a piece, which begins at a place, and says what stands behind it.
 
 ghost use Rattle.std.specs.Prelude.{◌≡◌, ℕ, ◌+◌, ◌^◌, ◌<◌, ◌≤◌, List, ◌++◌, length, take, IfOk};
+ghost use Rattle.dap_types.specs.Limits.{most_error};
 ghost use Rattle.dap_errors.specs.Reading.{limit};
 ghost use Rattle.dap_client.specs.inner.Beginnings.{IsBeginning, IsInObject};
 ghost use Rattle.dap_client.specs.inner.Objects.{IsObjectOf};
@@ -70,7 +71,7 @@ fn begin_object(
 /// Keeps the bytes of a piece for which there is room in the front of an Error object.
 #[tactic(auto, using(crate::proofs::Waiting::keep_short, crate::proofs::Waiting::keep_full))]
 fn keep(front: &mut Vec<u8>, piece: &[u8]) -> Result<(), Memory>
-    requires { length front.old.items ≤ 65536 }
+    requires { length front.old.items ≤ most_error }
     ensures { (bytes : List ℕ) → front.old.items ≡ take limit bytes → IfOk result (λ _. front.new.items ≡ take limit (bytes ++ piece.now)) }
 {
     let room = LIMIT - front.len();
@@ -84,7 +85,7 @@ fn keep(front: &mut Vec<u8>, piece: &[u8]) -> Result<(), Memory>
 
 /// Waits for more of the first word.
 fn wait(word: FirstWord, front: Vec<u8>, piece: &[u8]) -> Beginning
-    requires { length front.items ≤ 65536 }
+    requires { length front.items ≤ most_error }
     ensures { (bytes : List ℕ) → IsOpenWord word (bytes ++ piece.now) → front.items ≡ take limit bytes → IsBeginning result (bytes ++ piece.now) }
 {
     let mut front = front;

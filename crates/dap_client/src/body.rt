@@ -1,6 +1,7 @@
 //! The reader of a body of each kind in pieces of any length (DAP 2.0).
 
 ghost use Rattle.std.specs.Prelude.{◌≡◌, ◌≢◌, ◌+◌, ◌-◌, ◌^◌, ◌≤◌, ◌<◌, ℕ, List, [], ◌++◌, length, take, Some, None};
+ghost use Rattle.dap_types.specs.Limits.{most_piece};
 ghost use Rattle.dap_outside.specs.Causes.{Rose};
 ghost use Rattle.dap_http.specs.declared.kind.Kind.TheVariants.{Ver};
 
@@ -63,7 +64,7 @@ impl Body {
     pub fn push<O: Sink>(&mut self, piece: &[u8], out: &mut O) -> Option<Outcome>
         requires stands { Stands self.old }
         requires within { self.old.taken + length piece.now ≤ 2 ^ 40 }
-        requires few { length piece.now ≤ 65536 }
+        requires few { length piece.now ≤ most_piece }
         ensures pushed { (bytes put : List ℕ) → BodyStandsAfter self.old bytes put → Gains (O.written out.old) (O.written out.new)
             (λ text. IsPushed self.new (form_in self.old) bytes (bytes ++ piece.now) (put ++ text) result) }
         ensures kind { self.new.kind ≡ self.old.kind }

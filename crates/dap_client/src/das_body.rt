@@ -1,6 +1,7 @@
 //! The body of a DAS that comes in pieces (DAP 2.0, DAS). Behind it white space alone may stand.
 
 ghost use Rattle.std.specs.Prelude.{◌≡◌, ℕ, ◌+◌, ◌^◌, ◌<◌, ◌≤◌, ⊤, List, [], ◌++◌, length, IfErr, IfOk, MatchOption};
+ghost use Rattle.dap_types.specs.Limits.{most_text};
 ghost use Rattle.das_text.specs.Reading.{DasOf, IsBad, IsCut, IsTrailing, limit};
 ghost use Rattle.das_text.specs.View.{attributes_view};
 ghost use Rattle.das_text.specs.Refusals.{WhereBad, WhereCut, WhereTrailing};
@@ -54,7 +55,7 @@ fn refused(refused: DasRefusal, taken: u64) -> AllRefusal
 
 /// Reads a DAS that was gathered up to the limit.
 fn judged(alloc: Global, front: Vec<u8>) -> Result<DasBody, Memory>
-    requires { length front.items ≡ 16777216 }
+    requires { length front.items ≡ most_text }
     ensures body { IfOk result (IsDasBody front.items) }
     ensures short { IfOk result IsShortDas }
 {
@@ -81,7 +82,7 @@ fn read_white(attributes: Attributes, place: u64, piece: &[u8]) -> DasBody
 
 /// Gathers a piece behind the bytes of a DAS.
 fn gather(alloc: Global, front: Vec<u8>, piece: &[u8]) -> Result<DasBody, Memory>
-    requires short { length front.items < 16777216 }
+    requires short { length front.items < most_text }
     requires small { length front.items + length piece.now < 2 ^ 63 }
     ensures body { IfOk result (IsDasBody (front.items ++ piece.now)) }
     ensures short { IfOk result IsShortDas }

@@ -1,6 +1,7 @@
 //! A body that is read into memory, up to a limit, and judged as it comes (DAP 2.0).
 
 ghost use Rattle.std.specs.Prelude.{◌≡◌, ◌≢◌, ◌+◌, ◌^◌, ◌≤◌, ◌<◌, ℕ, List, [], ◌++◌, length, IfErr, IfOk};
+ghost use Rattle.dap_types.specs.Limits.{most_piece};
 ghost use Rattle.dap_http.specs.declared.kind.Kind.TheVariants.{Ver};
 ghost use Rattle.dap_client.specs.After.{form_in};
 ghost use Rattle.dap_client.specs.Replies.{form_of};
@@ -56,7 +57,7 @@ fn stopped(outcome: Outcome) -> BodyOutcome
 fn judge(reader: Body, piece: &[u8]) -> Result<Body, BodyOutcome>
     requires stands { (bytes : List ℕ) × IsAfter reader bytes }
     requires within { reader.taken + length piece.now ≤ 2 ^ 40 }
-    requires few { length piece.now ≤ 65536 }
+    requires few { length piece.now ≤ most_piece }
     ensures judged { (bytes : List ℕ) → IsAfter reader bytes → IsJudged (form_in reader) (bytes ++ piece.now) result }
     ensures kind { IfOk result (λ r. r.kind ≡ reader.kind) }
 {
@@ -124,7 +125,7 @@ fn with(kept: Vec<u8>, piece: &[u8]) -> Result<Vec<u8>, BodyOutcome>
 fn read_on(reader: Body, limit: u32, part: &[u8]) -> Result<Holding, BodyOutcome>
     requires kind { reader.kind ≢ Ver }
     requires stands { (body : List ℕ) × IsAfter reader body }
-    requires few { length part.now ≤ 65536 }
+    requires few { length part.now ≤ most_piece }
     ensures { (body : List ℕ) → IsAfter reader body → IsFull (form_in reader) limit body → limit < length body + length part.now → IsTaken (form_in reader) limit (body ++ part.now) result }
 {
     let looked_at = reader.looked_at(part);
@@ -149,7 +150,7 @@ fn overflow(
     requires stands { IsAfter reader kept.items }
     requires full { length kept.items + length front.now ≡ limit }
     requires some { 0 < length behind.now }
-    requires few { length front.now + length behind.now ≤ 65536 }
+    requires few { length front.now + length behind.now ≤ most_piece }
     ensures { IsTaken (form_in reader) limit (kept.items ++ (front.now ++ behind.now)) result }
 {
     let kind = reader.kind;
@@ -174,7 +175,7 @@ fn take_into(
     requires kind { reader.kind ≢ Ver }
     requires stands { IsAfter reader kept.items }
     requires short { length kept.items ≤ limit }
-    requires few { length part.now ≤ 65536 }
+    requires few { length part.now ≤ most_piece }
     ensures { IsTaken (form_in reader) limit (kept.items ++ part.now) result }
 {
     let room = limit as usize - kept.len();
@@ -208,7 +209,7 @@ impl Holding {
     /// Reads the next part.
     pub fn take(self, alloc: Global, part: &[u8]) -> Result<Holding, BodyOutcome>
         requires holds { Holds self }
-        requires few { length part.now ≤ 65536 }
+        requires few { length part.now ≤ most_piece }
         ensures { (form : Form) (limit : ℕ) (body : List ℕ) → IsHolding form limit body self → IsTaken form limit (body ++ part.now) result }
     {
         let Holding {

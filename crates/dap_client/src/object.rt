@@ -1,6 +1,7 @@
 //! An Error object that comes in pieces (DAP 2.0, Error objects).
 
 ghost use Rattle.std.specs.Prelude.{◌≡◌, ℕ, ◌+◌, ◌^◌, ◌<◌, ◌≤◌, List, [], ◌++◌, ◌∷◌, true, false, not, length, IfOk, MatchOption};
+ghost use Rattle.dap_types.specs.Limits.{most_error};
 ghost use Rattle.dap_errors.specs.Reading.{ErrorOf, IsBad, limit};
 ghost use Rattle.dap_errors.specs.declared.object.ErrorObject.{ErrorObject as ErrorValue};
 ghost use Rattle.dap_client.specs.inner.Objects.{IsBehind, IsObjectOf, IsShort};
@@ -27,7 +28,7 @@ pub enum Object {
 /// Whether a semicolon may stand behind the object that a text is.
 #[tactic(auto, using(crate::proofs::Objects::open_trail, crate::proofs::Objects::closed_trail))]
 fn takes_semicolon(alloc: Global, front: Vec<u8>) -> Result<bool, Memory>
-    requires { length front.items ≡ 65536 }
+    requires { length front.items ≡ most_error }
     ensures { (error : ErrorValue) → ErrorOf front.items error → IfOk result (λ may. IsBehind front.items error (not may)) }
 {
     let mut front = front;
@@ -43,7 +44,7 @@ fn takes_semicolon(alloc: Global, front: Vec<u8>) -> Result<bool, Memory>
 /// Reads an object that was gathered up to the limit.
 #[tactic(auto, using(crate::proofs::Objects::bad_stays))]
 fn judged(alloc: Global, front: Vec<u8>) -> Result<Object, Memory>
-    requires { length front.items ≡ 65536 }
+    requires { length front.items ≡ most_error }
     ensures object { IfOk result (IsObjectOf front.items) }
     ensures short { IfOk result IsShort }
 {
@@ -92,7 +93,7 @@ fn trail(object: ErrorObject, semicolon: bool, place: u64, piece: &[u8]) -> Obje
 
 /// Gathers a piece behind the bytes of an object.
 fn gather(alloc: Global, front: Vec<u8>, piece: &[u8]) -> Result<Object, Memory>
-    requires { length front.items < 65536 }
+    requires { length front.items < most_error }
     ensures object { IfOk result (IsObjectOf (front.items ++ piece.now)) }
     ensures short { IfOk result IsShort }
 {

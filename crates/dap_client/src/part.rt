@@ -2,6 +2,7 @@
 //! of an Error object in their place.
 
 ghost use Rattle.std.specs.Prelude.{◌≡◌, ◌+◌, ◌^◌, ◌≤◌, ◌<◌, ℕ, List, [], ◌++◌, false, true, length, Ok, Err, OnOk};
+ghost use Rattle.dap_types.specs.Limits.{most_piece};
 ghost use Rattle.dap_model.specs.Partly.{ShowsLines};
 ghost use Rattle.dap_model.specs.Received.{HasHead};
 ghost use Rattle.dap_outside.specs.Causes.{Rose};
@@ -71,7 +72,7 @@ fn read_data<O: Sink>(reader: BodyReader, piece: &[u8], out: &mut O) -> Result<P
     requires stands { readers.Stands reader }
     requires still_open { readers.is_open reader ≡ true }
     requires within { readers.taken_of reader + length piece.now ≤ 2 ^ 40 }
-    requires few { length piece.now ≤ 65536 }
+    requires few { length piece.now ≤ most_piece }
     ensures read { (bytes put : List ℕ) → readers.ReaderStandsAfter reader bytes put → Gains (O.written out.old) (O.written out.new)
         (λ text. IsRead dods_form bytes (bytes ++ piece.now) (put ++ text) result) }
     ensures goes_on { OnOk result (readers.taken_of reader + length piece.now < 2 ^ 40) }
@@ -244,7 +245,7 @@ impl Part {
     ) -> Result<Part, Outcome>
         requires stands { (form : Form) × (bytes : List ℕ) × (put : List ℕ) × (length bytes ≡ place) × IsPart form self bytes put }
         requires within { place + length piece.now ≤ 2 ^ 40 }
-        requires few { length piece.now ≤ 65536 }
+        requires few { length piece.now ≤ most_piece }
         ensures read { (form : Form) (bytes put : List ℕ) → length bytes ≡ place → IsPart form self bytes put → Gains (O.written out.old) (O.written out.new)
             (λ text. IsRead form bytes (bytes ++ piece.now) (put ++ text) result) }
         ensures goes_on { OnOk result (place + length piece.now < 2 ^ 40) }

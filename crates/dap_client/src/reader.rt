@@ -3,6 +3,7 @@
 ghost use Rattle.std.specs.Prelude.{◌≡◌, ℕ, ◌+◌, ◌^◌, ◌<◌, ◌≤◌, ◌⊎◌, List, [], ◌++◌, length, codes, true, false, OnOk, OnErr};
 ghost use Rattle.std.specs.Fmt.{decimal};
 ghost use Rattle.std.specs.Io.KnownBytes.{Appends};
+ghost use Rattle.dap_types.specs.Limits.{most_piece};
 ghost use Rattle.dap_outside.specs.Causes.{HasCause, Rose};
 ghost use Rattle.dap_outside.specs.Streams.{AppendsFront};
 ghost use Rattle.dap_client.specs.Outcomes.{OnWriteFault, WhereNothingPut};
@@ -192,7 +193,7 @@ impl BodyReader {
         requires stands { Stands self.old }
         requires still_open { is_open self.old ≡ true }
         requires within { taken_of self.old + length piece.now ≤ 2 ^ 40 }
-        requires few { length piece.now ≤ 65536 }
+        requires few { length piece.now ≤ most_piece }
         ensures stands { (bytes put : List ℕ) → ReaderStandsAfter self.old bytes put →
             Gains (O.written out.old) (O.written out.new) (λ text. ReaderStandsAfter self.new (bytes ++ piece.now) (put ++ text)) }
         ensures taken { taken_of self.new ≡ taken_of self.old + length piece.now }

@@ -2,6 +2,7 @@
 
 ghost use Rattle.std.specs.Prelude.{◌≡◌, ◌≢◌, ◌≤◌, ◌++◌, ℕ, List, [], Some, true, length};
 ghost use Rattle.std.specs.Io.KnownBytes.{Consumes};
+ghost use Rattle.dap_types.specs.Limits.{most_piece};
 ghost use Rattle.dap_outside.specs.Causes.{Rose};
 ghost use Rattle.dap_http.specs.Delivered.{BreaksOff, Delivers, HasCoding};
 ghost use Rattle.dap_http.specs.Following.{Follows, IsInTime, body_coding};
@@ -66,7 +67,7 @@ fn read_behind<I: Source>(
     limit: u32,
 ) -> BodyOutcome
     requires kind { kind ≢ Ver }
-    requires few { length first.now ≤ 65536 }
+    requires few { length first.now ≤ most_piece }
     ensures says { (taken : List ℕ) × Consumes (I.left source.old) (I.left source.new) taken
         × SaysBehind (form_of kind) limit coding (first.now ++ taken) (I.ended source.new) result × StopsBehind (form_of kind) coding (first.now ++ taken) }
     ensures read_fault { result ≡ BodyOutcome.ReadFault → Rose (I.take_faults source.old) (I.take_faults source.new) }

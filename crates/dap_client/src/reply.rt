@@ -2,6 +2,7 @@
 
 ghost use Rattle.std.specs.Prelude.{◌≡◌, ◌≢◌, ◌≤◌, ◌<◌, ◌^◌, ◌++◌, ◌+◌, ℕ, List, [], Some, IsTrue, length};
 ghost use Rattle.std.specs.Io.KnownBytes.{Appends, Consumes};
+ghost use Rattle.dap_types.specs.Limits.{most_piece};
 ghost use Rattle.dap_outside.specs.Causes.{Rose};
 ghost use Rattle.dap_http.specs.Delivered.{HasCoding};
 ghost use Rattle.dap_http.specs.Following.{Follows, IsInTime, body_coding};
@@ -126,7 +127,7 @@ fn read_body<I: Source, O: Sink>(
 
 /// Keeps these bytes in place of the rest.
 fn replace(heads: &mut ReplyReader, bytes: &[u8])
-    requires { length bytes.now ≤ 65536 }
+    requires { length bytes.now ≤ most_piece }
     ensures { rest_of heads.new ≡ bytes.now }
 {
     let count = heads.rest().len();

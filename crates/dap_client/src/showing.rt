@@ -3,7 +3,7 @@ ghost use Rattle.std.specs.Io.KnownBytes.{Appends, Consumes, IsAtEnd};
 ghost use Rattle.dap_model.specs.Partly.{ShowsLines};
 ghost use Rattle.dap_model.specs.Shown.{shown};
 ghost use Rattle.dap_outside.specs.Causes.{HasCause, Rose};
-ghost use Rattle.dap_types.specs.Limits.{body_limit};
+ghost use Rattle.dap_types.specs.Limits.{body_limit, most_piece};
 ghost use Rattle.dap_types.specs.Model.{Dataset, Tree};
 ghost use Rattle.dap_errors.specs.declared.object.ErrorObject.{ErrorObject};
 ghost use Rattle.dap_client.specs.Outcomes.{Answers, OnBadReply, OnComplete, OnLinkFault, OnMemory, OnReadFault, OnServerError, OnWriteFault, WhereNothingPut, WhereWhole};
@@ -24,7 +24,7 @@ const PIECE: usize = limits::MOST_PIECE;
 
 /// Room for a piece.
 fn piece_room(alloc: Global) -> Result<Vec<u8>, Memory>
-    ensures { IfOk result (λ room. length room.items ≡ 65536) }
+    ensures { IfOk result (λ room. length room.items ≡ most_piece) }
 {
     let mut room = Vec::new(alloc);
     room.resize(PIECE, 0u8)?;
@@ -35,7 +35,7 @@ fn piece_room(alloc: Global) -> Result<Vec<u8>, Memory>
 fn piece_length(taken: u64) -> usize
     requires { taken < 2 ^ 40 }
     ensures some { 0 < result }
-    ensures few { result ≤ 65536 }
+    ensures few { result ≤ most_piece }
     ensures within { taken + result ≤ 2 ^ 40 }
 {
     let left = BUDGET - taken;
@@ -52,7 +52,7 @@ fn read_piece<I: Source, O: Sink>(
     source: &mut I,
     out: &mut O,
 ) -> Result<bool, Failed>
-    requires room { length room.old ≡ 65536 }
+    requires room { length room.old ≡ most_piece }
     requires stands { Stands reader.old }
     requires still_open { is_open reader.old ≡ true }
     ensures reads { (bytes put : List ℕ) → ReaderStandsAfter reader.old bytes put →
@@ -85,7 +85,7 @@ fn read_body<I: Source, O: Sink>(
     source: &mut I,
     out: &mut O,
 ) -> Result<(), Failed>
-    requires room { length room.old ≡ 65536 }
+    requires room { length room.old ≡ most_piece }
     requires begins { ReaderStandsAfter reader.old [] [] }
     ensures reads { Reads (I.left source.old) (I.left source.new) (O.written out.old) (O.written out.new) reader.new }
     ensures end { IfOk result (λ _. EndsReading reader.new (IsTrue (I.ended source.new) × IsAtEnd (I.left source.new))) }
@@ -144,7 +144,7 @@ pub fn show<I: Source, O: Sink>(alloc: Global, source: &mut I, out: &mut O) -> O
 
     ensures no_link { OnLinkFault ⊥ result }
     ensures nothing_put { WhereNothingPut (O.written out.new ≡ O.written out.old) result }
-    ensures memory { OnMemory (Takes (I.left source.old) (I.left source.new) (HasFewValues 65536)) result }
+    ensures memory { OnMemory (Takes (I.left source.old) (I.left source.new) (HasFewValues most_piece)) result }
     ensures whole { I.whole source.new ≡ I.whole source.old }
     ensures beside_reading { I.beside_reading source.new ≡ I.beside_reading source.old }
     ensures beside_writing { O.beside_writing out.new ≡ O.beside_writing out.old }

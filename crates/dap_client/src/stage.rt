@@ -2,6 +2,7 @@
 //! object in its place. Each takes a piece and says which stage stands behind it.
 
 ghost use Rattle.std.specs.Prelude.{◌≡◌, ℕ, ◌+◌, ◌^◌, ◌<◌, ◌≤◌, List, [], ◌++◌, length, take, true, false};
+ghost use Rattle.dap_types.specs.Limits.{most_piece};
 ghost use Rattle.dap_types.specs.View.{dataset_view};
 ghost use Rattle.dap_types.specs.WellFormed.{IsWellFormed};
 ghost use Rattle.dap_outside.specs.Causes.{Rose};
@@ -100,7 +101,7 @@ fn begin_values<O: Sink>(
 ) -> Stage
     requires stands { (bytes : List ℕ) × (length bytes ≡ place) × IsHead bytes (dataset_view dataset) × IsWellFormed (dataset_view dataset) }
     requires small { place + length piece.now < 2 ^ 63 }
-    requires few { length piece.now ≤ 65536 }
+    requires few { length piece.now ≤ most_piece }
     ensures stage { (bytes : List ℕ) → length bytes ≡ place → IsNoError (bytes ++ piece.now) → IsHead bytes (dataset_view dataset) →
         Moves (O.written out.old) (O.written out.new) (bytes ++ piece.now) [] result }
     ensures cause { WhereFailed (Rose (O.put_faults out.old) (O.put_faults out.new)) result }
@@ -129,7 +130,7 @@ fn read_line<O: Sink>(
 ) -> Stage
     requires stands { (bytes : List ℕ) × (length bytes ≡ place) × IsInLine (dataset_view dataset) line bytes }
     requires small { place + length piece.now < 2 ^ 63 }
-    requires few { length piece.now ≤ 65536 }
+    requires few { length piece.now ≤ most_piece }
     ensures stage { (bytes : List ℕ) → length bytes ≡ place → IsNoError (bytes ++ piece.now) → IsInLine (dataset_view dataset) line bytes →
         Moves (O.written out.old) (O.written out.new) (bytes ++ piece.now) [] result }
     ensures cause { WhereFailed (Rose (O.put_faults out.old) (O.put_faults out.new)) result }
@@ -157,7 +158,7 @@ fn end_text<O: Sink>(
 ) -> Stage
     requires stands { (bytes : List ℕ) × (length bytes ≡ place) × EndsText reader bytes }
     requires small { place + length piece.now < 2 ^ 63 }
-    requires few { length piece.now ≤ 65536 }
+    requires few { length piece.now ≤ most_piece }
     ensures stage { (bytes : List ℕ) → length bytes ≡ place → IsNoError (bytes ++ piece.now) → EndsText reader bytes →
         Moves (O.written out.old) (O.written out.new) (bytes ++ piece.now) [] result }
     ensures cause { WhereFailed (Rose (O.put_faults out.old) (O.put_faults out.new)) result }
@@ -182,7 +183,7 @@ fn read_text<O: Sink>(
 ) -> Stage
     requires stands { (bytes : List ℕ) × (length bytes ≡ place) × HadAll reader bytes }
     requires small { place + length piece.now < 2 ^ 63 }
-    requires few { length piece.now ≤ 65536 }
+    requires few { length piece.now ≤ most_piece }
     ensures stage { (bytes : List ℕ) → length bytes ≡ place → IsNoError (bytes ++ piece.now) → HadAll reader bytes → ¬ (HasHead bytes) →
         Moves (O.written out.old) (O.written out.new) (bytes ++ piece.now) [] result }
     ensures cause { WhereFailed (Rose (O.put_faults out.old) (O.put_faults out.new)) result }
@@ -239,7 +240,7 @@ fn read_first<O: Sink>(
 ) -> Stage
     requires stands { (bytes : List ℕ) × (length bytes ≡ place) × IsFirst word front.items reader bytes }
     requires small { place + length piece.now < 2 ^ 63 }
-    requires few { length piece.now ≤ 65536 }
+    requires few { length piece.now ≤ most_piece }
     ensures stage { (bytes : List ℕ) → length bytes ≡ place → IsFirst word front.items reader bytes →
         Moves (O.written out.old) (O.written out.new) (bytes ++ piece.now) [] result }
     ensures cause { WhereFailed (Rose (O.put_faults out.old) (O.put_faults out.new)) result }
@@ -290,7 +291,7 @@ impl Stage {
         requires stands { (bytes : List ℕ) × (put : List ℕ) × (length bytes ≡ place) × IsStage self bytes put }
         requires still_open { is_open_stage self ≡ true }
         requires small { place + length piece.now < 2 ^ 63 }
-        requires few { length piece.now ≤ 65536 }
+        requires few { length piece.now ≤ most_piece }
         ensures stage { (bytes put : List ℕ) → length bytes ≡ place → IsStage self bytes put →
             Moves (O.written out.old) (O.written out.new) (bytes ++ piece.now) put result }
         ensures cause { WhereFailed (Rose (O.put_faults out.old) (O.put_faults out.new)) result }

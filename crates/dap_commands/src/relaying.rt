@@ -2,6 +2,7 @@
 
 ghost use Rattle.std.specs.Prelude.{◌≡◌, ◌≢◌, ◌≤◌, List, [], ◌∷◌, ◌++◌, Some, IsSome, IsTrue, IfOk, OnErr, OnOk, option_map};
 ghost use Rattle.std.specs.Io.KnownBytes.{Appends};
+ghost use Rattle.dap_types.specs.Limits.{most_room};
 ghost use Rattle.dap_outside.specs.Causes.{HasCause, Rose};
 ghost use Rattle.dap_outside.specs.Streams.{AppendsFront};
 ghost use Rattle.dap_http.specs.Urls.{is_host};
@@ -139,7 +140,7 @@ pub fn relay<O: Sink, D: Door, C: Dial>(
     requires host { IsTrue (is_host host.now) }
     requires port { 1 ≤ upport }
     requires some { 1 ≤ room }
-    requires few { room ≤ 1024 }
+    requires few { room ≤ most_room }
     requires asked { 1 ≤ requests }
     ensures relayed { (relays : List (RelayedLink D.Wire C.Wire C)) × Relays (record { door_link = link_state D.Wire.Source D.Wire.Sink; dial_link = link_state C.Wire.Source C.Wire.Sink; dial = λ d. record { back = C.back d; faults = C.faults d }; host = host.now; port = upport; room = room }) requests
         (record { back = D.back door.old; dial = dial.old; written = O.written out.old })

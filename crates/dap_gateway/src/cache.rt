@@ -3,6 +3,7 @@
 ghost use Rattle.std.specs.Prelude.{◌≡◌, ◌≤◌, ◌-◌, ◌∷◌, [], None, Some, IfOk, MatchOption, OnErr, OnOk, is_some, take};
 ghost use Rattle.std.specs.Map.{lookup};
 ghost use Rattle.std.specs.Str.{bytes_eq};
+ghost use Rattle.dap_types.specs.Limits.{most_room};
 ghost use Rattle.lru.specs.LruCache.{promoted};
 ghost use Rattle.dap_gateway.specs.Pairs.{pairs, room_of};
 
@@ -22,7 +23,7 @@ impl Cache {
     /// An empty cache with room for so many pairs, 1 to 1,024. Fails where memory is wanted.
     pub fn new(alloc: Global, room: u32) -> Result<Cache, Memory>
         requires some { 1 ≤ room }
-        requires few { room ≤ 1024 }
+        requires few { room ≤ most_room }
         ensures empty { IfOk result (λ c. pairs c ≡ []) }
         ensures room { IfOk result (λ c. room_of c ≡ room) }
     {

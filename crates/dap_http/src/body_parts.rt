@@ -1,7 +1,7 @@
 ghost use Rattle.std.specs.Prelude.{◌≡◌, ◌≢◌, ◌≤◌, ◌<◌, ◌+◌, ◌++◌, ℕ, List, [], Option, Some, None, IfOk, OnErr, IsTrue, false, length, take};
 ghost use Rattle.std.specs.Io.KnownBytes.{Consumes, IsAtEnd};
 ghost use Rattle.dap_outside.specs.Causes.{HasCause, Rose};
-ghost use Rattle.dap_types.specs.Limits.{body_limit};
+ghost use Rattle.dap_types.specs.Limits.{body_limit, most_piece};
 
 use crate::Coding;
 use crate::unframer::{Unframed, Unframer};
@@ -36,8 +36,8 @@ pub struct BodyParts {
     from: usize,
     to: usize,
     end: usize,
-    ghost size: { length room.items ≡ 65536 },
-    ghost filled: { end ≤ 65536 },
+    ghost size: { length room.items ≡ most_piece },
+    ghost filled: { end ≤ most_piece },
     ghost within: { to ≤ end },
     ghost lent: { from ≤ to },
 }
@@ -52,7 +52,7 @@ impl BodyParts {
     /// A reader of a body of that coding, whose first bytes were taken together with the head. Fails
     /// where memory is wanted.
     pub fn new(alloc: Global, coding: Coding, first: &[u8]) -> Result<BodyParts, Memory>
-        requires { length first.now ≤ 65536 }
+        requires { length first.now ≤ most_piece }
         ensures follows { IfOk result (λ p. Follows p first.now []) }
         ensures in_time { IfOk result (λ _. IsInTime coding first.now []) }
         ensures coding { IfOk result (λ p. body_coding p ≡ coding) }
@@ -208,7 +208,7 @@ fn room_with(alloc: Global, size: usize, first: &[u8]) -> Result<Vec<u8>, Memory
 fn piece_length(lent: u64) -> usize
     requires { lent < body_limit }
     ensures some { 0 < result }
-    ensures most { result ≤ 65536 }
+    ensures most { result ≤ most_piece }
     ensures left { lent + result ≤ body_limit }
 {
     let left = LIMIT - lent;
@@ -220,10 +220,10 @@ fn piece_length(lent: u64) -> usize
 
 /// Takes some bytes into the room, at most so many, and answers how many; 0 says that nothing is left.
 fn fill<I: Source>(room: &mut Vec<u8>, source: &mut I, most: usize) -> Result<usize, Failed>
-    requires size { length room.old.items ≡ 65536 }
+    requires size { length room.old.items ≡ most_piece }
     requires some { 0 < most }
-    requires within { most ≤ 65536 }
-    ensures size { length room.new.items ≡ 65536 }
+    requires within { most ≤ most_piece }
+    ensures size { length room.new.items ≡ most_piece }
     ensures most { IfOk result (λ n. n ≤ most) }
     ensures bytes { IfOk result (λ n. Consumes (I.left source.old) (I.left source.new) (take n room.new.items)) }
     ensures end { IfOk result (λ n. n ≡ 0 → IsTrue (I.ended source.new) × IsAtEnd (I.left source.new)) }

@@ -1,6 +1,7 @@
 ghost use Rattle.std.specs.Prelude.{◌≡◌, ◌+◌, ◌-◌, ◌≤◌, ◌<◌, ◌++◌, ℕ, List, IsTrue, true, drop, length, take, vec_capacity};
 ghost use Rattle.std.specs.Prelude.{OnOk, OnErr, IfOk};
 ghost use Rattle.std.specs.Io.KnownBytes.{Appends};
+ghost use Rattle.dap_types.specs.Limits.{most_piece};
 ghost use Rattle.dap_outside.specs.Causes.{HasCause};
 ghost use Rattle.dap_http.specs.inner.UnderWay.{InFrames, body_of, end_of, frames_of, front_before, gained_of, has_room, head_of};
 
@@ -60,8 +61,8 @@ impl Gathered {
 
     /// Whether the frame is whole.
     fn is_whole(&self) -> bool
-        ensures whole { result ≡ true → self.now.from + 65536 ≤ length self.now.frame.items }
-        ensures open { result ≡ false → length self.now.frame.items < self.now.from + 65536 }
+        ensures whole { result ≡ true → self.now.from + most_piece ≤ length self.now.frame.items }
+        ensures open { result ≡ false → length self.now.frame.items < self.now.from + most_piece }
     {
         self.frame.len() - self.from >= PIECE
     }
@@ -103,7 +104,7 @@ impl Gathered {
 
     /// Puts what was gathered of a frame that is not whole, and the end of the body.
     fn close<O: Sink>(self, out: &mut O) -> Result<(), Failed>
-        requires open { length self.frame.items < self.from + 65536 }
+        requires open { length self.frame.items < self.from + most_piece }
         ensures ok { OnOk result ((x : List ℕ) × Appends (O.written out.old) (O.written out.new) x
             × (gained_by self ++ x ≡ front_in self ++ framed self.chunked (body_in self))) }
         ensures err { OnErr result ((x : List ℕ) × Appends (O.written out.old) (O.written out.new) x
@@ -154,9 +155,9 @@ impl Gathered {
 
     /// Puts the rest of a whole frame, and begins the next.
     fn flush<O: Sink>(&mut self, out: &mut O) -> Result<(), Failed>
-        requires whole { self.old.from + 65536 ≤ length self.old.frame.items }
-        ensures begins { OnOk result (length self.new.frame.items < self.new.from + 65536) }
-        ensures left { OnErr result ((self.new.from + 65536 ≤ length self.new.frame.items) × (self.new.sent < length self.new.frame.items)) }
+        requires whole { self.old.from + most_piece ≤ length self.old.frame.items }
+        ensures begins { OnOk result (length self.new.frame.items < self.new.from + most_piece) }
+        ensures left { OnErr result ((self.new.from + most_piece ≤ length self.new.frame.items) × (self.new.sent < length self.new.frame.items)) }
         ensures body { body_in self.new ≡ body_in self.old }
         ensures gains { (x : List ℕ) × (gained_by self.new ≡ gained_by self.old ++ x) × Appends (O.written out.old) (O.written out.new) x }
         ensures same { (self.new.chunked ≡ self.old.chunked) × (front_in self.new ≡ front_in self.old) }
@@ -172,7 +173,7 @@ impl Gathered {
 
     /// Puts some bytes of a whole frame.
     fn put_part<O: Sink>(&mut self, out: &mut O) -> Result<(), Failed>
-        requires whole { self.old.from + 65536 ≤ length self.old.frame.items }
+        requires whole { self.old.from + most_piece ≤ length self.old.frame.items }
         requires left { self.old.sent < length self.old.frame.items }
         ensures body { body_in self.new ≡ body_in self.old }
         ensures same { (self.new.chunked ≡ self.old.chunked) × (front_in self.new ≡ front_in self.old) }
@@ -191,9 +192,9 @@ impl Gathered {
 
     /// Begins a frame behind one that was put.
     fn begin(&mut self)
-        requires whole { self.old.from + 65536 ≤ length self.old.frame.items }
+        requires whole { self.old.from + most_piece ≤ length self.old.frame.items }
         requires put { length self.old.frame.items ≤ self.old.sent }
-        ensures begins { length self.new.frame.items < self.new.from + 65536 }
+        ensures begins { length self.new.frame.items < self.new.from + most_piece }
         ensures body { body_in self.new ≡ body_in self.old }
         ensures gained { gained_by self.new ≡ gained_by self.old }
         ensures same { (self.new.chunked ≡ self.old.chunked) × (front_in self.new ≡ front_in self.old) }
@@ -209,7 +210,7 @@ impl Gathered {
     /// Gathers body bytes into a frame, as many as there is room for, and ends it where it is full.
     fn gather(&mut self, bytes: &[u8]) -> usize
         requires some { 0 < length bytes.now }
-        requires open { length self.old.frame.items < self.old.from + 65536 }
+        requires open { length self.old.frame.items < self.old.from + most_piece }
         ensures some { (0 < result) × (result ≤ length bytes.now) }
         ensures body { body_in self.new ≡ body_in self.old ++ take result bytes.now }
         ensures gained { gained_by self.new ≡ gained_by self.old }

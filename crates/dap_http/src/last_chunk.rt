@@ -2,6 +2,7 @@
 
 ghost use Rattle.std.specs.Prelude.{◌≡◌, ◌≤◌, ◌<◌, ◌+◌, ◌-◌, ◌++◌, length, take, drop, false, vec_capacity};
 ghost use Rattle.std.specs.Fmt.{digits};
+ghost use Rattle.dap_types.specs.Limits.{most_piece};
 ghost use Rattle.dap_http.specs.Frames.{chunked, framed};
 ghost use Rattle.dap_http.specs.inner.UnderWay.{full_head, head_of};
 
@@ -13,7 +14,7 @@ use viable::hex_digit;
 pub fn ended(in_chunks: bool, frame: &mut Vec<u8>, from: usize) -> usize
     requires behind { length (head_of in_chunks) ≤ from }
     requires headed { from ≤ length frame.old.items }
-    requires few { length frame.old.items < from + 65536 }
+    requires few { length frame.old.items < from + most_piece }
     requires room { from + 65543 ≤ vec_capacity frame.old }
     requires head { drop (from - length (head_of in_chunks)) frame.old.items ≡ head_of in_chunks ++ drop from frame.old.items }
     ensures inside { result ≤ length frame.new.items }

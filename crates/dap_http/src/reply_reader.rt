@@ -36,8 +36,8 @@ const LONGEST: usize = limits::MOST_REPLY_HEADS;
 #[derive(Drop)]
 pub struct ReplyReader {
     kept: Vec<u8>,
-    ghost few: { length kept.items ≤ 65536 },
-    ghost room: { 65536 ≤ vec_capacity kept },
+    ghost few: { length kept.items ≤ most_reply_heads },
+    ghost room: { most_reply_heads ≤ vec_capacity kept },
 }
 
 impl ReplyReader {
@@ -165,7 +165,7 @@ impl ReplyReader {
     /// Puts bytes behind the rest that were taken from the source beyond the end of a body. There is
     /// room for 65,536 bytes in all.
     pub fn keep(&mut self, bytes: &[u8])
-        requires { length (rest_of self.old) + length bytes.now ≤ 65536 }
+        requires { length (rest_of self.old) + length bytes.now ≤ most_reply_heads }
         ensures { rest_of self.new ≡ rest_of self.old ++ bytes.now }
     {
         keep(&mut self.kept, bytes);

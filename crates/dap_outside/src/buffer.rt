@@ -1,6 +1,7 @@
 ghost use Rattle.std.specs.Prelude.{◌≡◌, ◌≤◌, ◌+◌, ℕ, [], ◌++◌, length, OnErr, OnOk};
 ghost use Rattle.arrayvec.specs.ArrayVec.{array_vec_len};
 ghost use Rattle.std.specs.Io.KnownBytes.{Appends};
+ghost use Rattle.dap_types.specs.Limits.{most_piece};
 ghost use Rattle.dap_outside.specs.Buffered.{Puts};
 ghost use Rattle.dap_outside.specs.Causes.{HasCause};
 ghost use Rattle.dap_outside.specs.Streams.{AppendsFront};
@@ -71,7 +72,7 @@ impl Buffer {
     /// Keeps a text for which there is room.
     #[inline(always)]
     fn keep(&mut self, text: &[u8])
-        requires { array_vec_len self.old.bytes + length text.now ≤ 65536 }
+        requires { array_vec_len self.old.bytes + length text.now ≤ most_piece }
         ensures { self.new.bytes.items ≡ self.old.bytes.items ++ text.now }
     {
         match self.bytes.try_extend_from_slice(text) {

@@ -18,13 +18,13 @@ use Rattle.join_source.specs.Lists.{list_of}
 use Rattle.dap_server.proofs.Lying.{same_bytes}
 use Rattle.dap_server.proofs.OpeningLists.{Lines, of_any, size_is}
 use Rattle.dap_server.proofs.Refusals.{NoLine}
-use Rattle.dap_server.specs.Costs.{IsAskedBefore, most_before, most_of_first}
+use Rattle.dap_server.specs.Costs.{IsAskedBefore, IsBadAmong, IsBadLine, IsWithinBadLine, most_before, most_of_first}
 use Rattle.dap_server.specs.Files.{Stored}
 use Rattle.dap_server.specs.Joins.{AreJoined, Member, join_cause}
 use Rattle.dap_server.specs.Prepared.{WhereRefuse}
 use Rattle.dap_server.specs.Results.{Text}
 use Rattle.dap_server.specs.inner.Joining.{most_of_size}
-use Rattle.dap_server.specs.inner.Members.{AreHeadersOf, AsksLine, AsksLines, most_in_first, most_in_line}
+use Rattle.dap_server.specs.inner.Members.{AreHeadersOf, AsksLine, AsksLines, AsksToBad, most_in_first, most_in_line}
 use Rattle.dap_server.specs.inner.Opening.{IsRead, WhereRefused}
 use Rattle.dap_server.specs.inner.Preparing.{join_prepared, text_prepared}
 use Rattle.dap_server.specs.declared.prepared.Prepared.{Prepared}
@@ -115,6 +115,37 @@ pub not_together : {F : Type 0} (told : Told) (content : F → Option (List ℕ)
 not_together told content size_of names headers fs name cause (ms, members, are, files) is =
     let (refusal, why, first, there, e) = is ms are in
     join_refusal refusal why cause there e
+
+-- ---- Up to a line that is bad.
+
+-- a list has its names
+names_of : (o : Option (List ℕ)) (a b : List ℕ) (ns ms : List (List ℕ)) → o ≡ Some a → o ≡ Some b → list_of a ≡ Ok ns → list_of b ≡ Ok ms → ns ≡ ms
+names_of o a b ns ms one other lists also =
+    let alike : a ≡ b = cc (one, other) in
+    let again : list_of b ≡ Ok ns = subst (λ t. list_of t ≡ Ok ns) alike lists in
+    cc (again, also)
+
+of_names : {F : Type 0} (told told2 : Told) (name_of content : F → Option (List ℕ)) (name : List ℕ) (file : F) (names : List (List ℕ)) (line : ℕ)
+    → Finds told name_of content name (Some file) → (bytes : List ℕ) × IsRead (content file) bytes × (list_of bytes ≡ Ok names) → told2 ≡ told → IsBadLine told name line → IsBadAmong told2 names line
+of_names None told2 name_of content name file names line finds listed same bad = absurd bad
+of_names (Some files) told2 name_of content name file names line (b, there, named, holds) (bytes, is_read, l) same (own, others, found, lists, bad) =
+    let one : list_of b ≡ Ok names = subst (λ t. list_of t ≡ Ok names) (same_bytes (content file) bytes b holds is_read) l in
+    let is : others ≡ names = names_of (files name) own b others names found there lists one in
+    subst (λ t. IsBadAmong t names line) (sym same) (subst (λ ns. IsBadAmong (Some files) ns line) is bad)
+
+pub lines_to_bad : {F : Type 0} (told told2 : Told) (name_of content : F → Option (List ℕ)) (name : List ℕ) (file : F) (size : ℕ) (names : List (List ℕ)) (start before now : ℕ)
+    → Finds told name_of content name (Some file) → HasSize (content file) size → (bytes : List ℕ) × IsRead (content file) bytes × (list_of bytes ≡ Ok names) → told2 ≡ told
+    → before ≤ start + most_of_size size → AsksToBad told2 names before now → IsWithinBadLine told name start now
+lines_to_bad told told2 name_of content name file size names start before now finds has listed same asked lines =
+    λ line bad. omega (arith, asked, lines line (of_names told told2 name_of content name file names line finds listed same bad), lines_before told told2 name_of content name file size names line finds has listed same)
+
+pub list_to_bad : {F : Type 0} (told : Told) (name_of content : F → Option (List ℕ)) (name : List ℕ) (file : F) (size : ℕ) (before now : ℕ)
+    → Finds told name_of content name (Some file) → HasSize (content file) size → now ≤ before + most_of_size size → IsWithinBadLine told name before now
+list_to_bad told name_of content name file size before now finds has asked =
+    λ line bad. omega (arith, asked, list_before told name_of content name file size line finds has)
+
+pub nothing_to_bad : (told : Told) (name : List ℕ) (before now : ℕ) → now ≤ before → IsWithinBadLine told name before now
+nothing_to_bad told name before now none = λ line bad. omega (arith, none)
 
 -- ---- What a query leaves.
 

@@ -27,6 +27,7 @@ pub mod Connecting
 pub mod OneStep
 pub mod OneJoin
 pub mod Lines
+pub mod BadLines
 pub mod OpenedLines
 pub mod Found
 pub mod MemberNames

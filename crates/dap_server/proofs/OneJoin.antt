@@ -36,7 +36,7 @@ no-cause : (file other : List ℕ) (c : Contents) (why : Cause) → file ≡ oth
 no-cause file other c why same header (refusal, reason, is, is_reason, is_why) =
     cc (one_verdict (front file) (length file) (Ok c) (Err refusal) header (subst (λ f. IsFirst refusal (front f) (length f)) (sym same) is))
 
-member_one : (files : Files) (line : ℕ) (name : List ℕ) → One (IsMember (Some files) line name)
+pub member_one : (files : Files) (line : ℕ) (name : List ℕ) → One (IsMember (Some files) line name)
 member_one files line name (Ok m) (Ok n) (there, header) (there_n, header_n) =
     let same : m.bytes ≡ n.bytes = some-same (files name) m.bytes n.bytes there there_n in
     let alike : m.contents ≡ n.contents =

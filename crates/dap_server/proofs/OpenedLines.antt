@@ -7,10 +7,11 @@ use Rattle.std.proofs.lemmas.List.Elements.{All-get_or}
 use Rattle.dap_outside.specs.Files.{Told}
 use Rattle.netcdf_source.specs.File.{FileHeader}
 use Rattle.join_source.specs.Names.{is_member_name}
+use Rattle.dap_server.proofs.BadLines.{NoneBad, one_more_good, to_bad}
 use Rattle.dap_server.proofs.Lines.{Reached, bad, begin, line_first, line_within, one_more, whole, zip_push}
 use Rattle.dap_server.specs.Joins.{IsMember, Member, Members}
 use Rattle.dap_errors.specs.declared.cause.Cause.{Cause}
-use Rattle.dap_server.specs.inner.Members.{AreFilesOf, AreHeadersOf, AsksLine, AsksLines, IsFileOf, IsHeaderOf, most_in_first, most_in_line, most_in_lines}
+use Rattle.dap_server.specs.inner.Members.{AreFilesOf, AreHeadersOf, AsksLine, AsksLines, AsksToBad, IsFileOf, IsHeaderOf, most_in_first, most_in_line, most_in_lines}
 use Rattle.dap_server.specs.inner.Opening.{WhereRefused}
 use Rattle.dap_server.specs.declared.no_answer.Stop.{Stop}
 use Rattle.dap_server.specs.declared.no_answer.Stop.TheVariants.{Refused, ShelfFault, Memory}
@@ -84,6 +85,16 @@ module _ (names : List (List ℕ)) (k : ℕ) (name text : List ℕ) (lt : k < le
         let same : k ≡ count = omega (arith, is) in
         subst (λ n. now ≤ start + most_in_first told n names) same (omega (arith, so_far, asked))
     of_count count (inr (is, asked)) = subst (λ n. now ≤ start + most_in_first told n names) is (asked_first told told' start before now same so_far asked)
+
+  -- it is none that is bad
+  pub still_good : {F : Type 0} (told told' : Told) (content' : F → Option (List ℕ)) (size_of' : F → ℕ) (h : FileHeader) (f : F) → told' ≡ told → IsOpened told' (k + 1) text content' size_of' h f
+      → NoneBad told names k → NoneBad told names (k + 1)
+  still_good told told' content' size_of' h f same (m, is, head, file) so_far =
+      let is_named : IsMember told (k + 1) name (Ok m) = subst (λ n. IsMember told (k + 1) n (Ok m)) is_text (subst (λ t. IsMember t (k + 1) text (Ok m)) same is) in
+      one_more_good told names (drop (k + 1) names) k name m here is_named so_far
+
+  pub up_to_bad : (told told' : Told) (start before now : ℕ) → told' ≡ told → NoneBad told names k → before ≤ start + most_in_first told k names → now ≤ before + most_in_line told' text → AsksToBad told names start now
+  up_to_bad told told' start before now same good so_far own = to_bad told names k start now good (asked_first told told' start before now same so_far own)
 
 -- all lines
 pub all_opened : {F : Type 0} (told : Told) (names : List (List ℕ)) (k : ℕ) (content content' : F → Option (List ℕ)) (size_of size_of' : F → ℕ) (headers : List FileHeader) (fs : List F) → length names ≤ k → content' ≡ content → size_of' ≡ size_of

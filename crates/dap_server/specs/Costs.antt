@@ -1,5 +1,5 @@
 -- What answering a target may ask of a shelf (this project's).
-use Rattle.std.specs.Prelude.{◌≡◌, ℕ, ◌+◌, ◌*◌, ◌≤◌, Bool, true, false, ◌&&◌, List, [], ◌∷◌, ◌++◌, length, min, nat_lt, sum_by, take, if◌then◌else◌, codes, is_some, Option, Some, None, Result, Ok, Err}
+use Rattle.std.specs.Prelude.{◌≡◌, ℕ, ◌+◌, ◌*◌, ◌≤◌, Bool, true, false, ◌&&◌, List, [], ◌∷◌, ◌++◌, drop, length, min, nat_lt, sum_by, take, if◌then◌else◌, codes, is_some, Option, Some, None, Result, Ok, Err}
 use Rattle.std.specs.Option.{option_map_or}
 use Rattle.dap_types.specs.Limits.{most_header, most_lines, most_piece, most_saved, most_table}
 use Rattle.dap_outside.specs.Files.{Told}
@@ -25,7 +25,7 @@ use Rattle.join_source.specs.Lists.{list_of}
 use Rattle.join_source.specs.Members.{CanJoin, joined_dataset}
 use Rattle.join_source.specs.declared.refusal.ListRefusal.{ListRefusal}
 use Rattle.dap_server.specs.Files.{Files, Form, MayHave, form_of, front, joined, netcdf, saved, table}
-use Rattle.dap_server.specs.Joins.{Member, Members, bytes_in, contents_in}
+use Rattle.dap_server.specs.Joins.{IsMember, Member, Members, bytes_in, contents_in}
 
 -- the version is no file's
 abbrev pub is_of_file : Kind → Bool
@@ -87,6 +87,22 @@ most_before (Some files) name count =
 -- then no more was asked than their list and the front of each: where the shelf tells its files, of those that it has
 abbrev pub IsAskedBefore : Told → List ℕ → Cause → ℕ → ℕ → Type 0
 IsAskedBefore told name cause before now = (count : ℕ) → IsBehindLines cause count → now ≤ before + most_before told name count
+
+-- in files that are told, the line of some names with that number, from 1, names no file, or one without a header
+abbrev pub IsBadAmong : Told → List (List ℕ) → ℕ → Type 0
+IsBadAmong None names line = ⊥
+IsBadAmong (Some files) names line =
+    (before : ℕ) × (name : List ℕ) × (rest : List (List ℕ)) × (cause : Cause) × (line ≡ before + 1) × (drop before names ≡ name ∷ rest) × IsMember (Some files) line name (Err cause)
+
+-- that line of the list of a name does
+abbrev pub IsBadLine : Told → List ℕ → ℕ → Type 0
+IsBadLine None name line = ⊥
+IsBadLine (Some files) name line = (bytes : List ℕ) × (names : List (List ℕ)) × (files name ≡ Some bytes) × (list_of bytes ≡ Ok names) × IsBadAmong (Some files) names line
+
+-- whatever comes of a list, no more was asked than its bytes and the front of each file up to a line that is bad, and
+-- so up to the first
+abbrev pub IsWithinBadLine : Told → List ℕ → ℕ → ℕ → Type 0
+IsWithinBadLine told name before now = (line : ℕ) → IsBadLine told name line → now ≤ before + most_before told name line
 
 -- the most that is read before an answer: the front of a netCDF file, another file whole, or a list and the
 -- front of each file that it names

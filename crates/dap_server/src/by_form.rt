@@ -2,7 +2,7 @@
 
 ghost use Rattle.std.specs.Prelude.{◌≡◌, ◌≢◌, ◌+◌, ◌≤◌, ℕ, List, IfOk, IfErr, IsTrue, Ok, Err, None, Some, is_some};
 ghost use Rattle.dap_outside.specs.Causes.{Rose};
-ghost use Rattle.dap_server.specs.Costs.{IsAskedBefore, most_first};
+ghost use Rattle.dap_server.specs.Costs.{IsAskedBefore, IsWithinBadLine, most_first};
 ghost use Rattle.dap_server.specs.Files.{form_of, is_joined, joined};
 ghost use Rattle.dap_server.specs.Prepared.{MayGiveWithin};
 ghost use Rattle.dap_server.specs.Results.{result_text};
@@ -41,6 +41,7 @@ pub fn das_by_form<S: Shelf>(alloc: Global, shelf: &mut S, name: &str) -> Result
     ensures files { S.files shelf.new ≡ S.files shelf.old }
     ensures asked { S.asked shelf.new ≤ S.asked shelf.old + most_first (S.files shelf.old) name.now }
     ensures asked_before { form_of name.now ≡ Some joined → IfErr result (WhereRefused (λ why. IsAskedBefore (S.files shelf.old) name.now why (S.asked shelf.old) (S.asked shelf.new))) }
+    ensures before_bad { form_of name.now ≡ Some joined → IsWithinBadLine (S.files shelf.old) name.now (S.asked shelf.old) (S.asked shelf.new) }
     ensures list_text { form_of name.now ≡ Some joined → IfOk result (λ text. (query : List ℕ) → MayGiveWithin (S.files shelf.old) (asked_as Kind.Das name.now query) (S.asked shelf.old) (S.asked shelf.new) (Ok (result_text Kind.Das text))) }
     ensures list_refused { form_of name.now ≡ Some joined → IfErr result (WhereRefused (λ why. (query : List ℕ) → MayGiveWithin (S.files shelf.old) (asked_as Kind.Das name.now query) (S.asked shelf.old) (S.asked shelf.new) (Err why))) }
     ensures untouched { form_of name.now ≡ None → shelf.new ≡ shelf.old }
@@ -66,6 +67,7 @@ pub fn dds_by_form<S: Shelf>(
     ensures files { S.files shelf.new ≡ S.files shelf.old }
     ensures asked { S.asked shelf.new ≤ S.asked shelf.old + most_first (S.files shelf.old) name.now }
     ensures asked_before { form_of name.now ≡ Some joined → IfErr result (WhereRefused (λ why. IsAskedBefore (S.files shelf.old) name.now why (S.asked shelf.old) (S.asked shelf.new))) }
+    ensures before_bad { form_of name.now ≡ Some joined → IsWithinBadLine (S.files shelf.old) name.now (S.asked shelf.old) (S.asked shelf.new) }
     ensures list_text { form_of name.now ≡ Some joined → IfOk result (λ text. MayGiveWithin (S.files shelf.old) (asked_as Kind.Dds name.now query.now) (S.asked shelf.old) (S.asked shelf.new) (Ok (result_text Kind.Dds text))) }
     ensures list_refused { form_of name.now ≡ Some joined → IfErr result (WhereRefused (λ why. MayGiveWithin (S.files shelf.old) (asked_as Kind.Dds name.now query.now) (S.asked shelf.old) (S.asked shelf.new) (Err why))) }
     ensures untouched { form_of name.now ≡ None → shelf.new ≡ shelf.old }

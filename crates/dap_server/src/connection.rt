@@ -2,6 +2,7 @@
 
 ghost use Rattle.std.specs.Prelude.{◌≡◌, ◌≢◌, ◌+◌, ◌<◌, ◌≤◌, ◌++◌, [], ℕ, List, Some, true, false, ◌||◌, ◌==◌};
 ghost use Rattle.std.specs.Io.KnownBytes.{Appends, Consumes};
+ghost use Rattle.dap_types.specs.Limits.{most_requests};
 ghost use Rattle.dap_outside.specs.Causes.{Rose};
 ghost use Rattle.dap_errors.specs.Causes.{http_status};
 ghost use Rattle.httparse.specs.Grammar.{RequestHead};
@@ -27,7 +28,7 @@ const MOST: u32 = limits::MOST_REQUESTS;
 
 /// Puts a reply that ends the connection, behind so many others, the last of which had that status.
 fn put_last<O: Sink>(out: &mut O, bytes: &[u8], status: u16, answered: u32, before: u16) -> Served
-    requires { answered < 1000 }
+    requires { answered < most_requests }
     ensures puts { PutsLast bytes.now status answered before (O.written out.old) (O.written out.new) result }
     ensures causes { RoseFor result.ending 0 0 (O.put_faults out.old) (O.put_faults out.new) }
     ensures later { O.put_faults out.old ≤ O.put_faults out.new }
@@ -49,7 +50,7 @@ fn put_last<O: Sink>(out: &mut O, bytes: &[u8], status: u16, answered: u32, befo
 
 /// Refuses bytes that are no request.
 fn refuse<O: Sink>(alloc: Global, out: &mut O, cause: &Cause, answered: u32, before: u16) -> Served
-    requires { answered < 1000 }
+    requires { answered < most_requests }
     ensures puts { PutsRefusal cause.now answered before (O.written out.old) (O.written out.new) result }
     ensures causes { RoseFor result.ending 0 0 (O.put_faults out.old) (O.put_faults out.new) }
     ensures later { O.put_faults out.old ≤ O.put_faults out.new }
@@ -63,15 +64,15 @@ fn refuse<O: Sink>(alloc: Global, out: &mut O, cause: &Cause, answered: u32, bef
 
 /// Whether a head behind so many requests ends its connection.
 fn ends_at(head: &Head, answered: u32) -> bool
-    requires { answered < 1000 }
-    ensures { result ≡ (head.now.ends || (answered + 1 == 1000)) }
+    requires { answered < most_requests }
+    ensures { result ≡ (head.now.ends || (answered + 1 == most_requests)) }
 {
     head.ends || answered + 1 == MOST
 }
 
 /// What comes behind the reply to a request.
 fn next_of(reply: Answered, answered: u32, before: u16) -> Next
-    requires { answered < 1000 }
+    requires { answered < most_requests }
     ensures { result ≡ next_of answered before reply }
 {
     match reply {
@@ -108,7 +109,7 @@ fn serve_next<R: Threads + Sync, S: Shelf, L: Link>(
     before: u16,
     workers: u32,
 ) -> Next
-    requires few { answered < 1000 }
+    requires few { answered < most_requests }
     requires some { 1 ≤ workers }
     requires many { workers ≤ 64 }
     ensures serves { Serves answered before (S.files shelf.old) (kept_by reader.old) (kept_by reader.new) (L.left link.old) (L.left link.new)

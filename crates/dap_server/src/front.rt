@@ -1,6 +1,7 @@
 //! The header of a netCDF file, read from the front of the file.
 
 ghost use Rattle.std.specs.Prelude.{◌≡◌, ◌+◌, ◌-◌, ◌*◌, ◌<◌, ◌≤◌, ◌^◌, ◌++◌, ℕ, List, length, min, max, IfOk, IfErr, IfNone, IfSome, OnOk};
+ghost use Rattle.dap_types.specs.Limits.{most_header, most_piece};
 ghost use Rattle.dap_outside.specs.Causes.{Rose};
 ghost use Rattle.dap_outside.specs.Files.{HasSize, Reads};
 ghost use Rattle.netcdf_source.specs.Header.{IsCut, IsHeader};
@@ -37,11 +38,11 @@ fn header_stop(refusal: HeaderRefusal) -> Stop
 
 /// The header of a file of this size that begins with these bytes, `None` where they stop within it.
 fn header_in(alloc: Global, held: &[u8], size: u64) -> Result<Option<Header>, Stop>
-    requires held { length held.now ≤ min size 1048576 }
+    requires held { length held.now ≤ min size most_header }
     requires size { size < 2 ^ 63 }
     ensures header { IfOk result (λ found. IfSome found (λ h. ((more : List ℕ) → IsHeader h.contents (held.now ++ more) size) × (h.length ≡ size))) }
-    ensures more { IfOk result (λ found. IfNone found ((length held.now < min size 1048576) × IsCut held.now)) }
-    ensures refused { IfErr result (WhereRefused (λ cause. (more : List ℕ) → length (held.now ++ more) ≡ min size 1048576 → IsHeaderCause (held.now ++ more) size cause)) }
+    ensures more { IfOk result (λ found. IfNone found ((length held.now < min size most_header) × IsCut held.now)) }
+    ensures refused { IfErr result (WhereRefused (λ cause. (more : List ℕ) → length (held.now ++ more) ≡ min size most_header → IsHeaderCause (held.now ++ more) size cause)) }
     ensures no_fault { IfErr result (WhereFault ⊥) }
 {
     match read_front(alloc, held, size) {
@@ -59,7 +60,7 @@ fn read_on<S: Shelf>(
 ) -> Result<(), Stop>
     requires more { length held.old.items ≤ len }
     requires within { len ≤ S.size_of shelf.old file.old }
-    requires small { len ≤ 1048576 }
+    requires small { len ≤ most_header }
     requires read { Reads (S.content shelf.old file.old) 0 held.old.items }
     ensures bytes { OnOk result (Reads (S.content shelf.old file.old) 0 held.new.items × (length held.new.items ≡ len)) }
     ensures why { IfErr result (WhereFault (Rose (S.faults shelf.old) (S.faults shelf.new))) }
@@ -83,8 +84,8 @@ fn read_on<S: Shelf>(
 
 /// How many first bytes are held next, behind so many: 64 KiB, and then twice as many, up to the most.
 fn next_len(len: usize, most: u64) -> u64
-    requires { len ≤ 1048576 }
-    ensures { result ≡ min most (max 65536 (2 * len)) }
+    requires { len ≤ most_header }
+    ensures { result ≡ min most (max most_piece (2 * len)) }
 {
     most.min(FIRST.max(2 * len as u64))
 }
@@ -101,13 +102,13 @@ fn read_header_on<S: Shelf>(
     requires size { size ≡ S.size_of shelf.old file.old }
     requires small { size < 2 ^ 63 }
     requires more { length held.old.items ≤ len }
-    requires within { len ≤ min size 1048576 }
+    requires within { len ≤ min size most_header }
     requires read { Reads (S.content shelf.old file.old) 0 held.old.items }
     ensures bytes { IfOk result (λ found. Reads (S.content shelf.old file.old) 0 held.new.items × (length held.new.items ≡ len)) }
     ensures header { IfOk result (λ found. IfSome found (λ h. ((more : List ℕ) → IsHeader h.contents (held.new.items ++ more) size) × (h.length ≡ size))) }
-    ensures more { IfOk result (λ found. IfNone found ((len < min size 1048576) × IsCut held.new.items)) }
-    ensures refused { IfErr result (WhereRefused (λ cause. Reads (S.content shelf.old file.old) 0 held.new.items × (length held.new.items ≤ min size 1048576)
-        × ((more : List ℕ) → length (held.new.items ++ more) ≡ min size 1048576 → IsHeaderCause (held.new.items ++ more) size cause))) }
+    ensures more { IfOk result (λ found. IfNone found ((len < min size most_header) × IsCut held.new.items)) }
+    ensures refused { IfErr result (WhereRefused (λ cause. Reads (S.content shelf.old file.old) 0 held.new.items × (length held.new.items ≤ min size most_header)
+        × ((more : List ℕ) → length (held.new.items ++ more) ≡ min size most_header → IsHeaderCause (held.new.items ++ more) size cause))) }
     ensures why { IfErr result (WhereFault (Rose (S.faults shelf.old) (S.faults shelf.new))) }
     ensures later { S.faults shelf.old ≤ S.faults shelf.new }
     ensures stays { StaysBut result (S.faults shelf.old) (S.faults shelf.new) }
@@ -140,7 +141,7 @@ pub fn open_netcdf<S: Shelf>(
     ensures content { S.content shelf.new file.new ≡ S.content shelf.old file.old }
     ensures sizes { S.size_of shelf.new file.new ≡ S.size_of shelf.old file.old }
     ensures told { HasSize (S.content shelf.old file.old) (S.size_of shelf.old file.old) }
-    ensures asked { S.asked shelf.new ≤ S.asked shelf.old + min (S.size_of shelf.old file.old) 1048576 }
+    ensures asked { S.asked shelf.new ≤ S.asked shelf.old + min (S.size_of shelf.old file.old) most_header }
 
     // No more is asked than 64 KiB, or than twice as many first bytes as stop within the header.
     ensures wanted { (n : ℕ) × IsWanted (S.content shelf.old file.old) n × (S.asked shelf.new ≤ S.asked shelf.old + n) }

@@ -2,7 +2,7 @@
 
 ghost use Rattle.std.specs.Prelude.{◌≡◌, ◌+◌, ◌≤◌, ℕ, List, length, IfOk, IfErr, Ok, Err, Some};
 ghost use Rattle.dap_outside.specs.Causes.{Rose};
-ghost use Rattle.dap_server.specs.Costs.{IsAskedBefore, most_first, most_of_joined};
+ghost use Rattle.dap_server.specs.Costs.{IsAskedBefore, IsWithinBadLine, most_first, most_of_joined};
 ghost use Rattle.dap_server.specs.Files.{form_of, joined};
 ghost use Rattle.dap_server.specs.Prepared.{IsJoinedFor, MayGiveWithin};
 ghost use Rattle.dap_server.specs.Results.{result_text};
@@ -29,6 +29,7 @@ pub fn joined_das<S: Shelf>(alloc: Global, shelf: &mut S, name: &str) -> Result<
     ensures files { S.files shelf.new ≡ S.files shelf.old }
     ensures asked { S.asked shelf.new ≤ S.asked shelf.old + most_first (S.files shelf.old) name.now }
     ensures asked_before { IfErr result (WhereRefused (λ why. IsAskedBefore (S.files shelf.old) name.now why (S.asked shelf.old) (S.asked shelf.new))) }
+    ensures before_bad { IsWithinBadLine (S.files shelf.old) name.now (S.asked shelf.old) (S.asked shelf.new) }
 {
     let (joined, _files) = open_joined(alloc, shelf, name)?;
     Ok(joined_das_text(alloc, &joined)?)
@@ -50,6 +51,7 @@ pub fn joined_dds<S: Shelf>(
     ensures files { S.files shelf.new ≡ S.files shelf.old }
     ensures asked { S.asked shelf.new ≤ S.asked shelf.old + most_first (S.files shelf.old) name.now }
     ensures asked_before { IfErr result (WhereRefused (λ why. IsAskedBefore (S.files shelf.old) name.now why (S.asked shelf.old) (S.asked shelf.new))) }
+    ensures before_bad { IsWithinBadLine (S.files shelf.old) name.now (S.asked shelf.old) (S.asked shelf.new) }
 {
     let (joined, _files) = open_joined(alloc, shelf, name)?;
     joined_dds_text(alloc, &joined, query)
@@ -71,6 +73,7 @@ pub fn joined_dods<S: Shelf>(
     ensures files { S.files shelf.new ≡ S.files shelf.old }
     ensures asked { S.asked shelf.new ≤ S.asked shelf.old + most_first (S.files shelf.old) name.now }
     ensures asked_before { IfErr result (WhereRefused (λ why. IsAskedBefore (S.files shelf.old) name.now why (S.asked shelf.old) (S.asked shelf.new))) }
+    ensures before_bad { IsWithinBadLine (S.files shelf.old) name.now (S.asked shelf.old) (S.asked shelf.new) }
     ensures of_list { IfOk result (λ p. (text : List ℕ) × MayGiveWithin (S.files shelf.old) (asked_as Kind.Dods name.now query.now) (S.asked shelf.old) (S.asked shelf.new) (Ok (result_text Kind.Dods text))) }
     ensures asked_lines { IfOk result (λ p. S.asked shelf.new ≤ S.asked shelf.old + most_of_joined (length p.1)) }
 {

@@ -1,6 +1,7 @@
 //! The files that the lines of a list name, with their headers.
 
 ghost use Rattle.std.specs.Prelude.{◌≡◌, ◌+◌, ◌≤◌, ◌<◌, ℕ, List, All, length, min, IfOk, IfErr, IsTrue, Ok, Err, Some, None};
+ghost use Rattle.dap_types.specs.Limits.{most_header};
 ghost use Rattle.dap_outside.specs.Causes.{Rose};
 ghost use Rattle.dap_outside.specs.Files.{Finds, HasSize};
 ghost use Rattle.dap_errors.specs.declared.cause.Cause.{Cause};
@@ -8,7 +9,7 @@ ghost use Rattle.netcdf_source.specs.Header.{IsHeader};
 ghost use Rattle.join_source.specs.Names.{is_member_name};
 ghost use Rattle.dap_server.specs.Headers.{IsHeaderCause, front};
 ghost use Rattle.dap_server.specs.Joins.{IsMember, Member, Members};
-ghost use Rattle.dap_server.specs.inner.Members.{AreFilesOf, AreHeadersOf, AsksLine, AsksLines, bad_member, IsFileOf, IsHeaderOf, most_in_line, most_in_lines};
+ghost use Rattle.dap_server.specs.inner.Members.{AreFilesOf, AreHeadersOf, AsksLine, AsksLines, AsksToBad, bad_member, IsFileOf, IsHeaderOf, most_in_line, most_in_lines};
 ghost use Rattle.dap_server.specs.inner.Opening.{IsRead, StaysBut, WhereFault, WhereRefused};
 
 use crate::front::open_netcdf;
@@ -86,7 +87,7 @@ fn member_header<S: Shelf>(
     ensures content { S.content shelf.new file.new ≡ S.content shelf.old file.old }
     ensures sizes { S.size_of shelf.new file.new ≡ S.size_of shelf.old file.old }
     ensures told { HasSize (S.content shelf.old file.old) (S.size_of shelf.old file.old) }
-    ensures asked { S.asked shelf.new ≤ S.asked shelf.old + min (S.size_of shelf.old file.old) 1048576 }
+    ensures asked { S.asked shelf.new ≤ S.asked shelf.old + min (S.size_of shelf.old file.old) most_header }
 {
     match open_netcdf(alloc, shelf, file) {
         Ok(header) => Ok(header),
@@ -137,6 +138,7 @@ pub fn open_members<S: Shelf>(
     ensures sizes { S.size_of shelf.new ≡ S.size_of shelf.old }
     ensures asked { S.asked shelf.new ≤ S.asked shelf.old + most_in_lines (S.files shelf.old) names.now }
     ensures asked_before { IfErr result (WhereRefused (λ cause. AsksLines (S.files shelf.old) names.now cause (S.asked shelf.old) (S.asked shelf.new))) }
+    ensures before_bad { AsksToBad (S.files shelf.old) names.now (S.asked shelf.old) (S.asked shelf.new) }
 {
     let mut headers = List::new(alloc);
     let mut files = List::new(alloc);

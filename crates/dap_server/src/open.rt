@@ -1,6 +1,7 @@
 //! Opening the stored file of a name.
 
 ghost use Rattle.std.specs.Prelude.{◌≡◌, ◌≢◌, ◌+◌, ◌<◌, ◌≤◌, ℕ, List, length, min, IfOk, IfErr, IsTrue, Ok, Err, Some, None, is_some, option_map};
+ghost use Rattle.dap_types.specs.Limits.{most_table};
 ghost use Rattle.csv_source.specs.Causes.{table_of};
 ghost use Rattle.dap_outside.specs.Causes.{Rose};
 ghost use Rattle.dap_types.specs.Model.{Tree};
@@ -112,7 +113,7 @@ fn open_table<S: Shelf>(
     ensures content { S.content shelf.new file.new ≡ S.content shelf.old file.old }
     ensures sizes { S.size_of shelf.new file.new ≡ S.size_of shelf.old file.old }
     ensures told { HasSize (S.content shelf.old file.old) (S.size_of shelf.old file.old) }
-    ensures asked { S.asked shelf.new ≤ S.asked shelf.old + min (S.size_of shelf.old file.old) 67108864 }
+    ensures asked { S.asked shelf.new ≤ S.asked shelf.old + min (S.size_of shelf.old file.old) most_table }
 {
     let size = shelf.size(file);
     if size > TABLE_MAX {

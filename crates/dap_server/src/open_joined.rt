@@ -7,7 +7,7 @@ ghost use Rattle.dap_outside.specs.Files.{HasSize};
 ghost use Rattle.join_source.specs.Joins.{headers_in, name_in};
 ghost use Rattle.join_source.specs.Lists.{list_of};
 ghost use Rattle.join_source.specs.Members.{CanJoin, contents_of};
-ghost use Rattle.dap_server.specs.Costs.{IsAskedBefore, most_first, most_of_joined};
+ghost use Rattle.dap_server.specs.Costs.{IsAskedBefore, IsWithinBadLine, most_first, most_of_joined};
 ghost use Rattle.dap_server.specs.Files.{form_of, joined};
 ghost use Rattle.dap_server.specs.Joins.{AreJoined, Lists, Member, contents_in, join_cause, list_cause};
 ghost use Rattle.dap_server.specs.inner.Joining.{IsJoinOf, MayOpenWithin, most_of_size};
@@ -116,6 +116,7 @@ pub fn open_joined<S: Shelf>(
     ensures files { S.files shelf.new ≡ S.files shelf.old }
     ensures asked { S.asked shelf.new ≤ S.asked shelf.old + most_first (S.files shelf.old) name.now }
     ensures asked_before { IfErr result (WhereRefused (λ cause. IsAskedBefore (S.files shelf.old) name.now cause (S.asked shelf.old) (S.asked shelf.new))) }
+    ensures before_bad { IsWithinBadLine (S.files shelf.old) name.now (S.asked shelf.old) (S.asked shelf.new) }
     ensures asked_lines { IfOk result (λ p. S.asked shelf.new ≤ S.asked shelf.old + most_of_joined (length p.1)) }
 {
     let mut list = find(shelf, name)?;

@@ -1,6 +1,7 @@
 //! Opening a file that holds a saved data response.
 
 ghost use Rattle.std.specs.Prelude.{◌≡◌, ◌+◌, ◌≤◌, ℕ, List, length, min, IfOk, IfErr};
+ghost use Rattle.dap_types.specs.Limits.{most_saved};
 ghost use Rattle.dap_outside.specs.Causes.{Rose};
 ghost use Rattle.dap_outside.specs.Files.{HasSize};
 ghost use Rattle.dap_types.specs.Model.{Tree};
@@ -61,7 +62,7 @@ pub fn open_saved<S: Shelf>(
     ensures content { S.content shelf.new file.new ≡ S.content shelf.old file.old }
     ensures sizes { S.size_of shelf.new file.new ≡ S.size_of shelf.old file.old }
     ensures told { HasSize (S.content shelf.old file.old) (S.size_of shelf.old file.old) }
-    ensures asked { S.asked shelf.new ≤ S.asked shelf.old + min (S.size_of shelf.old file.old) 67108864 }
+    ensures asked { S.asked shelf.new ≤ S.asked shelf.old + min (S.size_of shelf.old file.old) most_saved }
 {
     let size = shelf.size(file);
     if size > SAVED_MAX {

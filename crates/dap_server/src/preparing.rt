@@ -6,7 +6,7 @@ ghost use Rattle.dap_errors.specs.declared.cause.Cause.{Cause};
 ghost use Rattle.dap_outside.specs.Causes.{Rose};
 ghost use Rattle.dap_outside.specs.Files.{IsBytes};
 ghost use Rattle.xdr_encode.specs.Bodies.{FitsFile, HasNoFile, MayAsk, cost_in, text_in};
-ghost use Rattle.dap_server.specs.Costs.{IsAskedBefore, IsCost, IsCostAt, IsWithinAList, asks_shelf, most_first, most_of_joined};
+ghost use Rattle.dap_server.specs.Costs.{IsAskedBefore, IsCost, IsCostAt, IsWithinAList, IsWithinBadLine, asks_shelf, most_first, most_of_joined};
 ghost use Rattle.dap_server.specs.Files.{form_of, is_read_first, joined, saved};
 ghost use Rattle.dap_server.specs.Prepared.{IsFor, IsJoinedFor, IsOver, MayGive, MayGiveWithin, MustGive, WhereBody, WhereJoined, WhereNoShelfFault, WhereOfList, WhereRefuse, WhereSaved, WhereShelfFault, WhereText};
 ghost use Rattle.saved_source.specs.Bodies.{Sends};
@@ -93,6 +93,7 @@ fn data_answer<R: Threads + Sync, S: Shelf>(
     ensures files { S.files shelf.new ≡ S.files shelf.old }
     ensures asked { S.asked shelf.new ≤ S.asked shelf.old + most_first (S.files shelf.old) name.now }
     ensures asked_before { form_of name.now ≡ Some joined → WhereRefuse result (λ cause. IsAskedBefore (S.files shelf.old) name.now cause (S.asked shelf.old) (S.asked shelf.new)) }
+    ensures before_bad { form_of name.now ≡ Some joined → IsWithinBadLine (S.files shelf.old) name.now (S.asked shelf.old) (S.asked shelf.new) }
     ensures asked_lines { WhereJoined result (λ body files. S.asked shelf.new ≤ S.asked shelf.old + most_of_joined (length files)) }
     ensures of_list { form_of name.now ≡ Some joined → WhereOfList result (MayGiveWithin (S.files shelf.old) (asked_as Kind.Dods name.now query.now) (S.asked shelf.old) (S.asked shelf.new)) }
     ensures untouched { form_of name.now ≡ None → shelf.new ≡ shelf.old }
@@ -124,6 +125,7 @@ fn answer_of<R: Threads + Sync, S: Shelf>(
     ensures files { S.files shelf.new ≡ S.files shelf.old }
     ensures asked { S.asked shelf.new ≤ S.asked shelf.old + most_first (S.files shelf.old) target.now.name }
     ensures asked_before { form_of target.now.name ≡ Some joined → WhereRefuse result (λ cause. IsAskedBefore (S.files shelf.old) target.now.name cause (S.asked shelf.old) (S.asked shelf.new)) }
+    ensures before_bad { form_of target.now.name ≡ Some joined → IsWithinBadLine (S.files shelf.old) target.now.name (S.asked shelf.old) (S.asked shelf.new) }
     ensures asked_lines { WhereJoined result (λ body files. S.asked shelf.new ≤ S.asked shelf.old + most_of_joined (length files)) }
     ensures of_list { form_of target.now.name ≡ Some joined → WhereOfList result (MayGiveWithin (S.files shelf.old) (asked_of target.now) (S.asked shelf.old) (S.asked shelf.new)) }
     ensures untouched { asks_shelf (asked_of target.now) ≡ false → shelf.new ≡ shelf.old }
@@ -201,6 +203,9 @@ pub fn prepare<R: Threads + Sync, S: Shelf>(
 
     // Where a line of a list is told, its list and the front of each file up to that line.
     ensures asked_before { form_of target.now.name ≡ Some joined → WhereRefuse result (λ cause. IsAskedBefore (S.files shelf.old) target.now.name cause (S.asked shelf.old) (S.asked shelf.new)) }
+
+    // And up to each line that names no file, or one without a header, whatever comes of it.
+    ensures before_bad { form_of target.now.name ≡ Some joined → IsWithinBadLine (S.files shelf.old) target.now.name (S.asked shelf.old) (S.asked shelf.new) }
 
     ensures untouched { asks_shelf (asked_of target.now) ≡ false → shelf.new ≡ shelf.old }
 {

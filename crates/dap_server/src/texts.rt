@@ -1,6 +1,7 @@
 //! The texts that a stored file is answered with: its attributes, and the DDS of what a query leaves.
 
 ghost use Rattle.std.specs.Prelude.{◌≡◌, ◌<◌, ◌≤◌, ℕ, List, length, IfOk, IfErr, Ok, Err, MatchResult};
+ghost use Rattle.dap_types.specs.Limits.{most_text};
 ghost use Rattle.dap_model.specs.Dds.{dds};
 ghost use Rattle.dap_model.specs.Filter.{constrained};
 ghost use Rattle.das_text.specs.Das.{das};
@@ -57,8 +58,8 @@ pub fn das_of(alloc: Global, opened: &Opened) -> Result<Bytes, Memory>
 pub fn dds_left(alloc: Global, dataset: &Dataset, marks: &Marks) -> Result<Bytes, Stop>
     requires { IsWellFormed (dataset_view dataset.now) }
     ensures text { IfOk result (λ text. text ≡ dds (constrained (marks_in marks.now) (dataset_view dataset.now))) }
-    ensures short { IfOk result (λ text. length text ≤ 16777216) }
-    ensures refused { IfErr result (WhereRefused (λ why. (why ≡ Cause.TooLarge 0) × (16777216 < length (dds (constrained (marks_in marks.now) (dataset_view dataset.now)))))) }
+    ensures short { IfOk result (λ text. length text ≤ most_text) }
+    ensures refused { IfErr result (WhereRefused (λ why. (why ≡ Cause.TooLarge 0) × (most_text < length (dds (constrained (marks_in marks.now) (dataset_view dataset.now)))))) }
     ensures no_fault { IfErr result (WhereFault ⊥) }
 {
     match left_dds(alloc, dataset, marks) {

@@ -1,6 +1,7 @@
 //! What is held of the front of a DDS.
 
 ghost use Rattle.std.specs.Prelude.{◌≤◌};
+ghost use Rattle.dap_types.specs.Limits.{most_text};
 
 use crate::parser::Parser;
 use dap_types::{Dataset, limits};
@@ -18,7 +19,7 @@ pub struct Front {
     /// The bytes of that word.
     pub word: Vec<u8>,
     pub parser: Parser,
-    ghost within: { (length ≤ 16777216) × (began ≤ 16777216) },
+    ghost within: { (length ≤ most_text) × (began ≤ most_text) },
 }
 
 /// What a piece of a text holds.

@@ -1,4 +1,5 @@
 ghost use Rattle.std.specs.Prelude.{◌≡◌, ◌<◌, ◌≤◌, ◌^◌, ◌++◌, Err, IfOk, MatchResult, OnOk, length};
+ghost use Rattle.dap_types.specs.Limits.{most_text};
 ghost use Rattle.dap_types.specs.View.{dataset_view, member_view, members_view};
 ghost use Rattle.dap_model.specs.Dds.{dds, member_text, members_text};
 ghost use Rattle.dds_text.specs.declared.refusal.PrintRefusal.TheVariants as PrintRefusal;
@@ -50,8 +51,8 @@ pub fn print(alloc: Global, dataset: &Dataset) -> Result<Bytes, Memory>
 /// more than 16,777,216 bytes, and nothing of it is printed then; `Memory` comes where memory is wanted.
 pub fn print_short(alloc: Global, dataset: &Dataset) -> Result<Bytes, PrintRefusal>
     ensures text { IfOk result (λ text. text ≡ dds (dataset_view dataset.now)) }
-    ensures short { IfOk result (λ text. length text ≤ 16777216) }
-    ensures too_long { result ≡ Err PrintRefusal.TooLong → 16777216 < length (dds (dataset_view dataset.now)) }
+    ensures short { IfOk result (λ text. length text ≤ most_text) }
+    ensures too_long { result ≡ Err PrintRefusal.TooLong → most_text < length (dds (dataset_view dataset.now)) }
 {
     let Some(length) = length_within(dataset, LIMIT as u32) else {
         return Err(PrintRefusal::TooLong);

@@ -1,6 +1,7 @@
 //! How many elements, and how many rows, have few enough bytes for one batch.
 
 ghost use Rattle.std.specs.Prelude.{◌≡◌, ℕ, ◌+◌, ◌-◌, ◌*◌, ◌^◌, ◌<◌, ◌≤◌};
+ghost use Rattle.dap_types.specs.Limits.{most_piece};
 ghost use Rattle.hyperslab_plan.specs.Numbers.{width_of};
 
 use dap_types::BaseType;
@@ -29,13 +30,13 @@ pub fn xdr_width(base: BaseType) -> u64
 /// The most elements of a row, `jump` bytes apart, whose bytes and whose XDR fit a batch.
 pub fn part_of(jump: u64, size: u64, width: u64) -> u64
     requires sized { 0 < size }
-    requires small { size ≤ 65536 }
+    requires small { size ≤ most_piece }
     requires wide { 0 < width }
     requires narrow { width ≤ 8 }
     ensures some { 0 < result }
-    ensures raw { (result - 1) * jump + size ≤ 65536 }
-    ensures xdr { result * width ≤ 65536 }
-    ensures most { (n : ℕ) → (n - 1) * jump + size ≤ 65536 → n * width ≤ 65536 → n ≤ result }
+    ensures raw { (result - 1) * jump + size ≤ most_piece }
+    ensures xdr { result * width ≤ most_piece }
+    ensures most { (n : ℕ) → (n - 1) * jump + size ≤ most_piece → n * width ≤ most_piece → n ≤ result }
 {
     let by_raw = if jump == 0 {
         BATCH
@@ -48,8 +49,8 @@ pub fn part_of(jump: u64, size: u64, width: u64) -> u64
 /// From the first byte of a row to its last, and 0 where a row is longer than a batch.
 pub fn row_len_of(per_row: u64, jump: u64, size: u64, part: u64) -> u64
     requires filled { 0 < per_row }
-    requires part_raw { (part - 1) * jump + size ≤ 65536 }
-    ensures raw { result ≤ 65536 }
+    requires part_raw { (part - 1) * jump + size ≤ most_piece }
+    ensures raw { result ≤ most_piece }
     ensures whole { 0 < result → result ≡ (per_row - 1) * jump + size }
     ensures fits { per_row ≤ part → result ≡ (per_row - 1) * jump + size }
 {
@@ -67,9 +68,9 @@ pub fn rows_in(per_row: u64, row_len: u64, width: u64) -> u64
     requires wide { 0 < width }
     requires narrow { width ≤ 8 }
     ensures some { 0 < result → 0 < row_len }
-    ensures raw { result * row_len ≤ 65536 }
-    ensures xdr { result * per_row * width ≤ 65536 }
-    ensures most { 0 < row_len → (n : ℕ) → n * row_len ≤ 65536 → n * per_row * width ≤ 65536 → n ≤ result }
+    ensures raw { result * row_len ≤ most_piece }
+    ensures xdr { result * per_row * width ≤ most_piece }
+    ensures most { 0 < row_len → (n : ℕ) → n * row_len ≤ most_piece → n * per_row * width ≤ most_piece → n ≤ result }
 {
     if row_len == 0 {
         0

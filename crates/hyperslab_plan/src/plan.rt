@@ -1,4 +1,5 @@
 ghost use Rattle.std.specs.Prelude.{◌≡◌, ℕ, ◌+◌, ◌-◌, ◌*◌, ◌/◌, ◌%◌, ◌^◌, ◌<◌, ◌≤◌, length, All, IfOk, IsTrue, ◌↔◌, slice_get};
+ghost use Rattle.dap_types.specs.Limits.{most_piece};
 ghost use Rattle.hyperslab_plan.specs.Numbers.{HasSize, width_of};
 ghost use Rattle.hyperslab_plan.specs.Shapes.{rel_at};
 
@@ -35,13 +36,13 @@ pub struct Plan {
     ghost sized: { 0 < size },
     ghost typed: { HasSize base size },
     ghost part_some: { 0 < part },
-    ghost part_raw: { (part - 1) * shape.jump + size ≤ 65536 },
-    ghost part_xdr: { part * width_of base ≤ 65536 },
-    ghost part_most: { (n : ℕ) → (n - 1) * shape.jump + size ≤ 65536 → n * width_of base ≤ 65536 → n ≤ part },
-    ghost rows_raw: { rows_at_once * row_len ≤ 65536 },
-    ghost rows_xdr: { rows_at_once * shape.per_row * width_of base ≤ 65536 },
-    ghost rows_most: { 0 < row_len → (n : ℕ) → n * row_len ≤ 65536 → n * shape.per_row * width_of base ≤ 65536 → n ≤ rows_at_once },
-    ghost row_short: { row_len ≤ 65536 },
+    ghost part_raw: { (part - 1) * shape.jump + size ≤ most_piece },
+    ghost part_xdr: { part * width_of base ≤ most_piece },
+    ghost part_most: { (n : ℕ) → (n - 1) * shape.jump + size ≤ most_piece → n * width_of base ≤ most_piece → n ≤ part },
+    ghost rows_raw: { rows_at_once * row_len ≤ most_piece },
+    ghost rows_xdr: { rows_at_once * shape.per_row * width_of base ≤ most_piece },
+    ghost rows_most: { 0 < row_len → (n : ℕ) → n * row_len ≤ most_piece → n * shape.per_row * width_of base ≤ most_piece → n ≤ rows_at_once },
+    ghost row_short: { row_len ≤ most_piece },
     ghost row_is: { 0 < row_len → row_len ≡ (shape.per_row - 1) * shape.jump + size },
     ghost row_fits: { shape.per_row ≤ part → row_len ≡ (shape.per_row - 1) * shape.jump + size },
     ghost row_read: { 0 < rows_at_once → 0 < row_len },
@@ -71,7 +72,7 @@ impl Plan {
         requires below { All (λ place. place < 2 ^ 63) (picked slabs.now layout.now.steps layout.now.base) }
         requires few { count_of slabs.now ≤ 2147483647 }
         requires sized { 0 < layout.now.size }
-        requires small { layout.now.size ≤ 65536 }
+        requires small { layout.now.size ≤ most_piece }
         requires typed { HasSize base layout.now.size }
         ensures total { IfOk result (λ plan. total_of plan ≡ count_of slabs.now) }
         ensures base { IfOk result (λ plan. base_in plan ≡ base) }
@@ -102,7 +103,7 @@ impl Plan {
         requires short { shape.per_row < 2 ^ 31 }
         requires below { (p : ℕ) → p < rows * shape.per_row → origin + rel_at shape p < 2 ^ 63 }
         requires sized { 0 < size }
-        requires small { size ≤ 65536 }
+        requires small { size ≤ most_piece }
         requires typed { HasSize base size }
         ensures origin { result.origin ≡ origin }
         ensures shape { result.shape ≡ shape }
@@ -149,7 +150,7 @@ impl Plan {
         ensures size { result ≡ size_in self.now }
         ensures number { IsTrue (is_number (base_in self.now)) → result ≡ number_size (base_in self.now) }
         ensures some { 0 < result }
-        ensures few { result ≤ 65536 }
+        ensures few { result ≤ most_piece }
     {
         self.size
     }

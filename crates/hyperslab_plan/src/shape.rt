@@ -1,4 +1,5 @@
 ghost use Rattle.std.specs.Prelude.{◌≡◌, ℕ, ◌+◌, ◌-◌, ◌*◌, ◌/◌, ◌%◌, ◌^◌, ◌<◌, ◌≤◌, OnOk, IsTrue, [], max};
+ghost use Rattle.dap_types.specs.Limits.{most_piece};
 ghost use Rattle.hyperslab_plan.specs.Axes.{Counted};
 
 use dap_types::Memory;
@@ -52,7 +53,7 @@ impl Shape {
     pub fn repeat(&mut self, jump: u64, count: u64, size: u64) -> Result<(), Memory>
         requires some { 0 < count }
         requires few { count * elements self.old < 2 ^ 31 }
-        requires small { size ≤ 65536 }
+        requires small { size ≤ most_piece }
         ensures elements { OnOk result (elements self.new ≡ count * elements self.old) }
         ensures places { OnOk result ((p : ℕ) → p < count * elements self.old → rel_at self.new p ≡ p / elements self.old * jump + rel_at self.old (p % elements self.old)) }
         ensures cost { OnOk result (row_cost self.new size ≤ count * row_cost self.old size) }

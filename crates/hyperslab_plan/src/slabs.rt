@@ -1,6 +1,7 @@
 //! From slabs and steps to a shape.
 
 ghost use Rattle.std.specs.Prelude.{◌≡◌, ℕ, ◌+◌, ◌-◌, ◌*◌, ◌/◌, ◌%◌, ◌^◌, ◌<◌, ◌≤◌, length, All, IfOk};
+ghost use Rattle.dap_types.specs.Limits.{most_piece};
 ghost use Rattle.hyperslab_plan.specs.Along.{starts, rel, Spaced};
 ghost use Rattle.hyperslab_plan.specs.Picked.{count_of, span, cost_of};
 ghost use Rattle.hyperslab_plan.specs.Shapes.{elements, rel_at, row_cost};
@@ -61,7 +62,7 @@ fn last_of(alloc: Global, slab: Slab, step: u64, size: u64) -> Result<Shape, Mem
     requires few { slab.count < 2 ^ 31 }
     requires strided { 0 < slab.stride }
     requires spaced { 2 ≤ slab.count → slab.stride * step < 2 ^ 63 }
-    requires small { size ≤ 65536 }
+    requires small { size ≤ most_piece }
     ensures elements { IfOk result (λ s. elements s ≡ slab.count) }
     ensures places { IfOk result (λ s. (p : ℕ) → p < slab.count → rel_at s p ≡ p * (slab.stride * step)) }
     ensures cost { IfOk result (λ s. row_cost s size ≤ span slab.count slab.stride * size) }
@@ -83,7 +84,7 @@ pub fn shape_of(alloc: Global, steps: &[u64], slabs: &[Slab], size: u64) -> Resu
     requires few { count_of slabs.now < 2 ^ 31 }
     requires strided { All (λ s. 0 < s.stride) slabs.now }
     requires spaced { Spaced slabs.now steps.now }
-    requires small { size ≤ 65536 }
+    requires small { size ≤ most_piece }
     ensures elements { IfOk result (λ s. elements s ≡ count_of slabs.now) }
     ensures places { IfOk result (λ s. (p : ℕ) → p < count_of slabs.now → rel_at s p ≡ rel slabs.now steps.now p) }
     ensures cost { IfOk result (λ s. row_cost s size ≤ cost_of slabs.now size) }

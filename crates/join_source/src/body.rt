@@ -1,4 +1,5 @@
 ghost use Rattle.std.specs.Prelude.{◌≡◌, vec_len};
+ghost use Rattle.dap_types.specs.Limits.{most_piece};
 
 use crate::piece::Piece;
 use dap_types::{Bytes, List};
@@ -16,6 +17,6 @@ pub struct JoinBody {
     pub(crate) pieces: List<Piece>,
     pub(crate) raw: Vec<u8>,
     pub(crate) sent: Vec<u8>,
-    ghost raw_room: { vec_len raw ≡ 65536 },
-    ghost sent_room: { vec_len sent ≡ 65536 },
+    ghost raw_room: { vec_len raw ≡ most_piece },
+    ghost sent_room: { vec_len sent ≡ most_piece },
 }

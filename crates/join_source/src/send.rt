@@ -2,6 +2,7 @@
 
 ghost use Rattle.std.specs.Prelude.{◌≡◌, ◌+◌, ◌≤◌, ◌<◌, ℕ, List, [], All, Option, Some, length, map, max, OnErr, OnOk};
 ghost use Rattle.std.specs.Io.KnownBytes.{Appends};
+ghost use Rattle.dap_types.specs.Limits.{most_piece};
 ghost use Rattle.xdr_encode.specs.Faults.{HasCauses};
 ghost use Rattle.xdr_encode.specs.Streamed.{Stops};
 ghost use Rattle.join_source.specs.Begun.{HaveBegun};
@@ -28,8 +29,8 @@ fn send_piece<R: Threads + Sync, S: Shelf, O: Sink, G: Gate>(
     gate: &G,
 ) -> Result<(), Fault>
     requires inside { IsInside (map (S.size_of shelf.old) files.old) piece.now }
-    requires raw_room { length raw.old ≡ 65536 }
-    requires sent_room { length sent.old ≡ 65536 }
+    requires raw_room { length raw.old ≡ most_piece }
+    requires sent_room { length sent.old ≡ most_piece }
     requires some { 1 ≤ workers }
     requires many { workers ≤ 64 }
     ensures ok { OnOk result ((contents : List (List ℕ)) → AreTold (map (S.content shelf.old) files.old) contents → Appends (O.written out.old) (O.written out.new) (piece_xdr piece.now contents)) }
@@ -39,7 +40,7 @@ fn send_piece<R: Threads + Sync, S: Shelf, O: Sink, G: Gate>(
     ensures files { S.files shelf.new ≡ S.files shelf.old }
     ensures read { OnOk result (PieceAsks piece.now (S.asked shelf.old) (S.asked shelf.new)) }
     ensures asked { S.asked shelf.new ≤ S.asked shelf.old + piece_cost piece.now }
-    ensures greatest { S.greatest shelf.new ≤ max (S.greatest shelf.old) 65536 }
+    ensures greatest { S.greatest shelf.new ≤ max (S.greatest shelf.old) most_piece }
     ensures cause { HasCauses (S.faults shelf.old) (S.faults shelf.new) (O.put_faults out.old) (O.put_faults out.new) result }
     ensures beside { O.beside_writing out.new ≡ O.beside_writing out.old }
 {
@@ -69,8 +70,8 @@ pub fn send_pieces<R: Threads + Sync, S: Shelf, O: Sink, G: Gate>(
     gate: &G,
 ) -> Result<(), Fault>
     requires inside { All (IsInside (map (S.size_of shelf.old) files.old)) pieces.now }
-    requires raw_room { length raw.old ≡ 65536 }
-    requires sent_room { length sent.old ≡ 65536 }
+    requires raw_room { length raw.old ≡ most_piece }
+    requires sent_room { length sent.old ≡ most_piece }
     requires some { 1 ≤ workers }
     requires many { workers ≤ 64 }
     ensures ok { OnOk result ((contents : List (List ℕ)) → AreTold (map (S.content shelf.old) files.old) contents → Appends (O.written out.old) (O.written out.new) (pieces_xdr pieces.now contents)) }
@@ -79,7 +80,7 @@ pub fn send_pieces<R: Threads + Sync, S: Shelf, O: Sink, G: Gate>(
     ensures same_sizes { map (S.size_of shelf.new) files.new ≡ map (S.size_of shelf.old) files.old }
     ensures files { S.files shelf.new ≡ S.files shelf.old }
     ensures asked { S.asked shelf.new ≤ S.asked shelf.old + pieces_cost pieces.now }
-    ensures greatest { S.greatest shelf.new ≤ max (S.greatest shelf.old) 65536 }
+    ensures greatest { S.greatest shelf.new ≤ max (S.greatest shelf.old) most_piece }
     ensures cause { HasCauses (S.faults shelf.old) (S.faults shelf.new) (O.put_faults out.old) (O.put_faults out.new) result }
     ensures beside { O.beside_writing out.new ≡ O.beside_writing out.old }
 {

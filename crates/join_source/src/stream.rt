@@ -1,4 +1,5 @@
 ghost use Rattle.std.specs.Prelude.{◌≡◌, ◌+◌, ◌≤◌, ◌++◌, ℕ, List, All, length, map, max, vec_len};
+ghost use Rattle.dap_types.specs.Limits.{most_piece};
 ghost use Rattle.xdr_encode.specs.Streamed.{HasStreamCauses, StopsAtFault, Streams};
 ghost use Rattle.join_source.specs.Begun.{HaveBegun};
 ghost use Rattle.join_source.specs.Bodies.{FitsFiles, MayAsk, cost_in, dds_in, head_in, pieces_in, text_in};
@@ -27,8 +28,8 @@ fn send_body<R: Threads + Sync, S: Shelf, O: Sink, G: Gate>(
     gate: &G,
 ) -> Streamed
     requires inside { All (IsInside (map (S.size_of shelf.old) files.old)) pieces.now }
-    requires raw_room { length raw.old ≡ 65536 }
-    requires sent_room { length sent.old ≡ 65536 }
+    requires raw_room { length raw.old ≡ most_piece }
+    requires sent_room { length sent.old ≡ most_piece }
     requires some { 1 ≤ workers }
     requires many { workers ≤ 64 }
     ensures body { (contents : List (List ℕ)) → AreTold (map (S.content shelf.old) files.old) contents → Streams result (O.written out.old) (O.written out.new) (head.now ++ pieces_xdr pieces.now contents) }
@@ -37,7 +38,7 @@ fn send_body<R: Threads + Sync, S: Shelf, O: Sink, G: Gate>(
     ensures same_sizes { map (S.size_of shelf.new) files.new ≡ map (S.size_of shelf.old) files.old }
     ensures files { S.files shelf.new ≡ S.files shelf.old }
     ensures asked { S.asked shelf.new ≤ S.asked shelf.old + pieces_cost pieces.now }
-    ensures greatest { S.greatest shelf.new ≤ max (S.greatest shelf.old) 65536 }
+    ensures greatest { S.greatest shelf.new ≤ max (S.greatest shelf.old) most_piece }
     ensures cause { HasStreamCauses result (S.faults shelf.old) (S.faults shelf.new) (O.put_faults out.old) (O.put_faults out.new) }
     ensures beside { O.beside_writing out.new ≡ O.beside_writing out.old }
 {
@@ -64,19 +65,19 @@ fn send_in_rooms<R: Threads + Sync, S: Shelf, O: Sink, G: Gate>(
     gate: &G,
 ) -> Streamed
     requires inside { All (IsInside (map (S.size_of shelf.old) files.old)) pieces.now }
-    requires raw_room { vec_len raw.old ≡ 65536 }
-    requires sent_room { vec_len sent.old ≡ 65536 }
+    requires raw_room { vec_len raw.old ≡ most_piece }
+    requires sent_room { vec_len sent.old ≡ most_piece }
     requires some { 1 ≤ workers }
     requires many { workers ≤ 64 }
-    ensures raw_room { vec_len raw.new ≡ 65536 }
-    ensures sent_room { vec_len sent.new ≡ 65536 }
+    ensures raw_room { vec_len raw.new ≡ most_piece }
+    ensures sent_room { vec_len sent.new ≡ most_piece }
     ensures body { (contents : List (List ℕ)) → AreTold (map (S.content shelf.old) files.old) contents → Streams result (O.written out.old) (O.written out.new) (head.now ++ pieces_xdr pieces.now contents) }
     ensures stops { (contents : List (List ℕ)) → AreTold (map (S.content shelf.old) files.old) contents → StopsAtFault result (head.now ++ pieces_xdr pieces.now contents) (λ put asked. HaveBegun pieces.now contents (length head.now) put asked) (O.written out.old) (O.written out.new) (S.asked shelf.old) (S.asked shelf.new) }
     ensures same_files { map (S.content shelf.new) files.new ≡ map (S.content shelf.old) files.old }
     ensures same_sizes { map (S.size_of shelf.new) files.new ≡ map (S.size_of shelf.old) files.old }
     ensures files { S.files shelf.new ≡ S.files shelf.old }
     ensures asked { S.asked shelf.new ≤ S.asked shelf.old + pieces_cost pieces.now }
-    ensures greatest { S.greatest shelf.new ≤ max (S.greatest shelf.old) 65536 }
+    ensures greatest { S.greatest shelf.new ≤ max (S.greatest shelf.old) most_piece }
     ensures cause { HasStreamCauses result (S.faults shelf.old) (S.faults shelf.new) (O.put_faults out.old) (O.put_faults out.new) }
     ensures beside { O.beside_writing out.new ≡ O.beside_writing out.old }
 {
@@ -121,7 +122,7 @@ impl JoinBody {
         ensures same_dds { dds_in self.new ≡ dds_in self.old }
         ensures files { S.files shelf.new ≡ S.files shelf.old }
         ensures asked { S.asked shelf.new ≤ S.asked shelf.old + cost_in self.old }
-        ensures greatest { S.greatest shelf.new ≤ max (S.greatest shelf.old) 65536 }
+        ensures greatest { S.greatest shelf.new ≤ max (S.greatest shelf.old) most_piece }
         ensures cause { HasStreamCauses result (S.faults shelf.old) (S.faults shelf.new) (O.put_faults out.old) (O.put_faults out.new) }
         ensures beside { O.beside_writing out.new ≡ O.beside_writing out.old }
     {

@@ -2,6 +2,7 @@
 
 ghost use Rattle.std.specs.Prelude.{◌≡◌, ◌+◌, ◌<◌, ◌≤◌, ◌^◌, ◌++◌, ◌∷◌, [], List, map, length, IfOk, OnOk, true, false, MatchOption, if◌then◌else◌, ◌==◌};
 ghost use Rattle.std.specs.List.{flat_map, list_any};
+ghost use Rattle.dap_types.specs.Limits.{most_header, most_written};
 ghost use Rattle.dap_model.specs.Xdr.{word};
 ghost use Rattle.netcdf_source.specs.Header.{magic};
 ghost use Rattle.netcdf_source.specs.Versions.{number_bytes};
@@ -194,7 +195,7 @@ fn room_by_itself(variable: &Lent<'_>) -> u64
 
 /// The bytes of all variables without the record dimension.
 pub fn fixed_bytes(variables: &[Lent<'_>]) -> u64
-    requires { fixed_bytes (variable_views variables.now) ≤ 16777216 }
+    requires { fixed_bytes (variable_views variables.now) ≤ most_written }
     ensures { result ≡ fixed_bytes (variable_views variables.now) }
 {
     let mut bytes = 0;
@@ -225,9 +226,9 @@ fn put_variables(
     front: u64,
 ) -> Result<(), Memory>
     requires dims { AreDims numbers.now (all_dims (variable_views variables.now)) }
-    requires fixed { fixed_bytes (variable_views variables.now) ≤ 16777216 }
+    requires fixed { fixed_bytes (variable_views variables.now) ≤ most_written }
     requires records { record_bytes (variable_views variables.now) ≤ 2 ^ 30 }
-    requires front { front ≤ 1048576 }
+    requires front { front ≤ most_header }
     ensures { OnOk result (out.new.items ≡ out.old.items ++ flat_map (variable_bytes (version_if is_five)) (variable_trees front (variable_views variables.now) [] (variable_views variables.now))) }
 {
     let mut fixed = front;
@@ -260,9 +261,9 @@ fn put_header(
     front: u64,
 ) -> Result<(), Memory>
     requires dims { AreDims dims.now (all_dims (variable_views variables.now)) }
-    requires fixed { fixed_bytes (variable_views variables.now) ≤ 16777216 }
+    requires fixed { fixed_bytes (variable_views variables.now) ≤ most_written }
     requires records { record_bytes (variable_views variables.now) ≤ 2 ^ 30 }
-    requires front { front ≤ 1048576 }
+    requires front { front ≤ most_header }
     ensures { OnOk result (out.new.items ≡ out.old.items ++ header_bytes (header_tree front (variable_views variables.now))) }
 {
     let is_five = is_five(variables);
@@ -283,7 +284,7 @@ pub fn header(
     variables: &[Lent<'_>],
 ) -> Result<Option<Vec<u8>>, Memory>
     requires dims { AreDims dims.now (all_dims (variable_views variables.now)) }
-    requires fixed { fixed_bytes (variable_views variables.now) ≤ 16777216 }
+    requires fixed { fixed_bytes (variable_views variables.now) ≤ most_written }
     requires records { record_bytes (variable_views variables.now) ≤ 2 ^ 30 }
     ensures { let vs = variable_views variables.now in IfOk result (λ found. MatchOption found (is_header_too_long vs ≡ true)
         (λ bytes. (is_header_too_long vs ≡ false) × (bytes.items ≡ header_bytes (header_tree (header_length vs) vs)))) }

@@ -2,6 +2,7 @@
 
 ghost use Rattle.std.specs.Prelude.{◌≡◌, ◌+◌, ◌<◌, ◌≤◌, ◌^◌, ◌++◌, ℕ, [], List, Some, IfOk, IfErr, IsTrue, OnErr, OnOk, length, not, take, true, false};
 ghost use Rattle.std.specs.Io.KnownBytes.{Consumes, IsAtEnd};
+ghost use Rattle.dap_types.specs.Limits.{most_piece, most_written};
 ghost use Rattle.dap_outside.specs.Causes.{HasCause, Rose};
 ghost use Rattle.dap_client.specs.Shows.{Takes};
 ghost use Rattle.dap_client.specs.Verdict.{is_fault};
@@ -70,7 +71,7 @@ impl From<Memory> for Halt {
 
 /// Room for a piece.
 fn piece_room(alloc: Global) -> Result<Vec<u8>, Memory>
-    ensures { IfOk result (λ room. length room.items ≡ 65536) }
+    ensures { IfOk result (λ room. length room.items ≡ most_piece) }
 {
     let mut room = Vec::new(alloc);
     room.resize(PIECE, 0u8)?;
@@ -79,8 +80,8 @@ fn piece_room(alloc: Global) -> Result<Vec<u8>, Memory>
 
 /// Takes a piece of a body of which some bytes were taken. False says that the source is at its end.
 fn take_piece<I: Source>(body: &mut Vec<u8>, room: &mut [u8], source: &mut I) -> Result<bool, Halt>
-    requires room { length room.old ≡ 65536 }
-    requires few { length body.old.items ≤ 16777216 }
+    requires room { length room.old ≡ most_piece }
+    requires few { length body.old.items ≤ most_written }
     ensures takes { TakesPiece (I.left source.old) (I.left source.new) (IsTrue (I.ended source.new)) body.old.items body.new.items result }
     ensures more { IfOk result (λ more. more ≡ true → length body.old.items < length body.new.items) }
     ensures within { OnOk result (length body.new.items ≤ 16777217) }
@@ -183,7 +184,7 @@ fn judged_front(alloc: Global, body: &[u8], most: usize) -> Outcome
 
 /// The outcome of a body of more bytes than are saved, whose first bytes alone decide.
 fn save_large(alloc: Global, body: &[u8]) -> Stored
-    requires { 16777216 < length body.now }
+    requires { most_written < length body.now }
     ensures { IsOfLarge body.now result }
 {
     large_of(judged_front(alloc, body, MOST_BODY))

@@ -1,5 +1,6 @@
 ghost use Rattle.std.specs.Prelude.{◌≡◌, ◌+◌, ◌<◌, ◌≤◌, ◌^◌, ◌++◌, [], map, length, false, true, OnErr, OnOk, sum_by, IfErr, List};
 ghost use Rattle.std.specs.Io.KnownBytes.{Appends};
+ghost use Rattle.dap_types.specs.Limits.{most_written};
 ghost use Rattle.dap_types.specs.Model.{count};
 ghost use Rattle.dap_types.specs.View.{dataset_view, tree_view};
 ghost use Rattle.dap_outside.specs.Causes.{HasCause, Rose};
@@ -47,7 +48,7 @@ fn send<O: Sink>(
 fn write_planned<O: Sink>(alloc: Global, plan: &Plan<'_>, out: &mut O) -> Stored
     requires planned { (tops : List TopMember) × IsPlanned plan.now tops tops }
     requires filled { AreFilled (variable_views plan.now.variables.items) }
-    requires few { fixed_bytes (variable_views plan.now.variables.items) ≤ 16777216 }
+    requires few { fixed_bytes (variable_views plan.now.variables.items) ≤ most_written }
     ensures writes { WritesPlanned (variable_views plan.now.variables.items) (O.written out.old) (O.written out.new) result }
     ensures write_fault { OnWriteFault (Rose (O.put_faults out.old) (O.put_faults out.new)) result }
     ensures later { O.put_faults out.old ≤ O.put_faults out.new }

@@ -1,5 +1,6 @@
 ghost use Rattle.std.specs.Prelude.{◌≡◌, ◌<◌, ◌≤◌, ℕ, List, None, length, IfOk, IfErr, IsOk, OnErr, OnOk};
 ghost use Rattle.std.specs.Io.KnownBytes.{Appends};
+ghost use Rattle.dap_types.specs.Limits.{most_text};
 ghost use Rattle.dap_model.specs.Body.{too_large};
 ghost use Rattle.dap_model.specs.Dds.{dds};
 ghost use Rattle.dap_model.specs.Filter.{SuitsAll, constrained};
@@ -31,7 +32,7 @@ use xdr_encode::{BodyRefusal, head_of, left_dds};
 fn text_left(alloc: Global, dataset: &Dataset, marks: &Marks) -> Result<Bytes, SavedBodyRefusal>
     requires { IsWellFormed (dataset_view dataset.now) }
     ensures text { IfOk result (λ text. text ≡ dds (constrained (marks_in marks.now) (dataset_view dataset.now))) }
-    ensures short { IfOk result (λ text. length text ≤ 16777216) }
+    ensures short { IfOk result (λ text. length text ≤ most_text) }
     ensures refused { IfErr result (IsBodyRefusal (constrained (marks_in marks.now) (dataset_view dataset.now))) }
 {
     match left_dds(alloc, dataset, marks) {
@@ -62,7 +63,7 @@ impl SavedBody {
         // Whatever values the response holds, it sends what is left of them.
         ensures text { IfOk result (λ b. (ts : List Tree) → Holds saved ts →
             Sends b (filtered_body (marks_in marks.now) (selections (dataset_view dataset.now) constraint.now) (dataset_view dataset.now) ts)) }
-        ensures small { IsOk result → length (dds (constrained (marks_in marks.now) (dataset_view dataset.now))) ≤ 16777216 }
+        ensures small { IsOk result → length (dds (constrained (marks_in marks.now) (dataset_view dataset.now))) ≤ most_text }
         // Whatever file holds the response, no leaf of what is left has too many elements.
         ensures fits { IsOk result → (bytes file_name : List ℕ) (ts : List Tree) → IsSaved bytes file_name (dataset_view dataset.now) ts →
             too_large (constrained (marks_in marks.now) (dataset_view dataset.now)) ≡ None }

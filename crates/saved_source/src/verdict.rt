@@ -1,6 +1,7 @@
 //! The verdict on a response, as the client of DAP 2.0 gives it.
 
 ghost use Rattle.std.specs.Prelude.{◌≡◌, ◌≤◌, ℕ, List, true, false, length, IfOk, IfErr};
+ghost use Rattle.dap_types.specs.Limits.{most_saved};
 ghost use Rattle.dap_types.specs.Model.{Tree};
 ghost use Rattle.error_word.specs.Saying as saying;
 ghost use Rattle.xdr_decode.specs.Checking.{IsChecked};
@@ -29,7 +30,7 @@ fn object_place(alloc: Global, bytes: &[u8]) -> Result<u64, Memory>
 
 /// The refusal of an Error object.
 fn object_refused(alloc: Global, bytes: &[u8]) -> SavedRefusal
-    requires few { length bytes.now ≤ 67108864 }
+    requires few { length bytes.now ≤ most_saved }
     requires error { saying.says_error bytes.now ≡ true }
     ensures { (file_name : List ℕ) → IsRefusal bytes.now file_name result }
 {
@@ -48,7 +49,7 @@ fn bad_body(bad: BadField) -> SavedRefusal
 
 /// A response that is no Error object and good, or what is wrong with it first.
 fn data_checked(alloc: Global, bytes: &[u8]) -> Result<Checked, SavedRefusal>
-    requires few { length bytes.now ≤ 67108864 }
+    requires few { length bytes.now ≤ most_saved }
     requires data { saying.says_error bytes.now ≡ false }
     ensures good { IfOk result (λ c. (ts : List Tree) × IsChecked bytes.now c ts) }
     ensures refused { IfErr result (λ e. (file_name : List ℕ) → IsRefusal bytes.now file_name e) }
@@ -62,7 +63,7 @@ fn data_checked(alloc: Global, bytes: &[u8]) -> Result<Checked, SavedRefusal>
 
 /// A response that is good, or what is wrong with it first.
 pub fn checked(alloc: Global, bytes: &[u8]) -> Result<Checked, SavedRefusal>
-    requires { length bytes.now ≤ 67108864 }
+    requires { length bytes.now ≤ most_saved }
     ensures good { IfOk result (λ c. (ts : List Tree) × IsChecked bytes.now c ts) }
     ensures refused { IfErr result (λ e. (file_name : List ℕ) → IsRefusal bytes.now file_name e) }
 {

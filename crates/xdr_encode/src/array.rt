@@ -1,5 +1,6 @@
 ghost use Rattle.std.specs.Prelude.{◌≡◌, ◌≤◌, ◌+◌, ◌++◌, ℕ, List, Some, length, max, OnErr, OnOk};
 ghost use Rattle.std.specs.Io.KnownBytes.{Appends};
+ghost use Rattle.dap_types.specs.Limits.{most_piece};
 ghost use Rattle.dap_model.specs.Xdr as xdr;
 ghost use Rattle.dap_outside.specs.Causes.{HasCause};
 ghost use Rattle.dap_outside.specs.Streams.{AppendsFront};
@@ -68,8 +69,8 @@ pub fn send_array<R: Threads + Sync, S: Shelf, O: Sink, G: Gate>(
     gate: &G,
 ) -> Result<(), Fault>
     requires inside { AreInside plan.now (S.size_of shelf.old file.old) }
-    requires raw_room { length raw.old ≡ 65536 }
-    requires sent_room { length sent.old ≡ 65536 }
+    requires raw_room { length raw.old ≡ most_piece }
+    requires sent_room { length sent.old ≡ most_piece }
     requires some { 1 ≤ workers }
     requires many { workers ≤ 64 }
     ensures ok { OnOk result ((bytes : List ℕ) → S.content shelf.old file.old ≡ Some bytes → Appends (O.written out.old) (O.written out.new) (array_xdr plan.now bytes)) }
@@ -79,7 +80,7 @@ pub fn send_array<R: Threads + Sync, S: Shelf, O: Sink, G: Gate>(
     ensures files { S.files shelf.new ≡ S.files shelf.old }
     ensures read { OnOk result (AsksUpTo plan.now (total_of plan.now) (S.asked shelf.old) (S.asked shelf.new)) }
     ensures asked { S.asked shelf.new ≤ S.asked shelf.old + spent plan.now (total_of plan.now) }
-    ensures greatest { S.greatest shelf.new ≤ max (S.greatest shelf.old) 65536 }
+    ensures greatest { S.greatest shelf.new ≤ max (S.greatest shelf.old) most_piece }
     ensures cause { HasCauses (S.faults shelf.old) (S.faults shelf.new) (O.put_faults out.old) (O.put_faults out.new) result }
     ensures beside { O.beside_writing out.new ≡ O.beside_writing out.old }
 {

@@ -1,4 +1,5 @@
 ghost use Rattle.std.specs.Prelude.{◌≡◌, vec_len};
+ghost use Rattle.dap_types.specs.Limits.{most_piece};
 
 use crate::kept::Rows;
 use crate::leaf::Leaf;
@@ -19,6 +20,6 @@ pub struct Body {
     pub(crate) leaves: List<Leaf>,
     pub(crate) raw: Vec<u8>,
     pub(crate) sent: Vec<u8>,
-    ghost raw_room: { vec_len raw ≡ 65536 },
-    ghost sent_room: { vec_len sent ≡ 65536 },
+    ghost raw_room: { vec_len raw ≡ most_piece },
+    ghost sent_room: { vec_len sent ≡ most_piece },
 }

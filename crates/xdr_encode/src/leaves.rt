@@ -1,5 +1,6 @@
 ghost use Rattle.std.specs.Prelude.{◌≡◌, ◌+◌, ◌≤◌, ◌<◌, ℕ, List, [], Some, All, length, max, IsOk, OnErr, OnOk};
 ghost use Rattle.std.specs.Io.KnownBytes.{Appends};
+ghost use Rattle.dap_types.specs.Limits.{most_piece};
 ghost use Rattle.hyperslab_plan.specs.Plans.{total_of};
 ghost use Rattle.xdr_encode.specs.Elements.{AsksUpTo};
 ghost use Rattle.xdr_encode.specs.Faults.{HasCauses};
@@ -29,8 +30,8 @@ fn send_leaf<R: Threads + Sync, S: Shelf, O: Sink, G: Gate>(
     gate: &G,
 ) -> Result<(), Fault>
     requires inside { IsInside (S.size_of shelf.old file.old) leaf.now }
-    requires raw_room { length raw.old ≡ 65536 }
-    requires sent_room { length sent.old ≡ 65536 }
+    requires raw_room { length raw.old ≡ most_piece }
+    requires sent_room { length sent.old ≡ most_piece }
     requires some { 1 ≤ workers }
     requires many { workers ≤ 64 }
     ensures ok { OnOk result ((bytes : List ℕ) → All (λ b. b < 256) bytes → S.content shelf.old file.old ≡ Some bytes → Appends (O.written out.old) (O.written out.new) (leaf_xdr leaf.now bytes)) }
@@ -40,7 +41,7 @@ fn send_leaf<R: Threads + Sync, S: Shelf, O: Sink, G: Gate>(
     ensures files { S.files shelf.new ≡ S.files shelf.old }
     ensures read { OnOk result (AsksUpTo leaf.now.plan (total_of leaf.now.plan) (S.asked shelf.old) (S.asked shelf.new)) }
     ensures asked { S.asked shelf.new ≤ S.asked shelf.old + leaf_cost leaf.now }
-    ensures greatest { S.greatest shelf.new ≤ max (S.greatest shelf.old) 65536 }
+    ensures greatest { S.greatest shelf.new ≤ max (S.greatest shelf.old) most_piece }
     ensures cause { HasCauses (S.faults shelf.old) (S.faults shelf.new) (O.put_faults out.old) (O.put_faults out.new) result }
     ensures beside { O.beside_writing out.new ≡ O.beside_writing out.old }
 {
@@ -65,8 +66,8 @@ pub fn send_leaves<R: Threads + Sync, S: Shelf, O: Sink, G: Gate>(
     gate: &G,
 ) -> Result<(), Fault>
     requires inside { All (IsInside (S.size_of shelf.old file.old)) leaves.now }
-    requires raw_room { length raw.old ≡ 65536 }
-    requires sent_room { length sent.old ≡ 65536 }
+    requires raw_room { length raw.old ≡ most_piece }
+    requires sent_room { length sent.old ≡ most_piece }
     requires some { 1 ≤ workers }
     requires many { workers ≤ 64 }
     ensures ok { OnOk result ((bytes : List ℕ) → All (λ b. b < 256) bytes → S.content shelf.old file.old ≡ Some bytes → Appends (O.written out.old) (O.written out.new) (leaves_xdr leaves.now bytes)) }
@@ -75,7 +76,7 @@ pub fn send_leaves<R: Threads + Sync, S: Shelf, O: Sink, G: Gate>(
     ensures same_size { S.size_of shelf.new file.new ≡ S.size_of shelf.old file.old }
     ensures files { S.files shelf.new ≡ S.files shelf.old }
     ensures asked { S.asked shelf.new ≤ S.asked shelf.old + leaves_cost leaves.now }
-    ensures greatest { S.greatest shelf.new ≤ max (S.greatest shelf.old) 65536 }
+    ensures greatest { S.greatest shelf.new ≤ max (S.greatest shelf.old) most_piece }
     ensures cause { HasCauses (S.faults shelf.old) (S.faults shelf.new) (O.put_faults out.old) (O.put_faults out.new) result }
     ensures beside { O.beside_writing out.new ≡ O.beside_writing out.old }
     ensures alone { leaves.now ≡ [] → IsOk result × (shelf.new ≡ shelf.old) × (out.new ≡ out.old) }

@@ -2,6 +2,7 @@
 
 ghost use Rattle.std.specs.Prelude.{◌≡◌, ◌<◌, ◌≤◌, ◌++◌, ◌^◌, ℕ, List, [], All, codes, length, map, Bool, Err, IfOk, IsOk, MatchResult, None, Option, Some, is_some, vec_len};
 ghost use Rattle.std.specs.List.{list_any, range_with_len};
+ghost use Rattle.dap_types.specs.Limits.{most_piece, most_text};
 ghost use Rattle.csv_source.specs.Dataset.{table_dataset, table_trees};
 ghost use Rattle.dap_model.specs.Body.{body, too_large};
 ghost use Rattle.dap_model.specs.Dds.{dds};
@@ -39,8 +40,8 @@ const ROOM: usize = limits::MOST_PIECE;
 pub fn left_dds(alloc: Global, dataset: &Dataset, marks: &Marks) -> Result<Bytes, BodyRefusal>
     requires { IsWellFormed (dataset_view dataset.now) }
     ensures text { IfOk result (λ text. text ≡ dds (constrained (marks_in marks.now) (dataset_view dataset.now))) }
-    ensures short { IfOk result (λ text. length text ≤ 16777216) }
-    ensures refused { (leaf : ℕ) → result ≡ Err (BodyRefusal.TooLarge leaf) → (leaf ≡ 0) × (16777216 < length (dds (constrained (marks_in marks.now) (dataset_view dataset.now)))) }
+    ensures short { IfOk result (λ text. length text ≤ most_text) }
+    ensures refused { (leaf : ℕ) → result ≡ Err (BodyRefusal.TooLarge leaf) → (leaf ≡ 0) × (most_text < length (dds (constrained (marks_in marks.now) (dataset_view dataset.now)))) }
 {
     let left = marks.constrained(alloc, dataset)?;
     match print_short(alloc, &left) {
@@ -62,7 +63,7 @@ pub fn head_of(alloc: Global, text: &[u8]) -> Result<Bytes, Memory>
 
 /// A room of 65,536 bytes.
 pub fn room(alloc: Global) -> Result<Vec<u8>, Memory>
-    ensures { IfOk result (λ room. vec_len room ≡ 65536) }
+    ensures { IfOk result (λ room. vec_len room ≡ most_piece) }
 {
     Ok(vec![in alloc; 0u8; ROOM]?)
 }

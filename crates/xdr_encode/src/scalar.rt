@@ -1,5 +1,6 @@
 ghost use Rattle.std.specs.Prelude.{◌≡◌, ◌+◌, ◌≤◌, ◌<◌, ℕ, List, Some, All, length, max, OnErr, OnOk};
 ghost use Rattle.std.specs.Io.KnownBytes.{Appends};
+ghost use Rattle.dap_types.specs.Limits.{most_piece};
 ghost use Rattle.hyperslab_plan.specs.Batches.{spent};
 ghost use Rattle.hyperslab_plan.specs.Plans.{total_of};
 ghost use Rattle.xdr_encode.specs.Elements.{AreInside, AsksUpTo};
@@ -40,8 +41,8 @@ pub fn send_scalar<R: Threads + Sync, S: Shelf, O: Sink, G: Gate>(
 ) -> Result<(), Fault>
     requires one { total_of plan.now ≡ 1 }
     requires inside { AreInside plan.now (S.size_of shelf.old file.old) }
-    requires raw_room { length raw.old ≡ 65536 }
-    requires sent_room { length sent.old ≡ 65536 }
+    requires raw_room { length raw.old ≡ most_piece }
+    requires sent_room { length sent.old ≡ most_piece }
     requires some { 1 ≤ workers }
     requires many { workers ≤ 64 }
     ensures ok { OnOk result ((bytes : List ℕ) → All (λ b. b < 256) bytes → S.content shelf.old file.old ≡ Some bytes → Appends (O.written out.old) (O.written out.new) (scalar_xdr plan.now bytes)) }
@@ -51,7 +52,7 @@ pub fn send_scalar<R: Threads + Sync, S: Shelf, O: Sink, G: Gate>(
     ensures files { S.files shelf.new ≡ S.files shelf.old }
     ensures read { OnOk result (AsksUpTo plan.now (total_of plan.now) (S.asked shelf.old) (S.asked shelf.new)) }
     ensures asked { S.asked shelf.new ≤ S.asked shelf.old + spent plan.now (total_of plan.now) }
-    ensures greatest { S.greatest shelf.new ≤ max (S.greatest shelf.old) 65536 }
+    ensures greatest { S.greatest shelf.new ≤ max (S.greatest shelf.old) most_piece }
     ensures cause { HasCauses (S.faults shelf.old) (S.faults shelf.new) (O.put_faults out.old) (O.put_faults out.new) result }
     ensures beside { O.beside_writing out.new ≡ O.beside_writing out.old }
 {

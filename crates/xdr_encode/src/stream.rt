@@ -1,4 +1,5 @@
 ghost use Rattle.std.specs.Prelude.{◌≡◌, ◌+◌, ◌≤◌, ◌++◌, ℕ, List, [], Some, All, length, max, vec_len};
+ghost use Rattle.dap_types.specs.Limits.{most_piece};
 ghost use Rattle.xdr_encode.specs.Begun.{HaveBegun};
 ghost use Rattle.xdr_encode.specs.Bodies.{FitsFile, HasNoFile, MayAsk, cost_in, dds_in, front_in, leaves_in, text_in};
 ghost use Rattle.xdr_encode.specs.Rows.{front_text};
@@ -32,8 +33,8 @@ pub fn send_body<R: Threads + Sync, S: Shelf, O: Sink, G: Gate>(
     gate: &G,
 ) -> Streamed
     requires inside { All (IsInside (S.size_of shelf.old file.old)) leaves.now }
-    requires raw_room { length raw.old ≡ 65536 }
-    requires sent_room { length sent.old ≡ 65536 }
+    requires raw_room { length raw.old ≡ most_piece }
+    requires sent_room { length sent.old ≡ most_piece }
     requires some { 1 ≤ workers }
     requires many { workers ≤ 64 }
     ensures body { (bytes : List ℕ) → S.content shelf.old file.old ≡ Some bytes → Streams result (O.written out.old) (O.written out.new) (front_text head.now rows.now ++ leaves_xdr leaves.now bytes) }
@@ -42,7 +43,7 @@ pub fn send_body<R: Threads + Sync, S: Shelf, O: Sink, G: Gate>(
     ensures same_size { S.size_of shelf.new file.new ≡ S.size_of shelf.old file.old }
     ensures files { S.files shelf.new ≡ S.files shelf.old }
     ensures asked { S.asked shelf.new ≤ S.asked shelf.old + leaves_cost leaves.now }
-    ensures greatest { S.greatest shelf.new ≤ max (S.greatest shelf.old) 65536 }
+    ensures greatest { S.greatest shelf.new ≤ max (S.greatest shelf.old) most_piece }
     ensures cause { HasStreamCauses result (S.faults shelf.old) (S.faults shelf.new) (O.put_faults out.old) (O.put_faults out.new) }
     ensures beside { O.beside_writing out.new ≡ O.beside_writing out.old }
     ensures alone { leaves.now ≡ [] → (shelf.new ≡ shelf.old) × StreamsAlone result (O.written out.old) (O.written out.new) (front_text head.now rows.now) }
@@ -71,19 +72,19 @@ fn send_in_rooms<R: Threads + Sync, S: Shelf, O: Sink, G: Gate>(
     gate: &G,
 ) -> Streamed
     requires inside { All (IsInside (S.size_of shelf.old file.old)) leaves.now }
-    requires raw_room { vec_len raw.old ≡ 65536 }
-    requires sent_room { vec_len sent.old ≡ 65536 }
+    requires raw_room { vec_len raw.old ≡ most_piece }
+    requires sent_room { vec_len sent.old ≡ most_piece }
     requires some { 1 ≤ workers }
     requires many { workers ≤ 64 }
-    ensures raw_room { vec_len raw.new ≡ 65536 }
-    ensures sent_room { vec_len sent.new ≡ 65536 }
+    ensures raw_room { vec_len raw.new ≡ most_piece }
+    ensures sent_room { vec_len sent.new ≡ most_piece }
     ensures body { (bytes : List ℕ) → S.content shelf.old file.old ≡ Some bytes → Streams result (O.written out.old) (O.written out.new) (front_text head.now rows.now ++ leaves_xdr leaves.now bytes) }
     ensures stops { (bytes : List ℕ) → S.content shelf.old file.old ≡ Some bytes → StopsAtFault result (front_text head.now rows.now ++ leaves_xdr leaves.now bytes) (λ put asked. HaveBegun leaves.now bytes (length (front_text head.now rows.now)) put asked) (O.written out.old) (O.written out.new) (S.asked shelf.old) (S.asked shelf.new) }
     ensures same_file { S.content shelf.new file.new ≡ S.content shelf.old file.old }
     ensures same_size { S.size_of shelf.new file.new ≡ S.size_of shelf.old file.old }
     ensures files { S.files shelf.new ≡ S.files shelf.old }
     ensures asked { S.asked shelf.new ≤ S.asked shelf.old + leaves_cost leaves.now }
-    ensures greatest { S.greatest shelf.new ≤ max (S.greatest shelf.old) 65536 }
+    ensures greatest { S.greatest shelf.new ≤ max (S.greatest shelf.old) most_piece }
     ensures cause { HasStreamCauses result (S.faults shelf.old) (S.faults shelf.new) (O.put_faults out.old) (O.put_faults out.new) }
     ensures beside { O.beside_writing out.new ≡ O.beside_writing out.old }
     ensures alone { leaves.now ≡ [] → (shelf.new ≡ shelf.old) × StreamsAlone result (O.written out.old) (O.written out.new) (front_text head.now rows.now) }
@@ -128,7 +129,7 @@ impl Body {
         ensures same_dds { dds_in self.new ≡ dds_in self.old }
         ensures files { S.files shelf.new ≡ S.files shelf.old }
         ensures asked { S.asked shelf.new ≤ S.asked shelf.old + cost_in self.old }
-        ensures greatest { S.greatest shelf.new ≤ max (S.greatest shelf.old) 65536 }
+        ensures greatest { S.greatest shelf.new ≤ max (S.greatest shelf.old) most_piece }
         ensures cause { HasStreamCauses result (S.faults shelf.old) (S.faults shelf.new) (O.put_faults out.old) (O.put_faults out.new) }
         ensures beside { O.beside_writing out.new ≡ O.beside_writing out.old }
         // A body without values of a file goes out whatever the shelf tells, and asks it nothing.

@@ -2,6 +2,7 @@
 
 ghost use Rattle.std.specs.Prelude.{◌≡◌, ◌≢◌, ◌+◌, ◌≤◌, ◌<◌, ◌^◌, ℕ, List, Some, length, max, IsTrue, OnErr, OnOk, false};
 ghost use Rattle.std.specs.Io.KnownBytes.{Appends};
+ghost use Rattle.dap_types.specs.Limits.{most_piece};
 ghost use Rattle.dap_outside.specs.Buffered.{Puts};
 ghost use Rattle.dap_outside.specs.Causes.{HasCause};
 ghost use Rattle.dap_outside.specs.Streams.{AppendsFront};
@@ -85,7 +86,7 @@ fn send_text_batch<S: Shelf, O: Sink>(
     ensures content { S.content shelf.new ≡ S.content shelf.old }
     ensures sizes { S.size_of shelf.new ≡ S.size_of shelf.old }
     ensures asked { S.asked shelf.new ≤ S.asked shelf.old + batch.now.raw_len }
-    ensures greatest { S.greatest shelf.new ≤ max (S.greatest shelf.old) 65536 }
+    ensures greatest { S.greatest shelf.new ≤ max (S.greatest shelf.old) most_piece }
     ensures cause { HasCauses (S.faults shelf.old) (S.faults shelf.new) (O.put_faults out.old) (O.put_faults out.new) result }
     ensures beside { O.beside_writing out.new ≡ O.beside_writing out.old }
 {
@@ -110,7 +111,7 @@ pub fn send_texts<S: Shelf, O: Sink>(
 ) -> Result<(), Fault>
     requires text { is_number (base_in plan.now) ≡ false }
     requires inside { AreInside plan.now (S.size_of shelf.old file.old) }
-    requires raw_room { length raw.old ≡ 65536 }
+    requires raw_room { length raw.old ≡ most_piece }
     ensures ok { OnOk result ((bytes : List ℕ) → S.content shelf.old file.old ≡ Some bytes → Appends (O.written out.old) (O.written out.new) (forms_from plan.now bytes 0 (total_of plan.now))) }
     ensures err { OnErr result ((bytes : List ℕ) → S.content shelf.old file.old ≡ Some bytes → StopsAt plan.now bytes (O.written out.old) (O.written out.new) (S.asked shelf.old) (S.asked shelf.new)) }
     ensures same_file { S.content shelf.new file.new ≡ S.content shelf.old file.old }
@@ -120,7 +121,7 @@ pub fn send_texts<S: Shelf, O: Sink>(
     ensures sizes { S.size_of shelf.new ≡ S.size_of shelf.old }
     ensures read { OnOk result (AsksUpTo plan.now (total_of plan.now) (S.asked shelf.old) (S.asked shelf.new)) }
     ensures asked { S.asked shelf.new ≤ S.asked shelf.old + spent plan.now (total_of plan.now) }
-    ensures greatest { S.greatest shelf.new ≤ max (S.greatest shelf.old) 65536 }
+    ensures greatest { S.greatest shelf.new ≤ max (S.greatest shelf.old) most_piece }
     ensures cause { HasCauses (S.faults shelf.old) (S.faults shelf.new) (O.put_faults out.old) (O.put_faults out.new) result }
     ensures beside { O.beside_writing out.new ≡ O.beside_writing out.old }
 {

@@ -68,4 +68,4 @@ pub record InFrames (in_chunks : Bool) (front frame : List ℕ) (from sent : ℕ
 
 -- there is room for a byte, or the frame is whole
 abbrev pub has_room : Bool → ℕ → ℕ → Bool
-has_room in_chunks from n = nat_lt n (from + 65536) || n == (from + 65536) + length (end_of in_chunks)
+has_room in_chunks from n = nat_lt n (from + most_piece) || n == (from + most_piece) + length (end_of in_chunks)

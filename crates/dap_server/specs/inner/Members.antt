@@ -8,7 +8,7 @@ use Rattle.netcdf_source.specs.File.{FileHeader}
 use Rattle.dap_errors.specs.declared.cause.Cause.{Cause}
 use Rattle.dap_errors.specs.declared.cause.Cause.TheVariants.{Damaged}
 use Rattle.dap_errors.specs.declared.file_cause.FileCause.TheVariants.{BadMember}
-use Rattle.dap_server.specs.Costs.{IsBehindLines, most_of_names}
+use Rattle.dap_server.specs.Costs.{IsBadAmong, IsBehindLines, most_of_names}
 use Rattle.dap_server.specs.Joins.{Member}
 use Rattle.dap_server.specs.inner.Opening.{IsRead}
 use Rattle.dap_server.specs.declared.no_answer.Stop.{Stop}
@@ -50,6 +50,10 @@ AsksLine told name line cause before now =
 -- and in the lines before it no more than the fronts of theirs
 abbrev pub AsksLines : Told → List (List ℕ) → Cause → ℕ → ℕ → Type 0
 AsksLines told names cause before now = (count : ℕ) → IsBehindLines cause count → now ≤ before + most_in_first told count names
+
+-- whatever comes of them, no more was asked than the fronts of the files up to a line that is bad
+abbrev pub AsksToBad : Told → List (List ℕ) → ℕ → ℕ → Type 0
+AsksToBad told names before now = (line : ℕ) → IsBadAmong told names line → now ≤ before + most_in_first told line names
 
 -- the stop of a line whose file has no header for that stop
 abbrev pub bad_member : ℕ → Stop → Stop

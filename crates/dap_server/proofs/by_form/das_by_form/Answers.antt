@@ -40,3 +40,9 @@ returns-clause-list_text g c = λ form. absurd (no_list_form (form_of c.args.nam
 
 pub returns-clause-list_refused : goal.returns-clause-list_refused
 returns-clause-list_refused g c = λ form. absurd (no_list_form (form_of c.args.name.now) (sym c.is_list.ensures ∙ c.if-is_list.false) form)
+
+pub returns-then-is_list-clause-before_bad : goal.returns-then-is_list-clause-before_bad
+returns-then-is_list-clause-before_bad g c = λ form. c.joined_das.ensures.before_bad
+
+pub returns-clause-before_bad : goal.returns-clause-before_bad
+returns-clause-before_bad g c = λ form. absurd (no_list_form (form_of c.args.name.now) (sym c.is_list.ensures ∙ c.if-is_list.false) form)

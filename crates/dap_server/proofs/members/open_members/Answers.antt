@@ -1,6 +1,7 @@
 use Rattle.std.proofs.Common.{◌∙◌, Err, arith, refl, rules}
+use Rattle.dap_server.proofs.BadLines.{none_bad, none_left}
 use Rattle.dap_server.proofs.JoinedSending.{for_refused}
-use Rattle.dap_server.proofs.OpenedLines.{all_opened, asked_first, asked_more, asked_within, bad_stop, line_told, none_opened, opened_more, this_name}
+use Rattle.dap_server.proofs.OpenedLines.{all_opened, asked_first, asked_more, asked_within, bad_stop, line_told, none_opened, opened_more, still_good, this_name, up_to_bad}
 use Rattle.dap_server.specs.Joins.{Members}
 use Rattle.dap_server.specs.inner.Members.{AsksLines}
 use Rattle.dap_server.specs.inner.Opening.{WhereRefused}
@@ -11,6 +12,7 @@ loop-k-init g c = record {
   opened = none_opened (g.S.Shelf.files c.args.shelf.now) c.args.names.now (g.S.Shelf.content c.args.shelf.now) (g.S.Shelf.size_of c.args.shelf.now) c.new-headers.result c.new-files.result c.new-headers.ensures c.new-files.ensures;
   asked = omega arith;
   asked_before = omega arith;
+  good = none_bad (g.S.Shelf.files c.args.shelf.now) c.args.names.now;
   stays = refl;
   files = refl;
   contents = refl;
@@ -31,6 +33,8 @@ loop-k-preserved g c =
           kept.files its.member kept.asked its.asked;
       asked_before = asked_first c.args.names.now c.loop-k.k c.index-names-k.result c.bytes.result.now c.loop-k-test.true c.index-names-k.is c.bytes.ensures (g.S.Shelf.files c.args.shelf.now) (g.S.Shelf.files c.loop-k.shelf) _ _ _
           kept.files kept.asked_before its.asked;
+      good = still_good c.args.names.now c.loop-k.k c.index-names-k.result c.bytes.result.now c.loop-k-test.true c.index-names-k.is c.bytes.ensures (g.S.Shelf.files c.args.shelf.now) (g.S.Shelf.files c.loop-k.shelf) (g.S.Shelf.content c.open_member.new.shelf) (g.S.Shelf.size_of c.open_member.new.shelf) c.in_ok-header.header c.in_ok-header.file
+          kept.files its.member kept.good;
       stays = its.stays ∙ kept.stays;
       files = its.files ∙ kept.files;
       contents = its.contents ∙ kept.contents;
@@ -69,3 +73,21 @@ returns-in_err-header-clause-asked_before g c =
     for_refused (λ cause own. line_told c.args.names.now c.loop-k.k c.index-names-k.result c.bytes.result.now c.loop-k-test.true c.index-names-k.is c.bytes.ensures (g.S.Shelf.files c.args.shelf.now) (g.S.Shelf.files c.loop-k.shelf) _ _ _ cause
     c.loop-k.invariant.files c.loop-k.invariant.asked_before own) c.in_err-header.field-0.0 c.in_err-header.ensures.asked_before in
     search (rules, stop)
+
+pub returns-in_err-header-clause-before_bad : goal.returns-in_err-header-clause-before_bad
+returns-in_err-header-clause-before_bad g c =
+    up_to_bad c.args.names.now c.loop-k.k c.index-names-k.result c.bytes.result.now c.loop-k-test.true c.index-names-k.is c.bytes.ensures (g.S.Shelf.files c.args.shelf.now) (g.S.Shelf.files c.loop-k.shelf) _ _ _
+    c.loop-k.invariant.files c.loop-k.invariant.good c.loop-k.invariant.asked_before c.in_err-header.ensures.asked
+
+pub returns-in_err-push-clause-before_bad : goal.returns-in_err-push-clause-before_bad
+returns-in_err-push-clause-before_bad g c =
+    up_to_bad c.args.names.now c.loop-k.k c.index-names-k.result c.bytes.result.now c.loop-k-test.true c.index-names-k.is c.bytes.ensures (g.S.Shelf.files c.args.shelf.now) (g.S.Shelf.files c.loop-k.shelf) _ _ _
+    c.loop-k.invariant.files c.loop-k.invariant.good c.loop-k.invariant.asked_before c.in_ok-header.ensures.asked
+
+pub returns-in_err-push-2-clause-before_bad : goal.returns-in_err-push-2-clause-before_bad
+returns-in_err-push-2-clause-before_bad g c =
+    up_to_bad c.args.names.now c.loop-k.k c.index-names-k.result c.bytes.result.now c.loop-k-test.true c.index-names-k.is c.bytes.ensures (g.S.Shelf.files c.args.shelf.now) (g.S.Shelf.files c.loop-k.shelf) _ _ _
+    c.loop-k.invariant.files c.loop-k.invariant.good c.loop-k.invariant.asked_before c.in_ok-header.ensures.asked
+
+pub returns-clause-before_bad : goal.returns-clause-before_bad
+returns-clause-before_bad g c = none_left (g.S.Shelf.files c.args.shelf.now) c.args.names.now c.loop-k.k _ _ (omega (arith, c.loop-k-test.false, c.loop-k.auto.k-end)) c.loop-k.invariant.good

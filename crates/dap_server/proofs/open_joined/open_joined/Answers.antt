@@ -6,7 +6,7 @@ use Rattle.dap_server.proofs.OpeningLists as opening
 use Rattle.dap_server.specs.Costs.{IsAskedBefore, most_of_joined}
 use Rattle.dap_server.specs.Joins.{Members}
 use Rattle.dap_server.specs.inner.Joining.{MayOpenWithin, most_of_size}
-use Rattle.dap_server.specs.inner.Members.{AsksLines, most_in_lines}
+use Rattle.dap_server.specs.inner.Members.{AsksLines, AsksToBad, most_in_lines}
 use Rattle.dap_server.specs.inner.Opening.{WhereRefused}
 use Rattle.dap_server.proofs.open_joined.open_joined.Goals as goal
 
@@ -143,3 +143,33 @@ returns-in_err-joined-clause-asked_before g c =
     let stop : WhereRefused (λ cause. IsAskedBefore (g.S.Shelf.files c.args.shelf.now) c.args.name.now cause (g.S.Shelf.asked c.args.shelf.now) (g.S.Shelf.asked c.open_members.new.shelf)) c.in_err-joined.field-0.0 =
     for_refused (λ cause is. before.no_line (g.S.Shelf.files c.args.shelf.now) c.args.name.now cause _ _ (before.not_together _ _ _ _ _ _ c.args.name.now cause c.in_ok-members.ensures.members is)) c.in_err-joined.field-0.0 c.in_err-joined.ensures.refused in
     search (rules, stop)
+
+pub returns-in_err-list-clause-before_bad : goal.returns-in_err-list-clause-before_bad
+returns-in_err-list-clause-before_bad g c = before.nothing_to_bad (g.S.Shelf.files c.args.shelf.now) c.args.name.now _ _ (omega (arith, c.in_err-list.ensures.asked))
+
+pub returns-in_err-names-clause-before_bad : goal.returns-in_err-names-clause-before_bad
+returns-in_err-names-clause-before_bad g c =
+    let listed : g.S.Shelf.asked c.open_list.new.shelf ≤ g.S.Shelf.asked c.args.shelf.now + most_of_size (g.S.Shelf.size_of c.find.new.shelf c.in_ok-list.list) = omega (arith, c.in_err-names.ensures.asked, c.in_ok-list.ensures.asked) in
+    before.list_to_bad (g.S.Shelf.files c.args.shelf.now) (g.S.Shelf.name_of c.find.new.shelf) (g.S.Shelf.content c.find.new.shelf) c.args.name.now c.in_ok-list.list (g.S.Shelf.size_of c.find.new.shelf c.in_ok-list.list) _ _
+    c.in_ok-list.ensures.found c.in_err-names.ensures.told listed
+
+pub returns-in_err-members-clause-before_bad : goal.returns-in_err-members-clause-before_bad
+returns-in_err-members-clause-before_bad g c =
+    let listed : g.S.Shelf.asked c.open_list.new.shelf ≤ g.S.Shelf.asked c.args.shelf.now + most_of_size (g.S.Shelf.size_of c.find.new.shelf c.in_ok-list.list) = omega (arith, c.in_ok-names.ensures.asked, c.in_ok-list.ensures.asked) in
+    before.lines_to_bad (g.S.Shelf.files c.args.shelf.now) (g.S.Shelf.files c.open_list.new.shelf) (g.S.Shelf.name_of c.find.new.shelf) (g.S.Shelf.content c.find.new.shelf) c.args.name.now c.in_ok-list.list
+    (g.S.Shelf.size_of c.find.new.shelf c.in_ok-list.list) c.in_ok-names.names _ _ _ c.in_ok-list.ensures.found c.in_ok-names.ensures.told c.in_ok-names.ensures.names (c.in_ok-names.ensures.files ∙ c.in_ok-list.ensures.files) listed
+    (subst (λ ns. AsksToBad (g.S.Shelf.files c.open_list.new.shelf) ns (g.S.Shelf.asked c.open_list.new.shelf) (g.S.Shelf.asked c.open_members.new.shelf)) c.items.ensures c.in_err-members.ensures.before_bad)
+
+pub returns-in_err-joined-clause-before_bad : goal.returns-in_err-joined-clause-before_bad
+returns-in_err-joined-clause-before_bad g c =
+    let listed : g.S.Shelf.asked c.open_list.new.shelf ≤ g.S.Shelf.asked c.args.shelf.now + most_of_size (g.S.Shelf.size_of c.find.new.shelf c.in_ok-list.list) = omega (arith, c.in_ok-names.ensures.asked, c.in_ok-list.ensures.asked) in
+    before.lines_to_bad (g.S.Shelf.files c.args.shelf.now) (g.S.Shelf.files c.open_list.new.shelf) (g.S.Shelf.name_of c.find.new.shelf) (g.S.Shelf.content c.find.new.shelf) c.args.name.now c.in_ok-list.list
+    (g.S.Shelf.size_of c.find.new.shelf c.in_ok-list.list) c.in_ok-names.names _ _ _ c.in_ok-list.ensures.found c.in_ok-names.ensures.told c.in_ok-names.ensures.names (c.in_ok-names.ensures.files ∙ c.in_ok-list.ensures.files) listed
+    (subst (λ ns. AsksToBad (g.S.Shelf.files c.open_list.new.shelf) ns (g.S.Shelf.asked c.open_list.new.shelf) (g.S.Shelf.asked c.open_members.new.shelf)) c.items.ensures c.in_ok-members.ensures.before_bad)
+
+pub returns-clause-before_bad : goal.returns-clause-before_bad
+returns-clause-before_bad g c =
+    let listed : g.S.Shelf.asked c.open_list.new.shelf ≤ g.S.Shelf.asked c.args.shelf.now + most_of_size (g.S.Shelf.size_of c.find.new.shelf c.in_ok-list.list) = omega (arith, c.in_ok-names.ensures.asked, c.in_ok-list.ensures.asked) in
+    before.lines_to_bad (g.S.Shelf.files c.args.shelf.now) (g.S.Shelf.files c.open_list.new.shelf) (g.S.Shelf.name_of c.find.new.shelf) (g.S.Shelf.content c.find.new.shelf) c.args.name.now c.in_ok-list.list
+    (g.S.Shelf.size_of c.find.new.shelf c.in_ok-list.list) c.in_ok-names.names _ _ _ c.in_ok-list.ensures.found c.in_ok-names.ensures.told c.in_ok-names.ensures.names (c.in_ok-names.ensures.files ∙ c.in_ok-list.ensures.files) listed
+    (subst (λ ns. AsksToBad (g.S.Shelf.files c.open_list.new.shelf) ns (g.S.Shelf.asked c.open_list.new.shelf) (g.S.Shelf.asked c.open_members.new.shelf)) c.items.ensures c.in_ok-members.ensures.before_bad)

@@ -1,10 +1,10 @@
 use Rattle.dap_http.specs.declared.kind.Kind.TheVariants.{Das, Dds, Dods, Ver}
-use Rattle.std.proofs.Common.{◌∙◌, IfErr, ap, refl, subst}
-use Rattle.dap_server.proofs.AskedBefore.{text_refuses}
+use Rattle.std.proofs.Common.{◌∙◌, IfErr, ap, arith, refl, subst}
+use Rattle.dap_server.proofs.AskedBefore.{nothing_to_bad, text_refuses}
 use Rattle.dap_server.proofs.JoinsGiven.{for_err, for_ok, version_within}
 use Rattle.dap_server.proofs.JoinsMade.{list_asked, list_told, made_for, text_no_files}
 use Rattle.dap_server.proofs.Making as making
-use Rattle.dap_server.specs.Costs.{IsAskedBefore}
+use Rattle.dap_server.specs.Costs.{IsAskedBefore, IsWithinBadLine}
 use Rattle.dap_server.specs.Files.{form_of}
 use Rattle.dap_server.specs.Prepared.{WhereRefuse}
 use Rattle.dap_server.specs.inner.Opening.{WhereRefused}
@@ -112,3 +112,21 @@ pub returns-in-Dods-clause-of_list : goal.returns-in-Dods-clause-of_list
 returns-in-Dods-clause-of_list g c = λ form.
     list_asked _ c.args.target.now Dods c.as_str-name.result.now c.bytes-query.result.now _ _ c.data_answer.result c.in-Dods.is c.as_str-name.ensures c.bytes-query.ensures
     (c.data_answer.ensures.of_list (ap form_of c.as_str-name.ensures ∙ form))
+
+pub returns-in-Ver-clause-before_bad : goal.returns-in-Ver-clause-before_bad
+returns-in-Ver-clause-before_bad g c = λ form. nothing_to_bad (g.S.Shelf.files c.args.shelf.now) c.args.target.now.name _ _ (omega arith)
+
+pub returns-in-Das-clause-before_bad : goal.returns-in-Das-clause-before_bad
+returns-in-Das-clause-before_bad g c = λ form.
+    subst (λ n. IsWithinBadLine (g.S.Shelf.files c.args.shelf.now) n (g.S.Shelf.asked c.args.shelf.now) (g.S.Shelf.asked c.das_by_form.new.shelf)) c.as_str-name.ensures
+    (c.das_by_form.ensures.before_bad (ap form_of c.as_str-name.ensures ∙ form))
+
+pub returns-in-Dds-clause-before_bad : goal.returns-in-Dds-clause-before_bad
+returns-in-Dds-clause-before_bad g c = λ form.
+    subst (λ n. IsWithinBadLine (g.S.Shelf.files c.args.shelf.now) n (g.S.Shelf.asked c.args.shelf.now) (g.S.Shelf.asked c.dds_by_form.new.shelf)) c.as_str-name.ensures
+    (c.dds_by_form.ensures.before_bad (ap form_of c.as_str-name.ensures ∙ form))
+
+pub returns-in-Dods-clause-before_bad : goal.returns-in-Dods-clause-before_bad
+returns-in-Dods-clause-before_bad g c = λ form.
+    subst (λ n. IsWithinBadLine (g.S.Shelf.files c.args.shelf.now) n (g.S.Shelf.asked c.args.shelf.now) (g.S.Shelf.asked c.data_answer.new.shelf)) c.as_str-name.ensures
+    (c.data_answer.ensures.before_bad (ap form_of c.as_str-name.ensures ∙ form))

@@ -54,3 +54,9 @@ returns-then-is_list-clause-of_list g c = λ form. list_given _ c.joined_dods.re
 
 pub returns-clause-of_list : goal.returns-clause-of_list
 returns-clause-of_list g c = λ form. absurd (no_list_form (form_of c.args.name.now) (sym c.is_list.ensures ∙ c.if-is_list.false) form)
+
+pub returns-then-is_list-clause-before_bad : goal.returns-then-is_list-clause-before_bad
+returns-then-is_list-clause-before_bad g c = λ form. c.joined_dods.ensures.before_bad
+
+pub returns-clause-before_bad : goal.returns-clause-before_bad
+returns-clause-before_bad g c = λ form. absurd (no_list_form (form_of c.args.name.now) (sym c.is_list.ensures ∙ c.if-is_list.false) form)

@@ -64,3 +64,6 @@ returns-clause-of_list g c = c.answer_of.ensures.of_list
 
 pub returns-clause-any_list : goal.returns-clause-any_list
 returns-clause-any_list g c = λ form. within_a_list _ _ _ _ form c.answer_of.ensures.asked
+
+pub returns-clause-before_bad : goal.returns-clause-before_bad
+returns-clause-before_bad g c = c.answer_of.ensures.before_bad
