@@ -30,7 +30,12 @@ fn put_byte<O: Sink>(buffer: &mut Buffer, out: &mut O, byte: u8) -> Result<(), F
         b' '..=b'~' => buffer.put(out, &[byte]),
         _ => buffer.put(
             out,
-            &[b'\\', b'x', hex_digit(byte / 16, false), hex_digit(byte % 16, false)],
+            &[
+                b'\\',
+                b'x',
+                hex_digit(byte / 16, false),
+                hex_digit(byte % 16, false),
+            ],
         ),
     }
 }
