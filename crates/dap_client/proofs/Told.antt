@@ -262,7 +262,7 @@ none_taken left = ([], Consumes-nil left, λ d head values h. none head values h
     none : (head values : List ℕ) → [] ≡ head ++ values → length values ≤ 65536
     none head values is = omega (arith, ap length is, length-append head values)
 
-rose_on : (a b c : ℕ) → b ≤ c → Rose a b → Rose a c
+pub rose_on : (a b c : ℕ) → b ≤ c → Rose a b → Rose a c
 rose_on a b c le rose = omega (arith, le, rose)
 
 pub rose_later : (a b c : ℕ) → a ≤ b → Rose b c → Rose a c

@@ -5,6 +5,7 @@ use Rattle.std.proofs.lemmas.List.Elements.{All-cons, All-head, All-nil, All-tai
 use Rattle.std.proofs.lemmas.List.Sums.{sum_by-cons}
 use Rattle.std.specs.Fmt.{decimal}
 use Rattle.std.specs.Io.KnownBytes.{Appends}
+use Rattle.dap_client.proofs.Told.{rose_later, rose_on}
 use Rattle.dap_outside.proofs.Fronts.{front_more, front_of}
 use Rattle.dap_outside.specs.Causes.{Rose}
 use Rattle.dap_outside.specs.Files.{Told}
@@ -69,16 +70,10 @@ module _ {W : Type 0} (told : Told) (state : W → LinkState) where
         failed = failures-more v visits a.faults m.faults b.faults first rest.later rose.0 rest.failed;
         calm = λ all. rest.calm (All-tail IsCalm v visits all) ∙ calm-first v visits a.faults m.faults rose all;
         asked = asked-more v visits a.asked m.asked b.asked asks rest.asked;
-        answered = λ quiet. All-cons (IsWholeVisit told state) v visits (whole (λ up. quiet (rose-first a.faults m.faults b.faults rest.later up)))
-            (rest.answered (λ up. quiet (rose-then a.faults m.faults b.faults first up)));
+        answered = λ quiet. All-cons (IsWholeVisit told state) v visits (whole (λ up. quiet (rose_on a.faults m.faults b.faults rest.later up)))
+            (rest.answered (λ up. quiet (rose_later a.faults m.faults b.faults first up)));
         says = says-more k requests (length visits) (link_line k v.served) (lines_from (k + 1) visits) a.written m.written b.written status puts rest.says;
       }
-    where
-      rose-first : (a m b : ℕ) → m ≤ b → Rose a m → Rose a b
-      rose-first a m b later up = omega (arith, later, up)
-
-      rose-then : (a m b : ℕ) → a ≤ m → Rose m b → Rose a b
-      rose-then a m b first up = omega (arith, first, up)
 
   -- a link was served, and its line was put in part
   pub serves-part : (k requests : ℕ) (a b : Standing W) (v : Visit W) → b.back ≡ option_map (λ links. links ++ v.back ∷ []) a.back

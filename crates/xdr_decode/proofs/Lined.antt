@@ -50,9 +50,6 @@ text_differs bytes text at b left lt inside is other left_is so = record {
       let later : get_or text at 0 ∷ drop (suc at) text ++ behind ≡ get_or bytes at 0 ∷ after = append_cancel_left (take at text) (get_or text at 0 ∷ drop (suc at) text ++ behind) (get_or bytes at 0 ∷ after) whole in
       other (sym (cons_first (get_or text at 0) (get_or bytes at 0) (drop (suc at) text ++ behind) after later) ∙ sym is);
 }
-  where
-    cons_first : (x y : ℕ) (xs ys : List ℕ) → x ∷ xs ≡ y ∷ ys → x ≡ y
-    cons_first x y xs ys e = cc
 
 pub text_read : (bytes text : List ℕ) (at : ℕ) → length text ≤ at → at ≤ length text → Same bytes text at → bytes ≡ text ++ drop (length text) bytes
 text_read bytes text at all within so =
@@ -88,14 +85,8 @@ end_differs bytes b left some is feed back left_is = record {
 }
   where
     not_begun : (text behind after : List ℕ) → EndLines text → text ++ behind ≡ get_or bytes 0 0 ∷ after → ⊥
-    not_begun text behind after (inl t) same = feed (sym is ∙ sym (first 10 (get_or bytes 0 0) behind after (ap (λ l. l ++ behind) (sym t) ∙ same)))
-      where
-        first : (x y : ℕ) (xs ys : List ℕ) → x ∷ xs ≡ y ∷ ys → x ≡ y
-        first x y xs ys e = cc
-    not_begun text behind after (inr t) same = back (sym is ∙ sym (first 13 (get_or bytes 0 0) (10 ∷ behind) after (ap (λ l. l ++ behind) (sym t) ∙ same)))
-      where
-        first : (x y : ℕ) (xs ys : List ℕ) → x ∷ xs ≡ y ∷ ys → x ≡ y
-        first x y xs ys e = cc
+    not_begun text behind after (inl t) same = feed (sym is ∙ sym (cons_first 10 (get_or bytes 0 0) behind after (ap (λ l. l ++ behind) (sym t) ∙ same)))
+    not_begun text behind after (inr t) same = back (sym is ∙ sym (cons_first 13 (get_or bytes 0 0) (10 ∷ behind) after (ap (λ l. l ++ behind) (sym t) ∙ same)))
 
 first_same : (front : List ℕ) (next : ℕ) (rest after : List ℕ) → get_or (front ++ next ∷ rest) 0 0 ≡ get_or (front ++ next ∷ after) 0 0
 first_same [] next rest after = refl
