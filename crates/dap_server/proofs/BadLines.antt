@@ -63,8 +63,9 @@ to_bad told names k start now good asked = λ line bad. omega (arith, asked, fir
 inside : (told : Told) (names : List (List ℕ)) (line : ℕ) → IsBadAmong told names line → line ≤ length names
 inside None names line bad = absurd bad
 inside (Some files) names line (before, name, rest, cause, number, at, is) =
-    let long : length names - before ≡ length rest + 1 = sym (length-drop before names) ∙ ap length at in
-    omega (arith, number, long)
+    let long : length names - before ≡ length (name ∷ rest) = sym (length-drop before names) ∙ ap length at in
+    let some : 1 ≤ length (name ∷ rest) = omega arith in
+    omega (arith, number, long, some)
 
 -- where all are good there is none
 pub none_left : (told : Told) (names : List (List ℕ)) (k start now : ℕ) → length names ≤ k → NoneBad told names k → AsksToBad told names start now
