@@ -1,7 +1,9 @@
-# Builds the proved program, answers and shows the samples, a whole table and a part of a netCDF file, and serves that
-# part on a port and fetches it back. The first time every crate below the program is proved, which takes an hour and a
-# half; where nothing has changed all of it takes a minute or two.
+# `make try` is a first look, in two minutes: the program as it is built with run-time checks and no proof answers and
+# shows the samples. `make demo` proves and builds the program, answers and shows a whole table and a part of a netCDF
+# file, and serves that part on a port and fetches it back. The first time every crate below the program is proved; where
+# nothing has changed all of it takes a few minutes.
 #
+#     make try
 #     make demo [PORT=8764]
 
 PORT ?= 8764
@@ -15,14 +17,18 @@ demo: bin/dap2
 		../bin/dap2 fetch http://127.0.0.1:$(PORT)/sea.nc dods 'sst[0:1][1:2][0:3:3]' && wait $$! || { kill $$! 2> /dev/null; exit 1; }; }
 	@echo "make demo took $$(( $$(date +%s) - $(BEGAN) )) seconds"
 
-# rt proves what has changed and builds the program, and runs it with the word behind `--`. What an earlier build left is
-# removed first, so that a failed one leaves nothing to copy.
+# A program that an earlier build left is removed first, so that a failed one leaves nothing to run.
 bin/dap2: FORCE
-	@echo "rt proves what has changed below the program: the first time an hour and a half, else a minute or two"
-	rm -f bin/dap2 crates/dap2/out/dap2
-	cd crates/dap2 && rt run -- ver > /dev/null
-	mkdir -p bin
-	cp crates/dap2/out/dap2 bin/dap2
+	@echo "rt proves what has changed below the program, as many crates side by side as .ci/lanes says"
+	rm -f bin/dap2
+	.ci/program
+
+# Each file in examples/try that has no ending is the standard input of one run, the words are those in NAME.args.
+.PHONY: try
+try:
+	@echo "rt builds the program with run-time checks: a minute or two"
+	@cd crates/dap2 && rt try --data buoys.csv=../../examples/buoys.csv --data sea.nc=../../examples/sea.nc --cases ../../examples/try
+	@echo "make try took $$(( $$(date +%s) - $(BEGAN) )) seconds. Nothing was proved: make demo proves the program and builds bin/dap2"
 
 .PHONY: FORCE
 FORCE:
