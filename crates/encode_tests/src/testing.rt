@@ -155,38 +155,6 @@ pub fn put_of<R: Threads + Abort + Sync, G: Gate>(
     Ok(out)
 }
 
-/// A hyperslab: its start, its stride and its stop.
-pub type Slab = (u32, u32, u32);
-
-/// The positions behind each of some others in one dimension more of that size, where a hyperslab picks
-/// its indexes.
-pub fn widened(
-    alloc: Global,
-    positions: &[u32],
-    size: u32,
-    slab: Slab,
-) -> Result<Vec<u32>, Memory> {
-    let (start, stride, stop) = slab;
-    let mut wide = Vec::new(alloc);
-    for position in positions {
-        for index in start..size {
-            if index <= stop && (index - start) % stride.max(1) == 0 {
-                wide.push(position.wrapping_mul(size).wrapping_add(index))?;
-            }
-        }
-    }
-    Ok(wide)
-}
-
-/// The numbers from 0 on.
-pub fn numbered(alloc: Global, many: u32) -> Result<Vec<u32>, Memory> {
-    let mut numbers = Vec::new(alloc);
-    for number in 0..many {
-        numbers.push(number)?;
-    }
-    Ok(numbers)
-}
-
 /// The XDR behind the DDS and the line `Data:`, which have to stand there.
 pub fn expect_xdr<R: Abort>(rt: &R, body: &Body, put: &[u8], xdr: &[u8]) {
     let head = body.dds().len();

@@ -1,10 +1,8 @@
-//! Cases of `join_source`: lists of files, and bodies of joined files.
+//! Cases of `join_source`: joined files at a limit, and the workers of their bodies.
 #![tactic(auto)]
 
 #[cfg(test)]
-mod body_tests;
-#[cfg(test)]
-mod list_tests;
+mod limit_tests;
 #[cfg(test)]
 mod testing;
 #[cfg(test)]

@@ -11,7 +11,7 @@ use dap_types::{Bytes, Index, List, Memory, Name};
 use grid_projection::resolve;
 use join_source::{JoinBody, JoinRefusal, Joined, join};
 use netcdf_source::{Header, read_header};
-use slab_fill::{Gate, NoGate};
+use slab_fill::Gate;
 use std::alloc::Global;
 use std::process::Abort;
 use std::test::Fail;
@@ -175,47 +175,4 @@ pub fn put_of<R: Threads + Abort + Sync, G: Gate>(
     let sent = body.stream(rt, &mut shelf, found, &mut out, workers, gate);
     assert!(rt; sent == Streamed::Sent);
     Ok(out)
-}
-
-/// What a sink gets that takes so many bytes a call is this DDS and this XDR.
-fn expect_put<R: Threads + Abort + Sync>(
-    rt: &R,
-    alloc: Global,
-    files: &[&[u8]],
-    query: &[u8],
-    dds: &[u8],
-    xdr: &[u8],
-    piece: u32,
-    workers: u32,
-) -> Result<(), Fail>
-    requires piece { 0 < piece }
-    requires some { 1 ≤ workers }
-    requires many { workers ≤ 64 }
-{
-    let mut body = body_of(rt, alloc, files, query)?;
-    let put = put_of(rt, alloc, files, &mut body, piece, workers, &NoGate)?;
-    let bytes = put.bytes();
-    let head = dds.len() + 6;
-    assert!(rt; body.dds() == dds);
-    assert!(rt; bytes.len() >= head && bytes.len() - head == xdr.len());
-    assert!(rt; &bytes[..dds.len()] == dds);
-    assert!(rt; &bytes[dds.len()..head] == b"Data:\n".as_slice());
-    assert!(rt; &bytes[head..] == xdr);
-    Ok(())
-}
-
-/// The body of joined files is this DDS and these words, for any number of workers.
-pub fn expect_body<R: Threads + Abort + Sync>(
-    rt: &R,
-    alloc: Global,
-    files: &[&[u8]],
-    query: &[u8],
-    dds: &[u8],
-    words: &[u32],
-) -> Result<(), Fail> {
-    let xdr = file_of(alloc, words, b"")?;
-    expect_put(rt, alloc, files, query, dds, &xdr, 1, 1)?;
-    expect_put(rt, alloc, files, query, dds, &xdr, 7, 2)?;
-    expect_put(rt, alloc, files, query, dds, &xdr, 65536, 7)?;
-    expect_put(rt, alloc, files, query, dds, &xdr, 65536, 64)
 }

@@ -1,11 +1,8 @@
-mod attributes;
 mod climate;
 mod expecting;
-mod files;
 mod joining;
 mod made;
-mod mapping;
+mod places;
 mod refusals;
 mod seen;
-mod version_five;
 mod widths;

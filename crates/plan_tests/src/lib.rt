@@ -1,4 +1,5 @@
-//! Cases of `hyperslab_plan`, `slab_fill`, `grid_projection`: plans of hyperslabs, what fills from them, and what constraints mark.
+//! Cases of `hyperslab_plan`, `slab_fill`, `grid_projection`, `sequence_select`: plans of hyperslabs, what fills from them,
+//! what constraints mark, and the workers of masks.
 #![tactic(auto)]
 
 #[cfg(test)]

@@ -1,4 +1,5 @@
 mod expecting;
 mod filling;
+mod masks;
 mod plans;
 mod projections;

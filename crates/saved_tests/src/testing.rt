@@ -4,7 +4,7 @@ use constraint_parse::parse;
 use dap_outside::MemSink;
 use dap_types::{Index, List, Memory};
 use grid_projection::resolve;
-use saved_source::{SavedBody, SavedBodyRefusal, SavedRefusal, read_saved};
+use saved_source::{SavedBody, SavedBodyRefusal, read_saved};
 use std::alloc::Global;
 use std::process::Abort;
 use std::test::Fail;
@@ -81,12 +81,4 @@ pub fn expect<R: Abort>(
     let wanted = response(alloc, text, words)?;
     assert!(rt; out.as_slice() == wanted.as_slice());
     Ok(())
-}
-
-/// The response is bad at that place.
-pub fn expect_bad<R: Abort>(rt: &R, alloc: Global, bytes: &[u8], place: u64) {
-    match read_saved(alloc, bytes, b"saved.dods") {
-        Err(refusal) => assert!(rt; refusal == SavedRefusal::BadBody { place }),
-        Ok(_) => panic!(rt; "a good body"),
-    }
 }

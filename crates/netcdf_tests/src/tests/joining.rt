@@ -1,5 +1,5 @@
 use crate::tests::expecting::expect;
-use crate::tests::made::{Variable, file, sample, with_attributes};
+use crate::tests::made::{Variable, file, sample};
 use crate::tests::seen::{header, is_described};
 use netcdf_source::Header;
 use std::alloc::Global;
@@ -17,63 +17,6 @@ fn made(
 ) -> Result<Header, Fail> {
     let bytes = file(alloc, 1, records, dimensions, variables, 700)?;
     header(alloc, &bytes, bytes.len() as u64)
-}
-
-/// Whether a file with two variables over `t` and `n` has the shape of this one.
-fn is_same(alloc: Global, dimensions: &[Dimension], variables: &[Variable]) -> Result<bool, Fail> {
-    let dims: [Dimension; 2] = [(b"t", 0), (b"n", 3)];
-    let both = [sample(b"a", &[0], 1, 600), sample(b"b", &[1], 4, 610)];
-    let one = made(alloc, 2, &dims, &both)?;
-    let other = made(alloc, 9, dimensions, variables)?;
-    Ok(one.same_shape(&other))
-}
-
-/// Whether the shape stays with these dimensions.
-fn has_dimensions(alloc: Global, first: Dimension, second: Dimension) -> Result<bool, Fail> {
-    let both = [sample(b"a", &[0], 1, 600), sample(b"b", &[1], 4, 610)];
-    is_same(alloc, &[first, second], &both)
-}
-
-#[test]
-fn dimensions_are_compared(rt: HostRuntime) -> Result<(), Fail> {
-    let alloc = rt.alloc();
-    assert!(rt; has_dimensions(alloc, (b"t", 0), (b"n", 3))?);
-    assert!(rt; !has_dimensions(alloc, (b"t", 0), (b"m", 3))?);
-    assert!(rt; !has_dimensions(alloc, (b"t", 0), (b"n", 4))?);
-    assert!(rt; !has_dimensions(alloc, (b"t", 1), (b"n", 3))?);
-    Ok(())
-}
-
-/// Whether the shape stays with this first variable.
-fn has_variable(alloc: Global, first: Variable) -> Result<bool, Fail> {
-    let dims: [Dimension; 2] = [(b"t", 0), (b"n", 3)];
-    is_same(alloc, &dims, &[first, sample(b"b", &[1], 4, 640)])
-}
-
-#[test]
-fn variables_are_compared(rt: HostRuntime) -> Result<(), Fail> {
-    let alloc = rt.alloc();
-    assert!(rt; has_variable(alloc, sample(b"a", &[0], 1, 600))?);
-    assert!(rt; !has_variable(alloc, sample(b"a", &[0], 2, 600))?);
-    assert!(rt; !has_variable(alloc, sample(b"c", &[0], 1, 600))?);
-    assert!(rt; !has_variable(alloc, sample(b"a", &[1], 1, 600))?);
-    assert!(rt; !has_variable(alloc, sample(b"a", &[0, 1], 1, 600))?);
-    Ok(())
-}
-
-/// Neither the places of the variables nor their attributes are part of the shape, but their number
-/// and their order.
-#[test]
-fn places_and_attributes_are_not_compared(rt: HostRuntime) -> Result<(), Fail> {
-    let alloc = rt.alloc();
-    let dims: [Dimension; 2] = [(b"t", 0), (b"n", 3)];
-    let a = with_attributes(b"a", &[0], &[12, 1, 1, 0x6100_0000, 1, 0], 1, 630);
-    let b = sample(b"b", &[1], 4, 610);
-    assert!(rt; is_same(alloc, &dims, &[a, b])?);
-    assert!(rt; !is_same(alloc, &dims, &[b, a])?);
-    assert!(rt; !is_same(alloc, &dims, &[a])?);
-    assert!(rt; !is_same(alloc, &[(b"t", 0)], &[a])?);
-    Ok(())
 }
 
 /// A record dimension `t`, and variables of which `t` and `g` are over it, `g` with its maps.

@@ -54,18 +54,9 @@ pub fn push_zeros(bytes: &mut Vec<u8>, count: usize) -> Result<(), Fail> {
     Ok(())
 }
 
-/// A number of the version's width.
-fn push_number(bytes: &mut Vec<u8>, version: u8, number: u32) -> Result<(), Fail> {
-    if version == 5 {
-        push_words(bytes, &[0, number])
-    } else {
-        push_word(bytes, number)
-    }
-}
-
 /// How many items follow.
-fn push_count(bytes: &mut Vec<u8>, version: u8, count: usize) -> Result<(), Fail> {
-    push_number(bytes, version, (count % 1000) as u32)
+fn push_count(bytes: &mut Vec<u8>, count: usize) -> Result<(), Fail> {
+    push_word(bytes, (count % 1000) as u32)
 }
 
 fn push_padding(bytes: &mut Vec<u8>, count: usize) -> Result<(), Fail> {
@@ -75,17 +66,17 @@ fn push_padding(bytes: &mut Vec<u8>, count: usize) -> Result<(), Fail> {
     Ok(())
 }
 
-fn push_name(bytes: &mut Vec<u8>, version: u8, name: &[u8]) -> Result<(), Fail> {
-    push_count(bytes, version, name.len())?;
+fn push_name(bytes: &mut Vec<u8>, name: &[u8]) -> Result<(), Fail> {
+    push_count(bytes, name.len())?;
     bytes.extend_from_slice(name)?;
     push_padding(bytes, (4 - name.len() % 4) % 4)
 }
 
 /// The dimensions of a variable.
-fn push_ids(bytes: &mut Vec<u8>, version: u8, ids: &[u32]) -> Result<(), Fail> {
-    push_count(bytes, version, ids.len())?;
+fn push_ids(bytes: &mut Vec<u8>, ids: &[u32]) -> Result<(), Fail> {
+    push_count(bytes, ids.len())?;
     for id in ids {
-        push_number(bytes, version, *id)?;
+        push_word(bytes, *id)?;
     }
     Ok(())
 }
@@ -95,44 +86,40 @@ fn push_begin(bytes: &mut Vec<u8>, version: u8, begin: u32) -> Result<(), Fail> 
     if version == 2 {
         push_words(bytes, &[1, begin])
     } else {
-        push_number(bytes, version, begin)
+        push_word(bytes, begin)
     }
 }
 
 fn push_variable(bytes: &mut Vec<u8>, version: u8, v: &Variable) -> Result<(), Fail> {
-    push_name(bytes, version, v.name)?;
-    push_ids(bytes, version, v.dimensions)?;
+    push_name(bytes, v.name)?;
+    push_ids(bytes, v.dimensions)?;
     push_words(bytes, v.attributes)?;
     push_word(bytes, v.number)?;
-    push_number(bytes, version, 7)?;
+    push_word(bytes, 7)?;
     push_begin(bytes, version, v.begin)
 }
 
 /// The tag of a list, and how many items it has.
-fn push_head(bytes: &mut Vec<u8>, version: u8, tag: u32, count: usize) -> Result<(), Fail> {
+fn push_head(bytes: &mut Vec<u8>, tag: u32, count: usize) -> Result<(), Fail> {
     push_word(bytes, tag)?;
-    push_count(bytes, version, count)
+    push_count(bytes, count)
 }
 
-fn push_dimension(bytes: &mut Vec<u8>, version: u8, name: &[u8], length: u32) -> Result<(), Fail> {
-    push_name(bytes, version, name)?;
-    push_number(bytes, version, length)
+fn push_dimension(bytes: &mut Vec<u8>, name: &[u8], length: u32) -> Result<(), Fail> {
+    push_name(bytes, name)?;
+    push_word(bytes, length)
 }
 
-fn push_dimensions(
-    bytes: &mut Vec<u8>,
-    version: u8,
-    dimensions: &[(&[u8], u32)],
-) -> Result<(), Fail> {
-    push_head(bytes, version, 10, dimensions.len())?;
+fn push_dimensions(bytes: &mut Vec<u8>, dimensions: &[(&[u8], u32)]) -> Result<(), Fail> {
+    push_head(bytes, 10, dimensions.len())?;
     for (name, length) in dimensions {
-        push_dimension(bytes, version, name, *length)?;
+        push_dimension(bytes, name, *length)?;
     }
     Ok(())
 }
 
 fn push_variables(bytes: &mut Vec<u8>, version: u8, variables: &[Variable]) -> Result<(), Fail> {
-    push_head(bytes, version, 11, variables.len())?;
+    push_head(bytes, 11, variables.len())?;
     for v in variables {
         push_variable(bytes, version, v)?;
     }
@@ -149,9 +136,9 @@ pub fn file(
     data: usize,
 ) -> Result<Vec<u8>, Fail> {
     let mut bytes = Vec::from_slice(alloc, &[0x43, 0x44, 0x46, version])?;
-    push_number(&mut bytes, version, records)?;
-    push_dimensions(&mut bytes, version, dimensions)?;
-    push_head(&mut bytes, version, 12, 0)?;
+    push_word(&mut bytes, records)?;
+    push_dimensions(&mut bytes, dimensions)?;
+    push_head(&mut bytes, 12, 0)?;
     push_variables(&mut bytes, version, variables)?;
     push_zeros(&mut bytes, data)?;
     Ok(bytes)

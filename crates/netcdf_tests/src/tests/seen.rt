@@ -1,4 +1,4 @@
-use dap_types::{ArrayDecl, BaseType, Bytes, Column, Dataset, Decl, Dim, Id, Layout};
+use dap_types::{ArrayDecl, BaseType, Column, Dataset, Decl, Dim, Id, Layout};
 use netcdf_source::{Header, read_header};
 use std::alloc::Global;
 use std::test::Fail;
@@ -14,12 +14,6 @@ fn front_header(alloc: Global, bytes: &[u8], file_len: u64) -> Option<Header> {
 /// The header of a file that begins with these bytes.
 pub fn header(alloc: Global, bytes: &[u8], file_len: u64) -> Result<Header, Fail> {
     Ok(front_header(alloc, bytes, file_len).ok_or("a header")?)
-}
-
-/// The printed attributes of a file.
-pub fn printed(alloc: Global, bytes: &[u8]) -> Result<Bytes, Fail> {
-    let header = header(alloc, bytes, bytes.len() as u64)?;
-    Ok(das_text::print(alloc, &header.attributes(alloc)?)?)
 }
 
 fn put(out: &mut Vec<u8>, bytes: &[u8]) -> Result<(), Fail> {

@@ -1,6 +1,3 @@
-mod causes;
 mod datasets;
-mod limits;
 mod marked;
 mod members;
-mod shapes;

@@ -1,3 +1,0 @@
-mod expecting;
-mod selections;
-mod tables;
