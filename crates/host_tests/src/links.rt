@@ -5,13 +5,14 @@ use dap_host::{TcpDial, TcpDoor, TcpLink};
 use dap_outside::{Dial, Door, Source, put_all};
 use std::net::{Ipv4Addr, Net, OpenListener, TcpListener};
 use std::test::Fail;
+use std::time::Clock;
 
 /// A peer at this address that is connected to the door, and the door's link to it.
-fn joined<N: Net>(
-    dial: &mut TcpDial<'_, N>,
-    door: &mut TcpDoor<'_, N>,
+fn joined<'a, N: Net + Clock>(
+    dial: &mut TcpDial<'a, N>,
+    door: &mut TcpDoor<'a, N>,
     host: &str,
-) -> Result<(TcpLink<N::Stream>, TcpLink<N::Stream>), Fail> {
+) -> Result<(TcpLink<N::Stream, &'a N>, TcpLink<N::Stream, &'a N>), Fail> {
     let Some(port) = port_of(door) else {
         return Err(Fail::from("no port"));
     };
