@@ -15,6 +15,7 @@ use dap_outside::{
 use dap_server::{Ending, Served, serve_connection};
 use dap_types::{Bytes, List, Memory};
 use std::alloc::Global;
+use std::cell::Cell;
 use std::net::Net;
 use std::process::Abort;
 use std::test::Fail;
@@ -218,8 +219,9 @@ fn served_over_the_door<R: Threads + Net + Clock + AllocGlobal + Sync>(
     request: &[u8],
 ) -> Result<(Served, Bytes), Fail> {
     let alloc = rt.alloc();
-    let mut door = TcpDoor::new(rt);
-    let mut dial = TcpDial::new(rt);
+    let (here, there) = (Cell::new(None), Cell::new(None));
+    let mut door = TcpDoor::new(rt, &here);
+    let mut dial = TcpDial::new(rt, &there);
     let (mut peer, mut link) = joined(&mut dial, &mut door)?;
     send(&mut peer, request)?;
     let served = serve_link(rt, alloc, &mut link);

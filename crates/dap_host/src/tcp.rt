@@ -1,15 +1,17 @@
 //! Where links over TCP come in and go out.
 
-ghost use Rattle.std.specs.Prelude.{◌≡◌, [], IfOk, None};
+ghost use Rattle.std.specs.Prelude.{◌≡◌, [], IfOk, None, false};
 
 use crate::{ReadLimits, TcpLink, WriteLimits};
 use arrayvec::ArrayVec;
 use dap_outside::{Dial, Door, Failed};
 use dap_types::limits;
+use std::cell::Cell;
 use std::io;
 use std::io::{ErrorKind, Read};
 use std::net::{
-    Ipv4Addr, Net, OpenListener, OpenStream, Shutdown, TcpListener, TcpStream, ToSocketAddrs,
+    Ipv4Addr, Net, OpenListener, OpenStream, Shutdown, SocketAddr, TcpListener, TcpStream,
+    ToSocketAddrs, UdpSocket,
 };
 use std::time::{Clock, Duration};
 
@@ -21,11 +23,30 @@ const DRAIN_READ: u64 = 200;
 
 const DRAINS: u32 = 16;
 
+/// Whether an address is where this process itself listens: at its own port, on an address that a socket of this
+/// machine can have.
+fn is_own<N: Net>(net: &N, own: Option<u16>, address: &SocketAddr) -> bool
+    ensures { own ≡ None → result ≡ false }
+{
+    match address {
+        SocketAddr::V4(at) => own == Some(at.port()) && UdpSocket::bind(net, (*at.ip(), 0)).is_ok(),
+        SocketAddr::V6(_) => false,
+    }
+}
+
+/// A stream to an address, which is not where this process itself listens: it would wait for itself.
+fn stream_at<N: Net>(net: &N, own: Option<u16>, address: &SocketAddr) -> io::Result<N::Stream> {
+    if is_own(net, own, address) {
+        return Err(io::Error::from(ErrorKind::AddrInUse));
+    }
+    TcpStream::connect_timeout(net, address, Duration::from_secs(CONNECT))
+}
+
 /// A stream to the first of a host's addresses that answers in time.
-fn stream_to<N: Net>(net: &N, host: &str, port: u16) -> io::Result<N::Stream> {
+fn stream_to<N: Net>(net: &N, own: Option<u16>, host: &str, port: u16) -> io::Result<N::Stream> {
     let mut last = io::Error::from(ErrorKind::NotFound);
     for address in (host, port).to_socket_addrs(net)? {
-        match TcpStream::connect_timeout(net, &address, Duration::from_secs(CONNECT)) {
+        match stream_at(net, own, &address) {
             Ok(stream) => return Ok(stream),
             Err(why) => last = why,
         }
@@ -52,22 +73,24 @@ fn end<T: Read + OpenStream + Drop>(mut stream: T) {
     }
 }
 
-/// A door at a port of every address of this machine.
+/// A door at a port of every IPv4 address of this machine.
 #[derive(Drop)]
 pub struct TcpDoor<'a, N: Net> {
     net: &'a N,
+    own: &'a Cell<Option<u16>>,
     listener: Option<N::Listener>,
     port: Option<u16>,
     faults: u64,
 }
 
 impl<'a, N: Net + Clock> TcpDoor<'a, N> {
-    /// A door that does not listen yet.
-    pub fn new(net: &'a N) -> TcpDoor<'a, N>
+    /// A door that does not listen yet, and that notes in `own` at which port it does.
+    pub fn new(net: &'a N, own: &'a Cell<Option<u16>>) -> TcpDoor<'a, N>
         ensures fresh { (result.port ≡ None) × (result.faults ≡ 0) }
     {
         TcpDoor {
             net,
+            own,
             listener: None,
             port: None,
             faults: 0,
@@ -114,6 +137,7 @@ impl<'a, N: Net + Clock> Door for TcpDoor<'a, N> {
             Ok(listener) => {
                 self.listener = Some(listener);
                 self.port = Some(port);
+                self.own.set(Some(port));
                 Ok(())
             }
             Err(_) => {
@@ -146,22 +170,25 @@ impl<'a, N: Net + Clock> Door for TcpDoor<'a, N> {
 /// The bytes of a host's name.
 const HOST: usize = limits::MOST_HOST;
 
-/// Links to hosts and ports. It keeps the last of these, and takes no memory.
+/// Links to hosts and ports, but for those at which this process itself listens. It keeps the last of these, and takes no
+/// memory.
 #[derive(Drop)]
 pub struct TcpDial<'a, N: Net> {
     net: &'a N,
+    own: &'a Cell<Option<u16>>,
     host: ArrayVec<u8, HOST>,
     port: u16,
     faults: u64,
 }
 
 impl<'a, N: Net + Clock> TcpDial<'a, N> {
-    /// A dial that has connected nothing yet.
-    pub fn new(net: &'a N) -> TcpDial<'a, N>
+    /// A dial that has connected nothing yet. In `own` stands at which port this process listens, if it does.
+    pub fn new(net: &'a N, own: &'a Cell<Option<u16>>) -> TcpDial<'a, N>
         ensures fresh { (result.host.items ≡ []) × (result.port ≡ 0) × (result.faults ≡ 0) }
     {
         TcpDial {
             net,
+            own,
             host: ArrayVec::new(),
             port: 0,
             faults: 0,
@@ -176,7 +203,7 @@ impl<'a, N: Net + Clock> TcpDial<'a, N> {
         if name.try_extend_from_slice(host.as_bytes()).is_err() {
             return Err(io::Error::from(ErrorKind::InvalidInput));
         }
-        let stream = stream_to(self.net, host, port)?;
+        let stream = stream_to(self.net, self.own.get(), host, port)?;
         stream.set_nodelay(true)?;
         Ok((name, stream))
     }
@@ -195,8 +222,8 @@ impl<'a, N: Net + Clock> Dial for TcpDial<'a, N> {
 
     ghost faults = { λ d. d.faults };
 
-    /// Connects to the first address of the host that answers within 10 seconds. A host of more than 255 bytes is
-    /// a fault.
+    /// Connects to the first address of the host that answers within 10 seconds and at which this process does not listen
+    /// itself. A host of more than 255 bytes is a fault.
     fn connect(&mut self, host: &str, port: u16) -> Result<TcpLink<N::Stream, &'a N>, Failed> {
         match self.reached(host, port) {
             Ok((name, stream)) => {

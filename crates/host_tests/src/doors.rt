@@ -114,7 +114,8 @@ impl Clock for MemNet {
 
 #[test]
 fn a_stream_that_broke_off_is_passed_over(rt: HostRuntime) -> Result<(), Fail> {
-    let mut door = TcpDoor::new(&MemNet);
+    let own = Cell::new(None);
+    let mut door = TcpDoor::new(&MemNet, &own);
     if door.listen(8080).is_err() {
         return Err(Fail::from("does not listen"));
     }
