@@ -15,10 +15,12 @@ use dap_outside::{
 use dap_server::{Ending, Served, serve_connection};
 use dap_types::{Bytes, List, Memory};
 use std::alloc::Global;
+use std::cell::Cell;
 use std::net::Net;
 use std::process::Abort;
 use std::test::Fail;
 use std::thread::Threads;
+use std::time::Clock;
 
 const GET: &[u8] = b"GET /any.ver HTTP/1.1\r\n\r\n";
 
@@ -173,10 +175,10 @@ fn port_of<D: Door>(door: &mut D) -> Option<u16>
 }
 
 /// A peer that is connected to the door at some free port, and the door's link to it.
-fn joined<N: Net>(
-    dial: &mut TcpDial<'_, N>,
-    door: &mut TcpDoor<'_, N>,
-) -> Result<(TcpLink<N::Stream>, TcpLink<N::Stream>), Fail> {
+fn joined<'a, N: Net + Clock>(
+    dial: &mut TcpDial<'a, N>,
+    door: &mut TcpDoor<'a, N>,
+) -> Result<(TcpLink<N::Stream, &'a N>, TcpLink<N::Stream, &'a N>), Fail> {
     let Some(port) = port_of(door) else {
         return Err(Fail::from("no port"));
     };
@@ -212,13 +214,14 @@ fn taken<I: Source>(alloc: Global, source: &mut I) -> Result<Bytes, Fail> {
 }
 
 /// How a link over the real door is served whose peer sends this, and the reply that the peer gets.
-fn served_over_the_door<R: Threads + Net + AllocGlobal + Sync>(
+fn served_over_the_door<R: Threads + Net + Clock + AllocGlobal + Sync>(
     rt: &R,
     request: &[u8],
 ) -> Result<(Served, Bytes), Fail> {
     let alloc = rt.alloc();
-    let mut door = TcpDoor::new(rt);
-    let mut dial = TcpDial::new(rt);
+    let (here, there) = (Cell::new(None), Cell::new(None));
+    let mut door = TcpDoor::new(rt, &here);
+    let mut dial = TcpDial::new(rt, &there);
     let (mut peer, mut link) = joined(&mut dial, &mut door)?;
     send(&mut peer, request)?;
     let served = serve_link(rt, alloc, &mut link);

@@ -7,6 +7,7 @@ use crate::words::words_of;
 use dap_commands::{Status, run};
 use dap_host::{FolderShelf, StdSink, StdSource, TcpDial, TcpDoor};
 use dap_types::Memory;
+use std::cell::Cell;
 use std::env;
 use std::io::{Stderr, Stdin, Stdout};
 use std::process::ExitCode;
@@ -20,8 +21,9 @@ fn status_of<T: Threads + Sync>(threads: &T, rt: &HostRuntime) -> Result<Status,
     let mut input: StdSource<Stdin> = StdSource::new(rt.stdin());
     let mut out: StdSink<Stdout> = StdSink::new(rt.stdout());
     let mut err: StdSink<Stderr> = StdSink::new(rt.stderr());
-    let mut door = TcpDoor::new(rt);
-    let mut dial = TcpDial::new(rt);
+    let own = Cell::new(None);
+    let mut door = TcpDoor::new(rt, &own);
+    let mut dial = TcpDial::new(rt, &own);
     Ok(run(
         threads,
         rt.alloc(),

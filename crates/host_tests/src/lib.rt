@@ -2,7 +2,11 @@
 #![tactic(auto)]
 
 #[cfg(test)]
+mod doors;
+#[cfg(test)]
 mod folders;
+#[cfg(test)]
+mod limits;
 #[cfg(test)]
 mod links;
 #[cfg(test)]
@@ -11,3 +15,5 @@ mod narrow;
 mod ports;
 #[cfg(test)]
 mod streams;
+#[cfg(test)]
+mod waits;

@@ -3,15 +3,17 @@
 use crate::ports::port_of;
 use dap_host::{TcpDial, TcpDoor, TcpLink};
 use dap_outside::{Dial, Door, Source, put_all};
+use std::cell::Cell;
 use std::net::{Ipv4Addr, Net, OpenListener, TcpListener};
 use std::test::Fail;
+use std::time::Clock;
 
 /// A peer at this address that is connected to the door, and the door's link to it.
-fn joined<N: Net>(
-    dial: &mut TcpDial<'_, N>,
-    door: &mut TcpDoor<'_, N>,
+fn joined<'a, N: Net + Clock>(
+    dial: &mut TcpDial<'a, N>,
+    door: &mut TcpDoor<'a, N>,
     host: &str,
-) -> Result<(TcpLink<N::Stream>, TcpLink<N::Stream>), Fail> {
+) -> Result<(TcpLink<N::Stream, &'a N>, TcpLink<N::Stream, &'a N>), Fail> {
     let Some(port) = port_of(door) else {
         return Err(Fail::from("no port"));
     };
@@ -28,8 +30,9 @@ fn joined<N: Net>(
 #[test]
 fn a_link_that_is_done_ends_behind_what_was_put(rt: HostRuntime) -> Result<(), Fail> {
     for host in ["127.0.0.1", "127.0.0.2", "localhost"] {
-        let mut door = TcpDoor::new(&rt);
-        let mut dial = TcpDial::new(&rt);
+        let (here, there) = (Cell::new(None), Cell::new(None));
+        let mut door = TcpDoor::new(&rt, &here);
+        let mut dial = TcpDial::new(&rt, &there);
         let (mut peer, mut link) = joined(&mut dial, &mut door, host)?;
         if put_all(&mut peer, b"asked").is_err() || put_all(&mut link, b"reply").is_err() {
             return Err(Fail::from("not sent"));
@@ -53,7 +56,8 @@ fn a_dial_goes_to_the_host_that_it_is_given(rt: HostRuntime) -> Result<(), Fail>
     };
     let listener = TcpListener::bind(&rt, (Ipv4Addr::new(127, 0, 0, 2), 0))?;
     let port = listener.local_addr()?.port();
-    let mut dial = TcpDial::new(&rt);
+    let own = Cell::new(None);
+    let mut dial = TcpDial::new(&rt, &own);
     for (host, is_there) in [
         ("127.0.0.1", false),
         ("127.0.0.2", true),
@@ -76,11 +80,32 @@ fn a_dial_goes_to_the_host_that_it_is_given(rt: HostRuntime) -> Result<(), Fail>
 
 #[test]
 fn a_port_that_is_taken_is_a_fault(rt: HostRuntime) -> Result<(), Fail> {
-    let mut door = TcpDoor::new(&rt);
+    let own = Cell::new(None);
+    let mut door = TcpDoor::new(&rt, &own);
     let Some(port) = port_of(&mut door) else {
         return Err(Fail::from("no port"));
     };
-    let mut second = TcpDoor::new(&rt);
+    let mut second = TcpDoor::new(&rt, &own);
     assert!(rt; second.listen(port).is_err());
+    Ok(())
+}
+
+/// A dial goes to no address of this machine at the port at which its own process listens, and to another port there.
+#[test]
+fn a_dial_does_not_go_to_its_own_door(rt: HostRuntime) -> Result<(), Fail> {
+    let (own, other) = (Cell::new(None), Cell::new(None));
+    let mut door = TcpDoor::new(&rt, &own);
+    let mut next = TcpDoor::new(&rt, &other);
+    let (Some(port), Some(next_port)) = (port_of(&mut door), port_of(&mut next)) else {
+        return Err(Fail::from("no port"));
+    };
+    let mut dial = TcpDial::new(&rt, &own);
+    for host in ["127.0.0.1", "127.0.0.2", "0.0.0.0", "localhost"] {
+        assert!(rt; dial.connect(host, port).is_err(), "{host}");
+        match dial.connect(host, next_port) {
+            Ok(peer) => dial.done(peer),
+            Err(_) => return Err(Fail::from("not connected")),
+        }
+    }
     Ok(())
 }

@@ -1,9 +1,11 @@
 //! Readers and writers as a source, a sink and a link.
 
-use dap_host::{StdSink, StdSource, TcpLink};
+use dap_host::{ReadLimits, StdSink, StdSource, TcpLink, WriteLimits};
 use dap_outside::{Sink, Source};
 use std::io::{self, ErrorKind, Read, Write};
+use std::net::OpenStream;
 use std::test::Fail;
+use std::time::Duration;
 
 const TEXT: &[u8] = b"station,depth:Int32\nA1,5\nB22,-7\n";
 
@@ -63,6 +65,16 @@ impl Write for Stream<'_> {
     }
 
     fn flush(&mut self) -> io::Result<()> {
+        Ok(())
+    }
+}
+
+impl OpenStream for Stream<'_> {
+    fn set_read_timeout(&self, _to: Option<Duration>) -> io::Result<()> {
+        Ok(())
+    }
+
+    fn set_write_timeout(&self, _to: Option<Duration>) -> io::Result<()> {
         Ok(())
     }
 }
@@ -134,11 +146,12 @@ fn a_sink_tells_how_many_bytes_the_writer_took(rt: HostRuntime) -> Result<(), Fa
 #[test]
 fn a_reset_is_a_fault_and_no_end(rt: HostRuntime) -> Result<(), Fail> {
     for (read_signal, reset) in [(false, false), (true, false), (false, true), (true, true)] {
-        let mut link = TcpLink::new(Stream {
+        let stream = Stream {
             read_signal,
             reset,
             ..Stream::of(TEXT, 0)
-        });
+        };
+        let mut link = TcpLink::new(stream, &rt, ReadLimits::served(), WriteLimits::put());
         let (text, count, ended) = read_by_calls(&mut link);
         assert!(rt; text.starts_with(TEXT));
         assert_eq!(rt; (count, ended), (TEXT.len(), !reset));
@@ -151,10 +164,11 @@ fn a_reset_is_a_fault_and_no_end(rt: HostRuntime) -> Result<(), Fail> {
 #[test]
 fn a_put_tells_how_many_bytes_the_stream_took(rt: HostRuntime) -> Result<(), Fail> {
     for write_signal in [false, true] {
-        let mut link = TcpLink::new(Stream {
+        let stream = Stream {
             write_signal,
             ..Stream::of(b"", 2)
-        });
+        };
+        let mut link = TcpLink::new(stream, &rt, ReadLimits::served(), WriteLimits::put());
         assert!(rt; matches!(link.put(b"abc"), Ok(1)));
         assert!(rt; matches!(link.put(b"bc"), Ok(1)));
         assert!(rt; link.put(b"c").is_err());

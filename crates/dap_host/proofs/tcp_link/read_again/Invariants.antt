@@ -1,6 +1,6 @@
 use Rattle.std.proofs.Common.{◌≡◌, length}
 use Rattle.std.specs.Io.KnownBytes.{Keeps}
-use Rattle.dap_host.proofs.tcp.read_again.Given as goal
+use Rattle.dap_host.proofs.tcp_link.read_again.Given as goal
 
 abbrev pub invariant-loop : goal.invariant-loop
 invariant-loop g l =
