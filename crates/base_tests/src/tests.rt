@@ -1,5 +1,6 @@
 mod expecting;
 mod files;
+mod floats;
 mod lines;
 mod lists;
 mod outside;
