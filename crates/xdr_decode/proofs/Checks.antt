@@ -8,8 +8,6 @@ use Rattle.dap_model.specs.Received.{IsOpen}
 use Rattle.dap_model.specs.Xdr.{Spells}
 use Rattle.dds_text.specs.Reading.{IsDone}
 use Rattle.xdr_decode.proofs.Decoded.{small_refusal}
-use Rattle.std.specs.Prelude.{◌⊎◌}
-use Rattle.dap_outside.specs.Causes.{Rose}
 use Rattle.xdr_decode.specs.After.{EndsBehind, HasFailed, IsFirstBad, Stands, DecoderStandsAfter}
 use Rattle.xdr_decode.specs.declared.decoder.Decoder.{Decoder}
 use Rattle.xdr_decode.proofs.OneVerdict.{one_verdict}
@@ -79,11 +77,7 @@ only_checked body (Ok c) (ts, checked) refused v is = (ts, one_verdict body v (g
 only_checked body (Err (Refused b)) checked refused v is = one_verdict body v (wrong b.kind b.place) is refused
 only_checked body (Err Memory) checked refused v is = tt
 
--- ---- the sink that keeps nothing
-pub not_failed : (r : Decoder) → DecoderStandsAfter r [] [] → HasFailed r → ⊥
+-- a decoder that has read nothing has not failed
+pub no_fault : (r : Decoder) → DecoderStandsAfter r [] [] → HasFailed r → ⊥
 unfolding DecoderStandsAfter HasFailed
-not_failed r stands failed = subst (λ s. Stands r s [] []) failed stands
-
-pub no_fault : (r : Decoder) → DecoderStandsAfter r [] [] → HasFailed r ⊎ Rose 0 0 → ⊥
-no_fault r stands (inl failed) = not_failed r stands failed
-no_fault r stands (inr rose) = let up : 1 ≤ 0 = omega (arith, rose) in absurd (omega (arith, up))
+no_fault r stands failed = subst (λ s. Stands r s [] []) failed stands

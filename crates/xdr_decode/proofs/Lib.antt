@@ -15,6 +15,7 @@ pub mod Paths
 pub mod Breaking
 pub mod Reading
 pub mod Pushing
+pub mod Looking
 pub mod Leading
 pub mod Stopping
 pub mod InTurn

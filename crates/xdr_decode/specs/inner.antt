@@ -6,5 +6,6 @@ pub mod Lines
 pub mod Moving
 pub mod Places
 pub mod Pushing
+pub mod Runs
 pub mod Taken
 pub mod Turning

@@ -12,7 +12,6 @@ ghost use Rattle.xdr_decode.specs.inner.Deciding.{IsRefusalIn, IsValuesRefusal};
 use crate::data_line::{LineStop, data_line};
 use crate::decode::{dataset, refused};
 use crate::{AllRefusal, Bad, BadField, Decoder, Pushed};
-use dap_outside::{Failed, Sink};
 use dap_types::Dataset;
 use std::alloc::Global;
 
@@ -21,26 +20,6 @@ use std::alloc::Global;
 pub struct Checked {
     pub dataset: Dataset,
     pub values_at: usize,
-}
-
-/// A sink that keeps nothing.
-#[derive(Drop)]
-struct Nowhere;
-
-impl Sink for Nowhere {
-    ghost use Rattle.std.specs.Prelude.{None};
-
-    ghost Rest = { Unit {0} };
-
-    ghost beside_writing = { λ s. tt };
-
-    ghost written = { λ s. None };
-
-    ghost put_faults = { λ s. 0 };
-
-    fn put(&mut self, bytes: &[u8]) -> Result<usize, Failed> {
-        Ok(bytes.len())
-    }
 }
 
 /// Judges the values of a dataset, with which a body of so many bytes ends.
@@ -54,7 +33,7 @@ fn check_values(dataset: Dataset, whole: usize, values: &[u8]) -> Result<Dataset
 {
     let start = (whole - values.len()) as u64;
     let mut decoder = Decoder::new(dataset, start);
-    match decoder.push(values, &mut Nowhere) {
+    match decoder.judge(values) {
         Pushed::Done { used } => {
             if used < values.len() {
                 return Err(refused(Bad::Trailing, start as usize + used));

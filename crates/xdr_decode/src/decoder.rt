@@ -48,7 +48,7 @@ pub struct Decoder {
     pub(crate) held: ArrayVec<u8, 8>,
     /// The place of the next field, or of the next byte of a string.
     pub(crate) taken: u64,
-    state: State,
+    pub(crate) state: State,
 }
 
 impl Drop for Decoder {
@@ -68,7 +68,7 @@ impl Drop for Decoder {
 }
 
 /// What becomes of a decoder that answered so.
-fn state_behind(pushed: Pushed) -> State
+pub fn state_behind(pushed: Pushed) -> State
     ensures { result ≡ behind pushed }
 {
     match pushed {
@@ -128,7 +128,7 @@ impl Decoder {
     }
 
     /// The sink failed, and so many bytes were pushed.
-    fn fail(&mut self, place: u64)
+    pub(crate) fn fail(&mut self, place: u64)
         ensures failed { self.new.state ≡ State.Failed }
         ensures place { place_of self.new ≡ place }
         ensures dataset { dataset_of self.new ≡ dataset_of self.old }
@@ -198,7 +198,7 @@ impl Decoder {
     }
 
     /// The place behind a piece.
-    fn behind(&self, piece: &[u8]) -> u64
+    pub(crate) fn behind(&self, piece: &[u8]) -> u64
         ensures { result ≡ min (place_of self.now + length piece.now) (2 ^ 64 - 1) }
     {
         self.taken

@@ -11,6 +11,7 @@ mod decode;
 mod decoder;
 mod field;
 mod filled;
+mod judge;
 mod line;
 mod next_field;
 mod path;

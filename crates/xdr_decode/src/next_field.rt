@@ -36,7 +36,7 @@ pub enum Turn {
 }
 
 /// Takes up the rest of a field of so many bytes, where the piece has it, and answers how many these are.
-fn collect(held: &mut ArrayVec<u8, 8>, width: usize, rest: &[u8]) -> Option<usize>
+pub fn collect(held: &mut ArrayVec<u8, 8>, width: usize, rest: &[u8]) -> Option<usize>
     ensures most { IfSome result (λ count. count ≤ length rest.now) }
     ensures width { IfSome result (λ count. length held.old.items + count ≡ width) }
     ensures whole { IfSome result (λ count. held.new.items ≡ held.old.items ++ take count rest.now) }
@@ -97,7 +97,7 @@ fn put_token<O: Sink>(
 
 impl Decoder {
     /// The field that is held was read.
-    fn step(&mut self, ask: Ask, token: Token)
+    pub(crate) fn step(&mut self, ask: Ask, token: Token)
         ensures stays { (bytes put : List ℕ) (w : Want) (ws : List Want) (f : Field) → Stays self.old bytes put → wants_left (dataset_of self.old).members self.old.place ≡ w ∷ ws →
             Asks ask w → Goes w f → SpellsField f self.old.held.items → Is token f → length self.old.held.items ≡ width_of ask → place_of self.old < 2 ^ 63 → Stays self.new bytes (put ++ says w f) }
         ensures falls { (width_of ask ≡ 0 → MayBeEmpty (dataset_of self.old).members self.old.place × (token ≡ Token.Zeros)) → length self.old.held.items ≡ width_of ask → weight self.new < weight self.old }
@@ -151,7 +151,7 @@ impl Decoder {
     }
 
     /// So many bytes of a string were read.
-    fn skip(&mut self, count: u32)
+    pub(crate) fn skip(&mut self, count: u32)
         ensures stays { (bytes put piece : List ℕ) (left size : ℕ) → Stays self.old bytes put → self.old.place.text ≡ Text.Bytes left size → length piece ≡ count → count ≤ left →
             place_of self.old + count < 2 ^ 63 → Stays self.new (bytes ++ piece) (put ++ flat_map shown_byte piece) }
         ensures rank { (left size : ℕ) → self.old.place.text ≡ Text.Bytes left size → count ≡ left → weight self.new < weight self.old }
