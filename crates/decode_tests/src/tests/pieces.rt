@@ -27,19 +27,6 @@ fn told(
     Ok(fault_of(decoder.finish()))
 }
 
-/// The values of a case in pieces of a size are shown so, and wrong so.
-fn expect_shown<R: Abort>(rt: &R, alloc: Global, case: &Case, size: usize) -> Result<(), Fail> {
-    let mut decoder = decoder(alloc, case.text, 102)?;
-    let mut out = sink(alloc, 4096)?;
-    if case.values.len() > 65536 {
-        return Err(Fail::new("too many values"));
-    }
-    feed(&mut decoder, case.values, size, &mut out);
-    expect(rt, decoder.finish().err(), from(102, case.wrong));
-    expect(rt, out.bytes(), case.shown);
-    Ok(())
-}
-
 /// The body of a case is wrong so.
 fn expect_judged<R: Abort>(rt: &R, alloc: Global, case: &Case) -> Result<(), Fail> {
     let whole = body(alloc, case.text, case.values)?;
@@ -48,11 +35,8 @@ fn expect_judged<R: Abort>(rt: &R, alloc: Global, case: &Case) -> Result<(), Fai
 }
 
 #[test]
-fn cases_are_shown(rt: HostRuntime) -> Result<(), Fail> {
+fn cases_are_judged(rt: HostRuntime) -> Result<(), Fail> {
     for case in &CASES {
-        for size in [1, 7, 65536] {
-            expect_shown(&rt, rt.alloc(), case, size)?;
-        }
         expect_judged(&rt, rt.alloc(), case)?;
     }
     Ok(())
