@@ -24,7 +24,7 @@ use Rattle.xdr_decode.proofs.Stopping.{spelt_none, spelt_then, stops_before, sto
 use Rattle.xdr_decode.specs.declared.values.Stop.{Stop}
 use Rattle.xdr_decode.specs.inner.Taken.{Spelt, Stops, element_fields, element_want, elements_fields, sizes_of}
 
-left_split : (want : List ℕ → Want) (path ns : List ℕ) (at a b m : ℕ) → m ≡ a + b → elements_left want path ns at m ≡ elements_left want path ns at a ++ elements_left want path ns (at + a) b
+pub left_split : (want : List ℕ → Want) (path ns : List ℕ) (at a b m : ℕ) → m ≡ a + b → elements_left want path ns at m ≡ elements_left want path ns at a ++ elements_left want path ns (at + a) b
 unfolding elements_left
 left_split want path ns at zero b m is =
     let e : m ≡ b = omega (arith, is) in

@@ -20,6 +20,8 @@ pub mod Leading
 pub mod Stopping
 pub mod InTurn
 pub mod Valued
+pub mod Running
+pub mod Passed
 pub mod Turns
 pub mod Variables
 pub mod OneVerdict

@@ -11,7 +11,7 @@ use Rattle.xdr_decode.specs.declared.values.Stop.TheVariants.{Wrong, Memory}
 use Rattle.xdr_decode.specs.inner.Asked.{Is, IsFaulty}
 use Rattle.xdr_decode.specs.inner.Taken.{IsTaken, Spelt, Stops}
 
-spells_join : (fs gs : List Field) (a b : List ℕ) → SpellsFields fs a → SpellsFields gs b → SpellsFields (fs ++ gs) (a ++ b)
+pub spells_join : (fs gs : List Field) (a b : List ℕ) → SpellsFields fs a → SpellsFields gs b → SpellsFields (fs ++ gs) (a ++ b)
 spells_join [] gs a b one two = subst (λ l. SpellsFields gs (l ++ b)) (sym one) two
 spells_join (f ∷ fs) gs a b (x, y, parts, first, rest) two = (x, y ++ b, ap (λ l. l ++ b) parts ∙ append_assoc x y b, first, spells_join fs gs y b rest two)
 

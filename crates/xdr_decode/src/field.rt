@@ -56,7 +56,7 @@ impl Ask {
 }
 
 /// The whole number of a type that stands in a word (RFC 4506, integer and unsigned integer).
-fn whole(base: BaseType, word: u32) -> Option<i64>
+pub fn whole(base: BaseType, word: u32) -> Option<i64>
     ensures { result ≡ whole_in base word }
 {
     match base {
@@ -90,7 +90,7 @@ fn whole(base: BaseType, word: u32) -> Option<i64>
 }
 
 /// The word that four bytes are (RFC 4506, unsigned integer).
-fn word_of(own: &[u8]) -> u32
+pub fn word_of(own: &[u8]) -> u32
     requires { length own.now ≡ 4 }
     ensures bytes { own.now ≡ word result }
 {

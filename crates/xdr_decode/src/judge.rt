@@ -1,6 +1,8 @@
-//! A decoder that reads and puts nothing: it says what `push` says.
+//! A decoder that reads and puts nothing: it says what `push` says, and passes over the numbers of an
+//! array at once.
 
-ghost use Rattle.std.specs.Prelude.{◌≡◌, ℕ, None, ◌+◌, ◌-◌, ◌^◌, ◌<◌, ◌≤◌, List, ◌∷◌, ◌++◌, length, All, Ok};
+ghost use Rattle.std.specs.Prelude.{◌≡◌, ℕ, None, ◌+◌, ◌-◌, ◌*◌, ◌^◌, ◌<◌, ◌≤◌, List, [], ◌∷◌, ◌++◌, length, take, All, Ok, IfSome, IfNone};
+ghost use Rattle.dap_model.specs.Laws.{IsNumber};
 ghost use Rattle.dap_model.specs.Received.{IsBadField, IsOpen, Fault};
 ghost use Rattle.xdr_fields.specs.Wants.{Want};
 ghost use Rattle.xdr_decode.specs.After.{DecoderStandsAfter, EndsBehind, HasFailed, HasFailedBehind, IsFirstBad, Reads, WhereDone, WhereFault, WhereMore, WhereRefused, UnlessFault, dataset_of, place_of, start_of, used_of};
@@ -9,18 +11,21 @@ ghost use Rattle.xdr_decode.specs.Verdict.{kind_of};
 ghost use Rattle.xdr_decode.specs.inner.Asked.{Asks, width_of};
 ghost use Rattle.xdr_decode.specs.inner.Places.{wants_left};
 ghost use Rattle.xdr_decode.specs.inner.Pushing.{IsAnswer, IsPushed};
-ghost use Rattle.xdr_decode.specs.inner.Runs.{Looks, Sees};
-ghost use Rattle.xdr_decode.specs.inner.Turning.{Falls, MayBeEmpty, Stays};
+ghost use Rattle.xdr_decode.specs.inner.Runs.{AreElements, HasElements, Looks, Sees};
+ghost use Rattle.xdr_decode.specs.inner.Turning.{Falls, MayBeEmpty, Stays, weight};
 
 use crate::BadField;
 use crate::decoder::{Decoder, Pushed, State, state_behind};
 use crate::field::{Ask, judge};
 use crate::next_field::{Turn, collect};
+use crate::numbers::{element_width, good_numbers};
 use crate::place::{Next, Text};
+use dap_types::BaseType;
 
 impl Decoder {
     /// Reads one more piece as `push` does, and puts nothing of it: it says what `push` says where the
-    /// sink does not fail, and takes no memory. A decoder may push and judge in turns.
+    /// sink does not fail, and takes no memory. All numbers of an array that stand whole in the piece are
+    /// passed over at once. A decoder may push and judge in turns.
     pub fn judge(&mut self, piece: &[u8]) -> Pushed
         requires { place_of self.old + length piece.now ≤ 2 ^ 63 - 1 }
         // Of whatever bytes it stands after, each answer says what they are with the piece.
@@ -97,8 +102,66 @@ impl Decoder {
         }
     }
 
-    /// Looks at what comes next in the rest of a piece: a field, or bytes of a string.
+    /// Passes over numbers of an array that stand whole at the front of the rest of a piece, and answers how
+    /// many bytes they have. None where there is no such number, or where a part of one is held.
+    fn pass(&mut self, rest: &[u8]) -> Option<usize>
+        ensures within { IfSome result (λ count. count ≤ length rest.now) }
+        ensures passes { (bytes put : List ℕ) → Stays self.old bytes put → place_of self.old + length rest.now < 2 ^ 63 → IfSome result (λ count. (text : List ℕ) × Stays self.new (bytes ++ take count rest.now) (put ++ text)) }
+        ensures falls { IfSome result (λ count. weight self.new < weight self.old + 6 * count) }
+        ensures still { IfNone result (self.new ≡ self.old) }
+        ensures place { IfSome result (λ count. place_of self.new ≤ place_of self.old + count) }
+        ensures dataset { dataset_of self.new ≡ dataset_of self.old }
+        ensures start { start_of self.new ≡ start_of self.old }
+    {
+        if !self.held.is_empty() {
+            return None;
+        }
+        match self.place.numbers(self.dataset.members.items()) {
+            Some(run) => self.pass_run(run.base, run.count, rest),
+            None => None,
+        }
+    }
+
+    /// Passes over numbers of a type, of so many that come next.
+    fn pass_run(&mut self, base: BaseType, most: u32, rest: &[u8]) -> Option<usize>
+        requires number { IsNumber base }
+        requires elements { HasElements self.old.place most }
+        requires none_held { self.old.held.items ≡ [] }
+        ensures within { IfSome result (λ count. count ≤ length rest.now) }
+        ensures passes { (bytes put : List ℕ) → Stays self.old bytes put → place_of self.old + length rest.now < 2 ^ 63 → AreElements base most (wants_left (dataset_of self.old).members self.old.place) →
+            IfSome result (λ count. (text : List ℕ) × Stays self.new (bytes ++ take count rest.now) (put ++ text)) }
+        ensures falls { IfSome result (λ count. weight self.new < weight self.old + 6 * count) }
+        ensures still { IfNone result (self.new ≡ self.old) }
+        ensures place { IfSome result (λ count. place_of self.new ≤ place_of self.old + count) }
+        ensures dataset { dataset_of self.new ≡ dataset_of self.old }
+        ensures start { start_of self.new ≡ start_of self.old }
+    {
+        let count = good_numbers(base, most as usize, rest);
+        if count == 0 {
+            return None;
+        }
+        self.place.pass(self.dataset.members.items(), count as u32);
+        let bytes = count * element_width(base);
+        self.taken = self.taken.saturating_add(bytes as u64);
+        Some(bytes)
+    }
+
+    /// Looks at what comes next in the rest of a piece: numbers of an array, another field, or bytes of a
+    /// string.
     fn look_on(&mut self, rest: &[u8]) -> Turn
+        ensures looks { (bytes put : List ℕ) → Stays self.old bytes put → place_of self.old + length rest.now < 2 ^ 63 → Looks self.new rest.now bytes put result }
+        ensures falls { Falls self.old self.new rest.now (Ok result) }
+        ensures dataset { dataset_of self.new ≡ dataset_of self.old }
+        ensures start { start_of self.new ≡ start_of self.old }
+    {
+        match self.pass(rest) {
+            Some(count) => Turn::Went(count),
+            None => self.look_next(rest),
+        }
+    }
+
+    /// The same of a field or bytes of a string.
+    fn look_next(&mut self, rest: &[u8]) -> Turn
         ensures looks { (bytes put : List ℕ) → Stays self.old bytes put → place_of self.old + length rest.now < 2 ^ 63 → Looks self.new rest.now bytes put result }
         ensures falls { Falls self.old self.new rest.now (Ok result) }
         ensures dataset { dataset_of self.new ≡ dataset_of self.old }

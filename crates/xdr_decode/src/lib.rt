@@ -14,6 +14,7 @@ mod filled;
 mod judge;
 mod line;
 mod next_field;
+mod numbers;
 mod path;
 mod place;
 mod trees;

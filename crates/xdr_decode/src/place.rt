@@ -1,4 +1,5 @@
-ghost use Rattle.std.specs.Prelude.{◌≡◌, ◌+◌, ◌*◌, ◌<◌, ◌≤◌, ◌^◌, ℕ, List, [], ◌∷◌, ◌++◌, length, drop, map, min, Some, MatchBool};
+ghost use Rattle.std.specs.Prelude.{◌≡◌, ◌+◌, ◌-◌, ◌*◌, ◌<◌, ◌≤◌, ◌^◌, ℕ, List, [], ◌∷◌, ◌++◌, length, drop, map, min, Some, IfSome, MatchBool};
+ghost use Rattle.dap_model.specs.Laws.{IsNumber};
 ghost use Rattle.dap_model.specs.Xdr.{Field, fill as zeros_behind};
 ghost use Rattle.dap_types.specs.Model.{Member, array, sequence, product, sizes};
 ghost use Rattle.dap_types.specs.View.{members_view};
@@ -6,6 +7,7 @@ ghost use Rattle.xdr_fields.specs.Wants.{Goes, IsTextType, Want, a_count, become
 ghost use Rattle.xdr_decode.specs.inner.Asked.{Is, element_ask, width_of};
 ghost use Rattle.xdr_decode.specs.inner.Leaves.{IsLeaf};
 ghost use Rattle.xdr_decode.specs.inner.Moving.{IsSettled, Moves, mark_bytes, string_behind};
+ghost use Rattle.xdr_decode.specs.inner.Runs.{AreElements, HasElements};
 ghost use Rattle.xdr_decode.specs.inner.Turning.{IsFresh, MayBeEmpty, WhereBytes, WhereField, rank, stage_rank};
 ghost use Rattle.xdr_decode.specs.inner.Places.{AsksFirst, HaveMarks, HaveRoom, IsEarly, IsNext, IsPlaced, IsStage, IsStageOr, Spot, elements_wants, spot_at, stage_wants, text_behind, wants_left};
 
@@ -71,6 +73,13 @@ pub enum Next {
     Bytes(u32),
 }
 
+/// Numbers that come next, one after the other: of which type, and how many.
+#[derive(Clone, Copy)]
+pub struct Run {
+    pub base: BaseType,
+    pub count: u32,
+}
+
 /// The number of elements of an array of these sizes, or 2^32 where there are more.
 pub fn elements(dims: &[Dim]) -> u64
     ensures { result ≡ min (product (map (λ dim. dim.size) dims.now)) (2 ^ 32) }
@@ -104,6 +113,42 @@ fn is_text(base: BaseType) -> bool
     ensures { MatchBool result (IsTextType base) (¬ IsTextType base) }
 {
     base == BaseType::Text || base == BaseType::Url
+}
+
+/// So many elements of a variable, where it is an array of numbers.
+fn run_of(leaf: Leaf<'_>, count: u32) -> Option<Run>
+    ensures number { IfSome result (λ run. IsNumber run.base) }
+    ensures elements { (m : Member) → IsLeaf leaf.entry m → IfSome result (λ run. (a : ArrayDecl) × (m ≡ array a) × (a.base ≡ run.base)) }
+    ensures count { IfSome result (λ run. run.count ≡ count) }
+{
+    match leaf {
+        Leaf::Array(array) => {
+            if is_text(array.base) {
+                None
+            } else {
+                Some(Run {
+                    base: array.base,
+                    count,
+                })
+            }
+        }
+        Leaf::Scalar(_) => None,
+        Leaf::Sequence(_, _) => None,
+    }
+}
+
+/// How far an array is read before one of its elements, of so many.
+fn elements_from(leaf: Leaf<'_>, at: u32, count: u32) -> Stage
+    ensures wants { (above : List ℕ) (a : ArrayDecl) → IsLeaf leaf.entry (array a) → at ≤ count → stage_wants above (array a) result ≡ elements_wants a.base (above ++ a.name) (sizes a) at count }
+    ensures stage { (a : ArrayDecl) → IsLeaf leaf.entry (array a) → at ≤ count → count ≡ product (sizes a) → IsStageOr (array a) result }
+    ensures rank { stage_rank result ≤ 1 }
+    ensures marks { (n : ℕ) → HaveMarks result n }
+{
+    match leaf {
+        Leaf::Array(array) => behind_elements(array, at, count),
+        Leaf::Scalar(_) => Stage::Elements(at, count),
+        Leaf::Sequence(_, _) => Stage::Elements(at, count),
+    }
 }
 
 impl Place {
@@ -171,6 +216,66 @@ impl Place {
                 Some(leaf) => Next::Field(self.next_of(leaf)),
                 None => Next::Nothing,
             },
+        }
+    }
+
+    /// The numbers that come next, where they are elements of an array.
+    pub fn numbers(&self, decls: &[Decl]) -> Option<Run>
+        ensures number { IfSome result (λ run. IsNumber run.base) }
+        ensures numbers { IsPlaced (members_view decls.now) self.now → IfSome result (λ run. AreElements run.base run.count (wants_left (members_view decls.now) self.now)) }
+        ensures elements { IfSome result (λ run. HasElements self.now run.count) }
+    {
+        match self.stage {
+            Stage::Elements(at, count) => match self.text {
+                Text::Nothing => self.numbers_of(decls, count.saturating_sub(at)),
+                _ => None,
+            },
+            _ => None,
+        }
+    }
+
+    /// The same of so many elements.
+    fn numbers_of(&self, decls: &[Decl], count: u32) -> Option<Run>
+        ensures numbers { (at all : ℕ) → self.now.stage ≡ Stage.Elements at all → self.now.text ≡ Text.Nothing → count ≡ all - at → IsPlaced (members_view decls.now) self.now →
+            IfSome result (λ run. AreElements run.base run.count (wants_left (members_view decls.now) self.now)) }
+        ensures number { IfSome result (λ run. IsNumber run.base) }
+        ensures count { IfSome result (λ run. run.count ≡ count) }
+    {
+        match leaf_at(decls, self.path()) {
+            Some(leaf) => run_of(leaf, count),
+            None => None,
+        }
+    }
+
+    /// So many of the numbers that come next were read.
+    pub fn pass(&mut self, decls: &[Decl], more: u32)
+        ensures wants { HaveRoom 0 (members_view decls.now) → IsPlaced (members_view decls.now) self.old → HasElements self.old more →
+            (wants_left (members_view decls.now) self.new ≡ drop more (wants_left (members_view decls.now) self.old)) × IsPlaced (members_view decls.now) self.new }
+        ensures rank { HasElements self.old more → stage_rank self.new.stage ≤ 1 }
+        ensures marks { (n : ℕ) → HasElements self.old more → HaveMarks self.new.stage n }
+        ensures text { self.new.text ≡ self.old.text }
+    {
+        match self.stage {
+            Stage::Elements(from, count) => self.pass_from(decls, from, count, more),
+            _ => {}
+        }
+    }
+
+    /// The same of the elements from one on, of so many.
+    fn pass_from(&mut self, decls: &[Decl], from: u32, count: u32, more: u32)
+        ensures wants { HaveRoom 0 (members_view decls.now) → IsPlaced (members_view decls.now) self.old → self.old.stage ≡ Stage.Elements from count → self.old.text ≡ Text.Nothing → more ≤ count - from →
+            (wants_left (members_view decls.now) self.new ≡ drop more (wants_left (members_view decls.now) self.old)) × IsPlaced (members_view decls.now) self.new }
+        ensures rank { self.old.stage ≡ Stage.Elements from count → stage_rank self.new.stage ≤ 1 }
+        ensures marks { (n : ℕ) → self.old.stage ≡ Stage.Elements from count → HaveMarks self.new.stage n }
+        ensures text { self.new.text ≡ self.old.text }
+    {
+        let at = from.saturating_add(more);
+        match leaf_at(decls, self.path()) {
+            Some(leaf) => {
+                let stage = elements_from(leaf, at, count);
+                self.settle(decls, stage);
+            }
+            None => {}
         }
     }
 

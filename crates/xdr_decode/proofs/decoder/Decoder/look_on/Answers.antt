@@ -1,19 +1,14 @@
-use Rattle.xdr_decode.proofs.Turning.{asked_want}
+use Rattle.std.proofs.Common.{Ok, subst}
+use Rattle.xdr_decode.proofs.Looking.{quiet}
 use Rattle.xdr_decode.proofs.decoder.Decoder.look_on.Goals as goal
-use Rattle.xdr_decode.specs.After.{dataset_of}
-use Rattle.xdr_decode.specs.inner.Places.{wants_left}
+use Rattle.xdr_decode.specs.inner.Turning.{Falls}
 
-pub returns-in-Bytes-clause-looks : goal.returns-in-Bytes-clause-looks
-returns-in-Bytes-clause-looks c = λ bytes put s small.
-    let (size, is) = c.in-Bytes.ensures.bytes in c.look_string.ensures.looks bytes put size s is small
+pub returns-in-Some-clause-looks : goal.returns-in-Some-clause-looks
+returns-in-Some-clause-looks c = λ bytes put s small.
+    let (text, stays) = c.in-Some.ensures.passes bytes put s small in record { gained = text; is_left = (c.in-Some.ensures.within, stays); puts = quiet text }
 
-pub returns-in-Field-clause-looks : goal.returns-in-Field-clause-looks
-returns-in-Field-clause-looks c = λ bytes put s small.
-    let next = rw c.items.ensures at c.in-Field.ensures.next in
-    let r = c.args.self.now in
-    let (w, ws, first, asks) = asked_want c.in-Field.ask (wants_left (dataset_of r).members r.place) (next s.is_placed) in
-    c.look_field.ensures.looks bytes put w ws s first asks small
+pub returns-in-None-clause-looks : goal.returns-in-None-clause-looks
+returns-in-None-clause-looks c = rw c.in-None.ensures.still at c.look_next.ensures.looks
 
-pub returns-in-Field-clause-falls : goal.returns-in-Field-clause-falls
-returns-in-Field-clause-falls c =
-    let empty = rw c.items.ensures at c.in-Field.ensures.empty in c.look_field.ensures.falls empty
+pub returns-in-None-clause-falls : goal.returns-in-None-clause-falls
+returns-in-None-clause-falls c = subst (λ r. Falls r c.look_next.new.self c.args.rest.now (Ok c.look_next.result)) c.in-None.ensures.still c.look_next.ensures.falls
