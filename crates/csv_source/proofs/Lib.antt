@@ -1,3 +1,4 @@
+mod Bits
 mod CellFacts
 mod Columns
 mod Datasets

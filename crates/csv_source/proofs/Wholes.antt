@@ -74,16 +74,6 @@ pub bits-found : (count : ℕ) (cell : List ℕ) (o : Option ℕ) (d : ℕ) → 
 bits-found count cell None d is found = let no : true ≡ false = sym is ∙ found in cc no
 bits-found count cell (Some n) d is found = found.1
 
--- bits
-pub bits-no-mark : (count : ℕ) (cell : List ℕ) → bytes_eq (take 2 cell) (codes "0x") ≡ false → is_bits count cell ≡ false
-unfolding is_bits
-bits-no-mark count cell other = rw other refl
-
-pub bits-marked : (count : ℕ) (cell digits : List ℕ) → bytes_eq (take 2 cell) (codes "0x") ≡ true → digits ≡ drop 2 cell
-    → (is_bits count cell ≡ (length digits == count && list_all is_ascii_hexdigit digits)) × (digits_value 16 digits ≡ bits_of cell)
-unfolding is_bits bits_of
-bits-marked count cell digits mark is = (rw (mark, is) refl, rw is refl)
-
 -- so many digits write so small a number
 all_hex : (ds : List ℕ) → list_all is_ascii_hexdigit ds ≡ true → AllDigits 16 ds
 all_hex [] all = tt

@@ -1,7 +1,7 @@
 ghost use Rattle.std.specs.Prelude.{◌≡◌};
 ghost use Rattle.csv_source.specs.Cells.{is_cell};
 
-use crate::numbers::{bits, whole};
+use crate::numbers::{bits32, bits64, whole};
 use dap_types::BaseType;
 
 /// The value of a cell, as a table lends it.
@@ -22,8 +22,8 @@ pub(crate) fn may_be_cell(base: BaseType, field: &[u8]) -> bool
     ensures { result ≡ is_cell base field.now }
 {
     match base {
-        BaseType::Float32 => bits(field, 8).is_some(),
-        BaseType::Float64 => bits(field, 16).is_some(),
+        BaseType::Float32 => bits32(field).is_some(),
+        BaseType::Float64 => bits64(field).is_some(),
         BaseType::Text => true,
         BaseType::Url => true,
         _ => whole(base, field).is_some(),

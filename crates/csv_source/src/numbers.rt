@@ -5,7 +5,8 @@ ghost use Rattle.std.specs.Str.Parse.{digits_value, signed_digits_value, starts_
 ghost use Rattle.csv_source.specs.Cells.{are_digits, bits_of, is_bits, is_in, is_whole, least, limit, trimmed, whole_of, without_end_spaces, without_front_spaces};
 
 use dap_types::BaseType;
-use viable::{all_hex_digits, hex_value_of, number_within};
+use float_text::{Floats, Reading, read32, read64};
+use viable::number_within;
 
 /// The greatest number without its sign: that of an UInt32.
 const GREATEST: u64 = 4_294_967_295;
@@ -104,16 +105,24 @@ pub(crate) fn whole(base: BaseType, field: &[u8]) -> Option<i64>
     }
 }
 
-/// The bits that `0x` and so many hexadecimal digits write.
-pub(crate) fn bits(field: &[u8], count: usize) -> Option<u64>
-    requires { count ≤ 16 }
-    ensures number { MatchOption result (is_bits count field.now ≡ false) (λ n. (is_bits count field.now ≡ true) × (n ≡ bits_of field.now)) }
-    ensures bound { IfSome result (λ n. n < 16 ^ count) }
+/// The bits that a cell of a Float32 column writes.
+pub(crate) fn bits32(field: &[u8]) -> Option<u32>
+    ensures { MatchOption result (is_bits 8 field.now ≡ false) (λ n. (is_bits 8 field.now ≡ true) × (n ≡ bits_of field.now)) }
 {
-    let digits = field.strip_prefix(b"0x")?;
-    if digits.len() == count && all_hex_digits(digits) {
-        Some(hex_value_of(digits))
-    } else {
-        None
+    match read32(Floats::Bits, field) {
+        Reading::Bits(bits) => Some(bits),
+        Reading::TooLarge => None,
+        Reading::NoFloat => None,
+    }
+}
+
+/// The bits that a cell of a Float64 column writes.
+pub(crate) fn bits64(field: &[u8]) -> Option<u64>
+    ensures { MatchOption result (is_bits 16 field.now ≡ false) (λ n. (is_bits 16 field.now ≡ true) × (n ≡ bits_of field.now)) }
+{
+    match read64(Floats::Bits, field) {
+        Reading::Bits(bits) => Some(bits),
+        Reading::TooLarge => None,
+        Reading::NoFloat => None,
     }
 }

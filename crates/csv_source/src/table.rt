@@ -13,7 +13,7 @@ ghost use Rattle.csv_source.specs.Table.{value_at};
 use crate::cell::Cell;
 use crate::fields::Fields;
 use crate::names::sequence_id;
-use crate::numbers::{bits, whole};
+use crate::numbers::{bits32, bits64, whole};
 use dap_types::{BaseType, Bytes, Column, Dataset, Decl, List, Memory};
 use das_text::{Attributes, Entry};
 use file_names::dataset_id;
@@ -115,8 +115,8 @@ fn lent(base: BaseType, field: &[u8]) -> Cell<'_>
     ensures fits { IsOf base (lent_value result) }
 {
     match base {
-        BaseType::Float32 => Cell::Bits32(bits(field, 8).unwrap_or(0) as u32),
-        BaseType::Float64 => Cell::Bits64(bits(field, 16).unwrap_or(0)),
+        BaseType::Float32 => Cell::Bits32(bits32(field).unwrap_or(0)),
+        BaseType::Float64 => Cell::Bits64(bits64(field).unwrap_or(0)),
         BaseType::Text => Cell::Text(field),
         BaseType::Url => Cell::Text(field),
         _ => Cell::Whole(whole(base, field).unwrap_or(0)),
