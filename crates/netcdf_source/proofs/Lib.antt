@@ -1,4 +1,5 @@
 pub mod Ends
+mod FloatTexts
 pub mod Lists
 pub mod Limits
 pub mod Singles

@@ -15,8 +15,8 @@ use crate::ids::{file_id, stored_id};
 use crate::texts::is_offered;
 use dap_types::{BaseType, Bytes, Id, List, Memory};
 use das_text::{Attributes, Entry, Word};
+use float_text::{FloatText, Floats};
 use std::alloc::Global;
-use text_lines::put_hex;
 
 /// The type of an attribute's values: whole numbers of up to 32 bits keep theirs, all else is
 /// text.
@@ -49,13 +49,18 @@ pub fn without_zeros(bytes: &[u8]) -> &[u8]
     &bytes[..end]
 }
 
-/// The bits of a float, in so many digits.
-fn bits_word(alloc: Global, digits: u32, bits: u64) -> Result<Word, Memory>
-    ensures { IfOk result (λ w. w ≡ Word.Quoted (codes "0x" ++ hex digits bits)) }
+/// The bits of a Float32 as they are written.
+fn text32(bits: u32) -> FloatText
+    ensures { result ≡ codes "0x" ++ hex 8 bits }
 {
-    let mut text = Vec::from_slice(alloc, b"0x")?;
-    put_hex(&mut text, digits, bits)?;
-    Ok(Word::Quoted(Bytes::from_vec(text)))
+    FloatText::of32(Floats::Bits, bits)
+}
+
+/// The bits of a Float64 as they are written.
+fn text64(bits: u64) -> FloatText
+    ensures { result ≡ codes "0x" ++ hex 16 bits }
+{
+    FloatText::of64(Floats::Bits, bits)
 }
 
 /// A whole number, in decimal digits.
@@ -117,13 +122,13 @@ fn word_of(alloc: Global, external_type: ExternalType, bytes: &[u8]) -> Result<W
         }
         ExternalType::Float => {
             let bits = u32::from_be_bytes([bytes[0], bytes[1], bytes[2], bytes[3]]);
-            bits_word(alloc, 8, u64::from(bits))
+            text_word(alloc, text32(bits).bytes())
         }
         ExternalType::Double => {
             let bits = u64::from_be_bytes([
                 bytes[0], bytes[1], bytes[2], bytes[3], bytes[4], bytes[5], bytes[6], bytes[7],
             ]);
-            bits_word(alloc, 16, bits)
+            text_word(alloc, text64(bits).bytes())
         }
         ExternalType::Int64 => {
             let number = i64::from_be_bytes([
