@@ -12,7 +12,7 @@ use Rattle.dap_model.specs.Laws.{IsNumber, element_width}
 use Rattle.dap_model.specs.Xdr.{Field, SpellsFields}
 use Rattle.xdr_fields.proofs.Growing.{said_join}
 use Rattle.xdr_fields.proofs.Judged.{steps_join}
-use Rattle.xdr_fields.specs.Wants.{Want, IsTextType, Steps, a_filler, elements_left, said, says_next, wants_of}
+use Rattle.xdr_fields.specs.Wants.{Want, IsTextType, Steps, a_filler, elements_left, said, wants_of}
 use Rattle.xdr_decode.proofs.ArrayElements.{left_split}
 use Rattle.xdr_decode.proofs.Asking.{next_none as place_none, next_some}
 use Rattle.xdr_decode.proofs.Beginning.{next_none}

@@ -1,5 +1,5 @@
 -- Numbers of an array, one after the other.
-use Rattle.std.proofs.Common.{◌≡◌, ℕ, ℤ, zero, suc, pos, ◌+◌, ◌-◌, ◌*◌, ◌/◌, min, ◌^◌, ◌<◌, ◌≤◌, List, [], ◌∷◌, ◌++◌, length, length-append, length-drop, take, drop, get_or, All, Some, None, refl, ap, ◌∙◌, sym, subst, arith, append_assoc, append-nil, take-append-drop}
+use Rattle.std.proofs.Common.{◌≡◌, ℕ, ℤ, zero, suc, pos, ◌+◌, ◌*◌, ◌/◌, min, ◌^◌, ◌<◌, ◌≤◌, List, [], ◌∷◌, ◌++◌, length, length-append, length-drop, take, drop, get_or, All, Some, refl, ap, ◌∙◌, sym, subst, arith, append_assoc, append-nil, take-append-drop}
 use Rattle.std.proofs.lemmas.Grind.{flat_map-append}
 use Rattle.std.proofs.lemmas.List.{drop-drop}
 use Rattle.std.proofs.lemmas.List.Elements.{All-drop, All-nil, All-push, All-take}
@@ -14,7 +14,7 @@ use Rattle.dap_model.proofs.Values.{all_first, all_rest}
 use Rattle.dap_model.specs.Fits.{IsOf}
 use Rattle.dap_model.specs.Laws.{IsNumber, element_width}
 use Rattle.dap_model.specs.Xdr.{SpellsField, number, word}
-use Rattle.xdr_fields.proofs.Decided.{IsWholeType, whole_good}
+use Rattle.xdr_fields.proofs.Decided.{whole_good}
 use Rattle.xdr_fields.specs.Wants.{a_byte, a_value}
 use Rattle.xdr_fields.specs.inner.Words.{whole_in}
 use Rattle.xdr_decode.proofs.Judging.{double_good, float_good, packed_good}
@@ -59,7 +59,6 @@ whole_begins : (base : BaseType) (k : ℕ) (z : ℤ) (own rest : List ℕ) → k
 whole_begins base k z own rest small is read =
     let good = whole_good base k z small read in
     (good.0, spelt_one (number base (values.Whole z)) own rest (subst (λ l. SpellsField (number base (values.Whole z)) l) (sym is) good.1))
-
 
 -- by its four bytes
 four : (base : BaseType) (a b c d : ℕ) (rest : List ℕ) → element_width base ≡ 4 → IsNumber base → ¬ IsShort base → AreBytes (a ∷ b ∷ c ∷ d ∷ []) → BeginsOne base (a ∷ b ∷ c ∷ d ∷ rest) rest

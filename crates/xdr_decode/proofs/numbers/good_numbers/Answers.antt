@@ -1,4 +1,4 @@
-use Rattle.std.proofs.Common.{ℕ, ◌≡◌, ◌*◌, ◌/◌, ◌∙◌, drop, length, min, ap, subst, arith}
+use Rattle.std.proofs.Common.{ℕ, ◌≡◌, ◌*◌, ◌/◌, ◌∙◌, drop, length, min, ap, arith}
 use Rattle.dap_model.specs.Laws.{element_width}
 use Rattle.xdr_decode.proofs.Pushing.{front_bytes}
 use Rattle.xdr_decode.proofs.Running.{any_begins, front_begins, not_short, whole_many}

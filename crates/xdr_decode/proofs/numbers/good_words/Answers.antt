@@ -1,4 +1,4 @@
-use Rattle.std.proofs.Common.{ℕ, ◌-◌, ◌∙◌, List, length, take, drop, refl, sym, subst, arith}
+use Rattle.std.proofs.Common.{◌-◌, ◌∙◌, length, take, drop, refl, sym, subst, arith}
 use Rattle.xdr_decode.proofs.Running.{BeginsOne, begins_none, begins_push, short_few, word_begins}
 use Rattle.xdr_decode.proofs.Texts.{part-rest}
 use Rattle.xdr_decode.proofs.numbers.good_words.Goals as goal
