@@ -35,3 +35,4 @@ pub mod Values
 pub mod Waiting
 pub mod Within
 pub mod Wrapped
+pub mod Quietly

@@ -87,6 +87,30 @@ impl Body {
         }
     }
 
+    /// Reads one more piece as `push` does, and puts nothing.
+    pub fn judge(&mut self, piece: &[u8]) -> Option<Outcome>
+        requires stands { Stands self.old }
+        requires within { self.old.taken + length piece.now ≤ 2 ^ 40 }
+        requires few { length piece.now ≤ most_piece }
+        ensures pushed { (bytes put : List ℕ) → BodyStandsAfter self.old bytes put → Gains None None
+            (λ text. IsPushed self.new (form_in self.old) bytes (bytes ++ piece.now) (put ++ text) result) }
+        ensures kind { self.new.kind ≡ self.old.kind }
+        ensures taken { self.new.taken ≡ self.old.taken + length piece.now }
+        ensures open { result ≡ None → self.new.taken < 2 ^ 40 }
+        ensures fault { ¬ (result ≡ Some Outcome.WriteFault) }
+    {
+        let part = mem::replace(&mut self.part, Part::Text(TextStage::Spent));
+        let read = part.judge(self.alloc, self.taken, piece);
+        self.taken += piece.len() as u64;
+        match read {
+            Ok(part) => {
+                self.part = part;
+                None
+            }
+            Err(outcome) => Some(outcome),
+        }
+    }
+
     /// The outcome for a body that ends here. Of a DDS and a DAS the text is put, printed again.
     pub fn finish<O: Sink>(self, out: &mut O) -> Outcome
         requires { Stands self }

@@ -62,7 +62,7 @@ fn judge(reader: Body, piece: &[u8]) -> Result<Body, BodyOutcome>
     ensures kind { IfOk result (λ r. r.kind ≡ reader.kind) }
 {
     let mut reader = reader;
-    match reader.push(piece, &mut Nowhere) {
+    match reader.judge(piece) {
         None => Ok(reader),
         Some(outcome) => Err(stopped(outcome)),
     }

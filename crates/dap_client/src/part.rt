@@ -1,7 +1,7 @@
 //! What a body is read by, by its kind (DAP 2.0): the pieces of a data response, of a DDS or of a DAS, or
 //! of an Error object in their place.
 
-ghost use Rattle.std.specs.Prelude.{◌≡◌, ◌+◌, ◌^◌, ◌≤◌, ◌<◌, ℕ, List, [], ◌++◌, false, true, length, Ok, Err, OnOk};
+ghost use Rattle.std.specs.Prelude.{◌≡◌, ◌+◌, ◌^◌, ◌≤◌, ◌<◌, ℕ, List, [], ◌++◌, false, true, length, None, Ok, Err, OnOk};
 ghost use Rattle.dap_types.specs.Limits.{most_piece};
 ghost use Rattle.dap_model.specs.Partly.{ShowsLines};
 ghost use Rattle.dap_model.specs.Received.{HasHead};
@@ -18,6 +18,7 @@ ghost use Rattle.dap_client.specs.inner.TextBodies.{IsFirstWrong, IsPut, IsText,
 use crate::Outcome;
 use crate::das_body::DasBody;
 use crate::dds_body::DdsBody;
+use crate::nowhere::Nowhere;
 use crate::opening::Opening;
 use crate::reader::{BodyReader, Ended, server_error};
 use crate::stage::{BUDGET, Stage};
@@ -83,6 +84,24 @@ fn read_data<O: Sink>(reader: BodyReader, piece: &[u8], out: &mut O) -> Result<P
 {
     let mut reader = reader;
     reader.push(piece, out);
+    if reader.is_open() {
+        return Ok(Part::Data(reader));
+    }
+    Err(closed(reader))
+}
+
+/// Judges a piece of a data response. Nothing is put.
+fn judge_data(reader: BodyReader, piece: &[u8]) -> Result<Part, Outcome>
+    requires stands { readers.Stands reader }
+    requires still_open { readers.is_open reader ≡ true }
+    requires within { readers.taken_of reader + length piece.now ≤ 2 ^ 40 }
+    requires few { length piece.now ≤ most_piece }
+    ensures read { (bytes put : List ℕ) → readers.ReaderStandsAfter reader bytes put → Gains None None (λ text. IsRead dods_form bytes (bytes ++ piece.now) (put ++ text) result) }
+    ensures goes_on { OnOk result (readers.taken_of reader + length piece.now < 2 ^ 40) }
+    ensures fault { ¬ (result ≡ Err Outcome.WriteFault) }
+{
+    let mut reader = reader;
+    reader.judge(piece);
     if reader.is_open() {
         return Ok(Part::Data(reader));
     }
@@ -260,6 +279,22 @@ impl Part {
                 let stage = stage.read(alloc, place, piece);
                 text_at(alloc, stage, place + piece.len() as u64)
             }
+        }
+    }
+
+    /// Reads one more piece as `read` does, and puts nothing.
+    pub fn judge(self, alloc: Global, place: u64, piece: &[u8]) -> Result<Part, Outcome>
+        requires stands { (form : Form) × (bytes : List ℕ) × (put : List ℕ) × (length bytes ≡ place) × IsPart form self bytes put }
+        requires within { place + length piece.now ≤ 2 ^ 40 }
+        requires few { length piece.now ≤ most_piece }
+        ensures read { (form : Form) (bytes put : List ℕ) → length bytes ≡ place → IsPart form self bytes put → Gains None None
+            (λ text. IsRead form bytes (bytes ++ piece.now) (put ++ text) result) }
+        ensures goes_on { OnOk result (place + length piece.now < 2 ^ 40) }
+        ensures fault { ¬ (result ≡ Err Outcome.WriteFault) }
+    {
+        match self {
+            Part::Data(reader) => judge_data(reader, piece),
+            text => text.read(alloc, place, piece, &mut Nowhere),
         }
     }
 

@@ -1,6 +1,6 @@
 //! The reader of a data response in pieces of any length (DAP 2.0, DODS).
 
-ghost use Rattle.std.specs.Prelude.{◌≡◌, ℕ, ◌+◌, ◌^◌, ◌<◌, ◌≤◌, ◌⊎◌, List, [], ◌++◌, length, codes, true, false, OnOk, OnErr};
+ghost use Rattle.std.specs.Prelude.{◌≡◌, ℕ, ◌+◌, ◌^◌, ◌<◌, ◌≤◌, ◌⊎◌, List, [], ◌++◌, length, codes, true, false, None, OnOk, OnErr};
 ghost use Rattle.std.specs.Fmt.{decimal};
 ghost use Rattle.std.specs.Io.KnownBytes.{Appends};
 ghost use Rattle.dap_types.specs.Limits.{most_piece};
@@ -205,6 +205,22 @@ impl BodyReader {
     {
         let stage = mem::replace(&mut self.stage, Stage::Spent);
         let stage = stage.read(self.alloc, self.taken, piece, out);
+        self.taken += piece.len() as u64;
+        self.stage = stage_at(stage, self.taken);
+    }
+
+    /// Reads one more piece as `push` does, and puts nothing.
+    pub fn judge(&mut self, piece: &[u8])
+        requires stands { Stands self.old }
+        requires still_open { is_open self.old ≡ true }
+        requires within { taken_of self.old + length piece.now ≤ 2 ^ 40 }
+        requires few { length piece.now ≤ most_piece }
+        ensures stands { (bytes put : List ℕ) → ReaderStandsAfter self.old bytes put → Gains None None (λ text. ReaderStandsAfter self.new (bytes ++ piece.now) (put ++ text)) }
+        ensures taken { taken_of self.new ≡ taken_of self.old + length piece.now }
+        ensures cause { ¬ (HasFailed self.new) }
+    {
+        let stage = mem::replace(&mut self.stage, Stage::Spent);
+        let stage = stage.judge(self.alloc, self.taken, piece);
         self.taken += piece.len() as u64;
         self.stage = stage_at(stage, self.taken);
     }

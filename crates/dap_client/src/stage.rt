@@ -1,7 +1,7 @@
 //! The stages of a data response (DAP 2.0, DODS): its DDS, its `Data:` line, its values; or an Error
 //! object in its place. Each takes a piece and says which stage stands behind it.
 
-ghost use Rattle.std.specs.Prelude.{◌≡◌, ℕ, ◌+◌, ◌^◌, ◌<◌, ◌≤◌, List, [], ◌++◌, length, take, true, false};
+ghost use Rattle.std.specs.Prelude.{◌≡◌, ℕ, ◌+◌, ◌^◌, ◌<◌, ◌≤◌, List, [], ◌++◌, length, take, true, false, None};
 ghost use Rattle.dap_types.specs.Limits.{most_piece};
 ghost use Rattle.dap_types.specs.View.{dataset_view};
 ghost use Rattle.dap_types.specs.WellFormed.{IsWellFormed};
@@ -17,6 +17,7 @@ ghost use Rattle.dap_client.specs.inner.Stages.{EndsText, HadAll, HasValues, IsF
 
 use crate::beginning::{self, Beginning, InObject};
 use crate::data_line::{DataLine, LineRead};
+use crate::nowhere::Nowhere;
 use crate::object::Object;
 use dap_outside::{Failed, Sink, put_all};
 use dap_types::{Dataset, Memory, limits};
@@ -78,6 +79,29 @@ fn read_values<O: Sink>(decoder: Decoder, place: u64, piece: &[u8], out: &mut O)
 {
     let mut decoder = decoder;
     match decoder.push(piece, out) {
+        Pushed::More => Stage::Values(decoder),
+        Pushed::Done { used } => {
+            if used < piece.len() {
+                return refused(Bad::Trailing, place + used as u64);
+            }
+            Stage::Values(decoder)
+        }
+        Pushed::Refused(field) => Stage::Refused(field),
+        Pushed::WriteFault => Stage::Failed,
+    }
+}
+
+/// Judges a piece of the values, which begins at this place. Nothing is put.
+fn judge_values(decoder: Decoder, place: u64, piece: &[u8]) -> Stage
+    requires stands { (bytes : List ℕ) × (put : List ℕ) × (length bytes ≡ place) × HasValues decoder bytes put }
+    requires small { place + length piece.now < 2 ^ 63 }
+    ensures stage { (bytes put : List ℕ) → length bytes ≡ place → IsNoError (bytes ++ piece.now) → HasValues decoder bytes put →
+        Moves None None (bytes ++ piece.now) put result }
+    ensures cause { WhereFailed ⊥ result }
+    ensures quiet { WhereQuiet ⊥ result }
+{
+    let mut decoder = decoder;
+    match decoder.judge(piece) {
         Pushed::More => Stage::Values(decoder),
         Pushed::Done { used } => {
             if used < piece.len() {
@@ -286,6 +310,21 @@ fn fill_object(object: Object) -> Stage
 }
 
 impl Stage {
+    /// Reads one more piece as `read` does, and puts nothing.
+    pub fn judge(self, alloc: Global, place: u64, piece: &[u8]) -> Stage
+        requires stands { (bytes : List ℕ) × (put : List ℕ) × (length bytes ≡ place) × IsStage self bytes put }
+        requires still_open { is_open_stage self ≡ true }
+        requires small { place + length piece.now < 2 ^ 63 }
+        requires few { length piece.now ≤ most_piece }
+        ensures stage { (bytes put : List ℕ) → length bytes ≡ place → IsStage self bytes put → Moves None None (bytes ++ piece.now) put result }
+        ensures cause { WhereFailed ⊥ result }
+    {
+        match self {
+            Stage::Values(decoder) => judge_values(decoder, place, piece),
+            stage => stage.read(alloc, place, piece, &mut Nowhere),
+        }
+    }
+
     /// Reads one more piece, which begins at this place.
     pub fn read<O: Sink>(self, alloc: Global, place: u64, piece: &[u8], out: &mut O) -> Stage
         requires stands { (bytes : List ℕ) × (put : List ℕ) × (length bytes ≡ place) × IsStage self bytes put }

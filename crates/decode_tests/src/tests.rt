@@ -4,6 +4,7 @@ mod counted;
 mod expecting;
 mod faults;
 mod feeding;
+mod judging;
 mod many;
 mod pieces;
 mod trees;

@@ -38,7 +38,7 @@ fn push<O: Sink>(decoder: &mut Decoder, values: &[u8], out: &mut O) -> Pushed
 }
 
 /// Where to cut some bytes, so that they fall into pieces of a size.
-fn middle(length: usize, size: usize) -> usize
+pub fn middle(length: usize, size: usize) -> usize
     requires { 2 ≤ length }
     ensures some { 1 ≤ result }
     ensures part { result + 1 ≤ length }
