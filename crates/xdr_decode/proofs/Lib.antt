@@ -1,4 +1,5 @@
 pub mod Asking
+mod FloatTexts
 pub mod Judging
 pub mod Spots
 pub mod Texts

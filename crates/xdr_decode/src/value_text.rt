@@ -1,14 +1,14 @@
-ghost use Rattle.std.specs.Prelude.{◌≡◌, ◌<◌, ◌≤◌, [], ◌∷◌, ◌++◌, ◌%◌, codes, false, IsTrue, IfOk, OnErr, OnOk, length, take};
+ghost use Rattle.std.specs.Prelude.{◌≡◌, ◌<◌, ◌≤◌, [], ◌∷◌, ◌++◌, codes, IsTrue, IfOk, OnErr, OnOk, length, take};
 ghost use Rattle.std.specs.Fmt.{decimal, signed_decimal};
 ghost use Rattle.std.specs.List.{flat_map};
 ghost use Rattle.dap_outside.specs.Buffered.{Passes, PassesFront, Puts};
 ghost use Rattle.dap_model.specs.Shown.{hex, shown_byte, shown_value};
-ghost use Rattle.std.specs.Fmt.{digit_glyph};
 ghost use Rattle.dap_outside.specs.Causes.{HasCause};
 ghost use Rattle.dap_outside.specs.Streams.{AppendsFront};
 ghost use Rattle.std.specs.Io.KnownBytes.{Appends};
 
 use dap_outside::{Buffer, Failed, Sink};
+use float_text::{FloatText, Floats};
 use viable::hex_digit;
 
 /// Whether a byte of a text stands for itself.
@@ -118,11 +118,18 @@ pub fn put_number<O: Sink>(buffer: &mut Buffer, out: &mut O, number: u64) -> Res
     buffer.put(out, digits.format(number).as_bytes())
 }
 
-/// The last digit of the bits in hexadecimal.
-fn last_digit(bits: u64) -> u8
-    ensures { result ≡ digit_glyph false (bits % 16) }
+/// The bits of a Float32 as they are written.
+fn text32(bits: u32) -> FloatText
+    ensures { result ≡ codes "0x" ++ hex 8 bits }
 {
-    hex_digit((bits % 16) as u8, false)
+    FloatText::of32(Floats::Bits, bits)
+}
+
+/// The bits of a Float64 as they are written.
+fn text64(bits: u64) -> FloatText
+    ensures { result ≡ codes "0x" ++ hex 16 bits }
+{
+    FloatText::of64(Floats::Bits, bits)
 }
 
 /// Puts the bits of a Float32.
@@ -131,25 +138,7 @@ pub fn put_word<O: Sink>(buffer: &mut Buffer, out: &mut O, bits: u32) -> Result<
     ensures cause { HasCause (O.put_faults out.old) (O.put_faults out.new) result }
     ensures beside { O.beside_writing out.new ≡ O.beside_writing out.old }
 {
-    let seven = u64::from(bits) / 16;
-    let six = seven / 16;
-    let five = six / 16;
-    let four = five / 16;
-    let three = four / 16;
-    let two = three / 16;
-    let text = [
-        b'0',
-        b'x',
-        last_digit(two / 16),
-        last_digit(two),
-        last_digit(three),
-        last_digit(four),
-        last_digit(five),
-        last_digit(six),
-        last_digit(seven),
-        last_digit(u64::from(bits)),
-    ];
-    buffer.put(out, &text)
+    buffer.put(out, text32(bits).bytes())
 }
 
 /// Puts the bits of a Float64.
@@ -158,39 +147,5 @@ pub fn put_double<O: Sink>(buffer: &mut Buffer, out: &mut O, bits: u64) -> Resul
     ensures cause { HasCause (O.put_faults out.old) (O.put_faults out.new) result }
     ensures beside { O.beside_writing out.new ≡ O.beside_writing out.old }
 {
-    let fifteen = bits / 16;
-    let fourteen = fifteen / 16;
-    let thirteen = fourteen / 16;
-    let twelve = thirteen / 16;
-    let eleven = twelve / 16;
-    let ten = eleven / 16;
-    let nine = ten / 16;
-    let eight = nine / 16;
-    let seven = eight / 16;
-    let six = seven / 16;
-    let five = six / 16;
-    let four = five / 16;
-    let three = four / 16;
-    let two = three / 16;
-    let text = [
-        b'0',
-        b'x',
-        last_digit(two / 16),
-        last_digit(two),
-        last_digit(three),
-        last_digit(four),
-        last_digit(five),
-        last_digit(six),
-        last_digit(seven),
-        last_digit(eight),
-        last_digit(nine),
-        last_digit(ten),
-        last_digit(eleven),
-        last_digit(twelve),
-        last_digit(thirteen),
-        last_digit(fourteen),
-        last_digit(fifteen),
-        last_digit(bits),
-    ];
-    buffer.put(out, &text)
+    buffer.put(out, text64(bits).bytes())
 }
