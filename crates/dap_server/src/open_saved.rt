@@ -14,8 +14,8 @@ use crate::open::read_front;
 use crate::saved_file::SavedFile;
 use dap_errors::FileCause;
 use dap_outside::Shelf;
-use dap_types::limits;
-use saved_source::{SavedRefusal, read_saved};
+use dap_types::{Bytes, limits};
+use saved_source::{SavedRefusal, hold_saved};
 use std::alloc::Global;
 
 /// The most bytes of a saved response.
@@ -34,12 +34,12 @@ fn refusal_stop(refusal: SavedRefusal) -> Stop
 }
 
 /// The response in a file of these bytes.
-fn saved_in(alloc: Global, bytes: &[u8], name: &str) -> Result<SavedFile, Stop>
-    ensures saved { IfOk result (λ s. (ts : List Tree) × IsSaved bytes.now name.now (dataset_in s.saved) ts × Holds s.saved ts) }
-    ensures refused { IfErr result (WhereRefused (λ cause. IsSavedCause name.now bytes.now cause)) }
+fn saved_in(alloc: Global, bytes: Bytes, name: &str) -> Result<SavedFile, Stop>
+    ensures saved { IfOk result (λ s. (ts : List Tree) × IsSaved bytes name.now (dataset_in s.saved) ts × Holds s.saved ts) }
+    ensures refused { IfErr result (WhereRefused (λ cause. IsSavedCause name.now bytes cause)) }
     ensures no_fault { IfErr result (WhereFault ⊥) }
 {
-    match read_saved(alloc, bytes, name.as_bytes()) {
+    match hold_saved(alloc, bytes, name.as_bytes()) {
         Ok(saved) => Ok(SavedFile { saved }),
         Err(refusal) => Err(refusal_stop(refusal)),
     }
@@ -69,5 +69,5 @@ pub fn open_saved<S: Shelf>(
         return Err(damaged(FileCause::SavedTooLong));
     }
     let bytes = read_front(alloc, shelf, file, size)?;
-    saved_in(alloc, bytes.as_slice(), name)
+    saved_in(alloc, Bytes::from_vec(bytes), name)
 }

@@ -10,8 +10,10 @@ use Rattle.dap_types.specs.declared.values.Value.{Value}
 use Rattle.dap_model.specs.Filter.{Marks, Keeps, Suits, one_marked}
 use Rattle.dap_model.specs.Xdr.{bytes_of, scalar_fields, value_fields}
 use Rattle.xdr_encode.specs.Marked.{arrays_sent, member_sent, members_sent}
-use Rattle.saved_source.proofs.Walking.{array_stands, arrays_stand, parts_stand, rows_stand, scalar_stands, sequence_sent, structure_sent}
-use Rattle.saved_source.specs.Walked.{StandArrays, StandMembers, StandRows, StandsArray, StandsMember, StandsValue, array_sent, rows_sent, value_sent}
+use Rattle.saved_source.proofs.Walking.{array_stands, arrays_stand, parts_stand, rows_stand, sequence_sent, structure_sent}
+use Rattle.xdr_values.proofs.Variables.{scalar_stands}
+use Rattle.saved_source.specs.Walked.{StandArrays, StandMembers, StandsMember, array_sent, rows_sent, value_sent}
+use Rattle.xdr_values.specs.Walked.{StandRows, StandsArray, StandsValue}
 
 scalar_text : (marks : Marks) (keeps : Keeps) (n : ℕ) (column : Column) (v : Value) → value_sent marks n column.base v ≡ member_sent marks keeps n (scalar column) (one v)
 scalar_text marks keeps n column v = go (marks n)

@@ -18,14 +18,12 @@ use Rattle.dap_model.specs.Cutting.{IsWithin, AreWithin, cut}
 use Rattle.dap_model.specs.Fits.{FitsArray, IsMany, IsOf, values_in, values_in_all}
 use Rattle.dap_model.specs.Xdr.{bytes_of}
 use Rattle.xdr_decode.specs.inner.Taken.{element_fields, elements_fields}
-use Rattle.saved_source.specs.Walked.{StandElements, StandsNested}
+use Rattle.xdr_values.specs.Walked.{StandElements}
+use Rattle.saved_source.specs.Walked.{StandsNested}
+use Rattle.xdr_values.proofs.ElementRuns.{run, StepsOver}
 
 abbrev pub values_of : List Tree → List Value
 values_of us = flat_map values_in us
-
--- the bytes of elements
-abbrev pub run : BaseType → List Value → List ℕ
-run base vs = bytes_of (elements_fields base vs)
 
 pub run-append : (base : BaseType) (us vs : List Value) → run base (us ++ vs) ≡ run base us ++ run base vs
 run-append base us vs = ap bytes_of (flat_map-append (element_fields base) us vs) ∙ bytes_of-append (elements_fields base us) (elements_fields base vs)
@@ -129,10 +127,6 @@ nested base n ns s slabs (many ts) bytes rest st = record {
 -- before the k-th index what is left begins with the elements there
 abbrev pub IsAt : BaseType → Slab → Tree → List ℕ → ℕ → List ℕ → Type 0
 IsAt base s t rest k left = k < s.count → left ≡ run base (values_of (drop (s.start + k * s.stride) (kids t))) ++ rest
-
--- a step over elements does what it says
-abbrev pub StepsOver : BaseType → ℕ → List ℕ → List ℕ → Type 0
-StepsOver base count from to = (vs : List Value) (r : List ℕ) → length vs ≡ count → count * 8 < 2 ^ 64 → StandElements base vs from r → to ≡ r
 
 pub inner_small : (n p inner : ℕ) → n * p < 2 ^ 32 → 0 < n → inner ≡ min p 4294967296 → inner ≡ p
 inner_small zero p inner few some is = elim some [ ]

@@ -24,12 +24,13 @@ use Rattle.dap_model.specs.Fits.{Fits, FitsAll, FitsArray, IsOf, values_in}
 use Rattle.dap_model.specs.Xdr.{array_fields, array_fields_of_each, bytes_of, fields, fields_all, SpellsFields}
 use Rattle.xdr_decode.specs.inner.Taken.{element_fields, elements_fields}
 use Rattle.xdr_encode.specs.Leaves.{counts_of, filler_of}
-use Rattle.saved_source.proofs.ArrayParts.{array_single, count_few, counts_product, three_parts}
-use Rattle.saved_source.proofs.Cutting.{run}
-use Rattle.saved_source.proofs.Exact.{fields_exact}
-use Rattle.saved_source.proofs.Putting.{element_long}
-use Rattle.saved_source.proofs.Splitting.{spells_split}
-use Rattle.saved_source.proofs.TextRuns.{value_some}
+use Rattle.xdr_values.proofs.ArrayParts.{array_single, three_parts}
+use Rattle.saved_source.proofs.ArrayParts.{count_few, counts_product}
+use Rattle.xdr_values.proofs.ElementRuns.{run}
+use Rattle.xdr_values.proofs.Exact.{fields_exact}
+use Rattle.xdr_values.proofs.ElementRuns.{element_long}
+use Rattle.xdr_values.proofs.Splitting.{spells_split}
+use Rattle.xdr_values.proofs.TextRuns.{value_some}
 use Rattle.saved_source.specs.Responses.{IsSaved, renamed, renamed_all, renamed_array}
 
 -- ---- in bytes

@@ -1,6 +1,6 @@
 -- The arrays of a Grid in the bytes of a response, and what goes out of them.
 use Rattle.std.proofs.Common.{◌≡◌, ℕ, ◌+◌, List, [], ◌∷◌, ◌++◌, Option, sym, subst}
-use Rattle.saved_source.proofs.Putting.{no_bytes}
+use Rattle.xdr_values.proofs.ElementRuns.{no_bytes}
 use Rattle.dap_types.specs.Model.{Tree}
 use Rattle.dap_types.specs.declared.declarations.ArrayDecl.{ArrayDecl}
 use Rattle.dap_model.proofs.Values.{bytes_of-append}
@@ -10,8 +10,9 @@ use Rattle.dap_model.specs.Xdr.{array_fields, array_fields_of_each, bytes_of}
 use Rattle.dap_outside.proofs.Passing.{IsOnItsWay, way_begins, way_ends, way_failed, way_more}
 use Rattle.dap_outside.specs.Buffered.{Passes, PassesFront}
 use Rattle.xdr_encode.specs.Marked.{arrays_sent}
-use Rattle.saved_source.proofs.Splitting.{spelt_none, spelt_split}
-use Rattle.saved_source.specs.Walked.{StandArrays, StandsArray, array_sent}
+use Rattle.xdr_values.proofs.Splitting.{spelt_none, spelt_split}
+use Rattle.saved_source.specs.Walked.{StandArrays, array_sent}
+use Rattle.xdr_values.specs.Walked.{StandsArray}
 
 pub record ArrayFirst (marks : Marks) (n : ℕ) (a : ArrayDecl) (arrays : List ArrayDecl) (ts : List Tree) (left rest : List ℕ) : Type 0 where
   pub tree : Tree

@@ -1,12 +1,8 @@
-pub mod Splitting
-pub mod Exact
-pub mod Values
 pub mod Cutting
 pub mod ArrayParts
 pub mod Putting
 pub mod Runs
 pub mod ByKind
-pub mod TextRuns
 pub mod Walking
 pub mod RowParts
 pub mod Grids

@@ -1,40 +1,33 @@
 -- Texts that go out for what is marked, and for what is not.
-use Rattle.std.proofs.Common.{◌≡◌, ℕ, suc, ◌+◌, ◌-◌, ◌<◌, ◌≤◌, ◌^◌, ◌*◌, Bool, true, false, ◌||◌, List, [], ◌∷◌, ◌++◌, length, Option, Some, None, refl, sym, ap, ◌∙◌, subst, arith, append-nil, length-append, take, All}
+use Rattle.std.proofs.Common.{◌≡◌, ℕ, suc, ◌+◌, ◌-◌, ◌<◌, ◌≤◌, ◌^◌, ◌*◌, Bool, true, false, ◌||◌, List, [], ◌∷◌, ◌++◌, length, Option, Some, None, refl, sym, ap, ◌∙◌, subst, arith, append-nil, take}
 use Rattle.std.specs.Prelude.{is_some, min, ◌==◌}
 use Rattle.std.proofs.lemmas.Bool.Decides.{nat_tests}
-use Rattle.std.proofs.Math.Nat.{mul-le-mul_left}
-use Rattle.std.proofs.Math.Seq.{take-append_seam}
 use Rattle.std.specs.Option.{option_map_or}
 use Rattle.dap_types.specs.Model.{Tree, product, sizes}
 use Rattle.dap_types.specs.declared.declarations.ArrayDecl.{ArrayDecl}
 use Rattle.dap_types.specs.declared.declarations.BaseType.{BaseType}
-use Rattle.dap_types.specs.declared.declarations.BaseType.TheVariants.{Byte, Int16, UInt16, Int32, UInt32, Float32, Float64, Text, Url}
 use Rattle.dap_types.specs.declared.slabs.Slab.{Slab}
 use Rattle.dap_types.specs.declared.values.Value.{Value}
-use Rattle.dap_types.specs.declared.values.Value.TheVariants as values
-use Rattle.dap_model.proofs.Values.{all_first, all_rest, bytes_of-append, length-values_in, values_of_fit}
+use Rattle.dap_model.proofs.Values.{length-values_in, values_of_fit}
 use Rattle.dap_model.proofs.Whole.{cut_whole}
-use Rattle.dap_model.specs.Laws.{element_width}
 use Rattle.dap_model.specs.Cutting.{AreWithin, cut, whole_slabs}
 use Rattle.dap_model.specs.Filter.{Marks, Suits, one_marked}
-use Rattle.dap_model.specs.Fits.{IsOf, values_in}
-use Rattle.dap_model.specs.Xdr.{array_fields, bytes_of, field_bytes, value_fields}
+use Rattle.dap_model.specs.Fits.{values_in}
+use Rattle.dap_model.specs.Xdr.{array_fields, bytes_of, value_fields}
 use Rattle.dap_outside.proofs.Passing.{passes_kept}
 use Rattle.dap_outside.specs.Buffered.{Passes}
 use Rattle.hyperslab_plan.specs.Picked.{count_of}
-use Rattle.xdr_decode.specs.inner.Taken.{element_fields, elements_fields}
+use Rattle.xdr_decode.specs.inner.Taken.{elements_fields}
 use Rattle.xdr_encode.specs.Leaves.{counts_of, filler_of}
-use Rattle.saved_source.proofs.ArrayParts.{array_parts, count_few, cut_long, elements_stand, three_parts}
-use Rattle.saved_source.proofs.Cutting.{StepsOver, run}
-use Rattle.saved_source.proofs.Values.{TellsRest}
-use Rattle.saved_source.specs.Walked.{StandElements, StandsArray, StandsNested, array_sent, value_sent}
+use Rattle.xdr_values.proofs.ArrayParts.{array_parts, three_parts}
+use Rattle.saved_source.proofs.ArrayParts.{count_few, cut_long}
+use Rattle.xdr_values.proofs.ElementRuns.{StepsOver, no_bytes, front_is}
+use Rattle.xdr_values.proofs.Values.{TellsRest}
+use Rattle.xdr_values.specs.Walked.{StandElements, StandsArray}
+use Rattle.saved_source.specs.Walked.{StandsNested, array_sent, value_sent}
 
 pub nothing_put : (w : Option (List ℕ)) (held text : List ℕ) → text ≡ [] → Passes w held w held text
 nothing_put w held text none = passes_kept w held held text (sym (ap (λ l. held ++ l) none ∙ append-nil held))
-
-pub no_bytes : bytes_of [] ≡ []
-unfolding bytes_of
-no_bytes = refl
 
 -- ---- a value
 pub value_none : (marks : Marks) (n : ℕ) (base : BaseType) (v : Value) → is_some (marks n) ≡ false → bytes_of (value_sent marks n base v) ≡ []
@@ -90,70 +83,6 @@ pub here_marked : (marks : Marks) (first k n : ℕ) → k < n → is_some (marks
 here_marked marks first k n lt some =
     let m : n - k ≡ suc (n - (k + 1)) = omega arith in
     ap (λ j. one_marked marks (first + k) j) m ∙ ap (λ b. b || one_marked marks ((first + k) + 1) (n - (k + 1))) some
-
--- ---- elements of an array of numbers
-pub element_long : (base : BaseType) (v : Value) → ¬ (base ≡ Text) → ¬ (base ≡ Url) → IsOf base v → length (bytes_of (element_fields base v)) ≡ element_width base
-unfolding bytes_of field_bytes
-element_long Byte v a b is = refl
-element_long Int16 (values.Whole z) a b is = refl
-element_long UInt16 (values.Whole z) a b is = refl
-element_long Int32 (values.Whole z) a b is = refl
-element_long UInt32 (values.Whole z) a b is = refl
-element_long Float32 (values.Bits32 n) a b is = refl
-element_long Float64 (values.Bits64 n) a b is = refl
-element_long Text v a b is = absurd (a refl)
-element_long Url v a b is = absurd (b refl)
-element_long base v a b is = absurd is
-
-pub elements_long : (base : BaseType) (vs : List Value) → ¬ (base ≡ Text) → ¬ (base ≡ Url) → All (IsOf base) vs → length (bytes_of (elements_fields base vs)) ≡ length vs * element_width base
-elements_long base [] a b all = omega (arith, ap length no_bytes)
-elements_long base (v ∷ vs) a b all =
-    omega (
-      arith,
-      ap length (bytes_of-append (element_fields base v) (elements_fields base vs)),
-      length-append (bytes_of (element_fields base v)) (bytes_of (elements_fields base vs)),
-      element_long base v a b (all_first (IsOf base) v vs all),
-      elements_long base vs a b (all_rest (IsOf base) v vs all),
-    )
-
-small_width : (base : BaseType) → element_width base ≤ 8
-small_width Byte = omega arith
-small_width Int16 = omega arith
-small_width UInt16 = omega arith
-small_width Int32 = omega arith
-small_width UInt32 = omega arith
-small_width Float32 = omega arith
-small_width Float64 = omega arith
-small_width Text = omega arith
-small_width Url = omega arith
-
--- the product of their number and their width is exact
-pub elements_wide : (base : BaseType) (vs : List Value) (count wide product : ℕ) → ¬ (base ≡ Text) → ¬ (base ≡ Url) → All (IsOf base) vs → length vs ≡ count → count * 8 < 2 ^ 64 → wide ≡ element_width base
-    → product ≡ min (count * wide) 18446744073709551615 → length (bytes_of (elements_fields base vs)) ≡ product
-elements_wide base vs count wide product a b all long small wide_is product_is =
-    let same : count * wide ≡ count * element_width base = ap (λ w. count * w) wide_is in
-    let le : count * element_width base ≤ count * 8 = mul-le-mul_left count (small_width base) in
-    let total : length (bytes_of (elements_fields base vs)) ≡ count * element_width base = elements_long base vs a b all ∙ ap (λ n. n * element_width base) long in
-    omega (arith, same, le, total, product_is, small)
-
--- what stands before the rest
-pub front_is : (bytes own rest left : List ℕ) → bytes ≡ own ++ rest → left ≡ rest → own ≡ take (length bytes - length left) bytes
-front_is bytes own rest left is same =
-    let at : length bytes - length left ≡ length own = omega (arith, ap length is, ap length same, length-append own rest) in
-    sym (ap (λ n. take n bytes) at ∙ ap (λ l. take (length own) l) is ∙ take-append_seam own rest)
-
--- ---- what stands behind an array
-pub array_behind : (a : ArrayDecl) (t : Tree) (bytes rest : List ℕ) (count width : ℕ) (first mid left : List ℕ) → StandsArray a t bytes rest → count ≡ min (product (sizes a)) 4294967296
-    → ((n : ℕ) → width ≡ length (counts_of a.base n)) → TellsRest bytes width first → StepsOver a.base count first mid → ((rest : List ℕ) → mid ≡ filler_of a.base count ++ rest → left ≡ rest) → left ≡ rest
-array_behind a t bytes rest count width first mid left st count_is width_is rests step fills =
-    let p = array_parts a t bytes rest st in
-    let n : ℕ = product (sizes a) in
-    let small : n < 2 ^ 32 = p.few in
-    let same : count ≡ n = omega (arith, count_is) in
-    let first_is : first ≡ run a.base (values_in t) ++ (filler_of a.base n ++ rest) = rests (counts_of a.base n) _ p.parts (sym (width_is n)) in
-    let mid_is : mid ≡ filler_of a.base n ++ rest =
-    step (values_in t) (filler_of a.base n ++ rest) (length-values_in a.base (sizes a) t p.fit ∙ sym same) (omega arith) (elements_stand a t bytes rest first p first_is) in
-    fills rest (mid_is ∙ ap (λ k. filler_of a.base k ++ rest) (sym same))
 
 -- the elements of an array stand behind its counts
 pub nested_stands : (a : ArrayDecl) (slabs : List Slab) (t : Tree) (bytes rest first : List ℕ) (width : ℕ) → StandsArray a t bytes rest → AreWithin slabs (sizes a) → ((n : ℕ) → width ≡ length (counts_of a.base n)) → TellsRest bytes width first

@@ -17,9 +17,9 @@ use Rattle.dap_types.specs.declared.values.Value.{Value}
 use Rattle.sequence_select.specs.Tests.{selection_of}
 use Rattle.sequence_select.specs.declared.comparison.Test.{Test}
 use Rattle.xdr_decode.proofs.Stopping.{spelt_then}
-use Rattle.saved_source.proofs.RowParts.{cell_first}
-use Rattle.saved_source.proofs.Splitting.{spelt_split}
-use Rattle.saved_source.specs.Walked.{StandCells, StandsValue}
+use Rattle.xdr_values.proofs.RowParts.{cell_first}
+use Rattle.xdr_values.proofs.Splitting.{spelt_split}
+use Rattle.xdr_values.specs.Walked.{StandCells, StandsValue}
 
 -- ---- the cells before one, and from it on
 pub record CellsCut (i : ℕ) (columns : List Column) (cells : List Tree) (bytes rest : List ℕ) : Type 0 where

@@ -12,9 +12,10 @@ use Rattle.dap_model.proofs.Values.{all_first, all_rest}
 use Rattle.dap_model.proofs.Whole.{cut_whole}
 use Rattle.dap_model.specs.Cutting.{cut, whole_slabs}
 use Rattle.dap_model.specs.Fits.{FitsArray, IsOf, values_in}
-use Rattle.saved_source.proofs.Cutting.{IsAt, IsNested, all_drop, all_take, cut_run, first_stand, inner_small, long, picked_all, picks_from, picks_next, run, step_small, take_long, values_of}
-use Rattle.saved_source.proofs.Putting.{no_bytes}
-use Rattle.saved_source.specs.Walked.{StandElements}
+use Rattle.saved_source.proofs.Cutting.{IsAt, IsNested, all_drop, all_take, cut_run, first_stand, inner_small, long, picked_all, picks_from, picks_next, step_small, take_long, values_of}
+use Rattle.xdr_values.proofs.ElementRuns.{run}
+use Rattle.xdr_values.proofs.ElementRuns.{no_bytes}
+use Rattle.xdr_values.specs.Walked.{StandElements}
 
 next_to_next : (s : Slab) (us : List Tree) (k m : ℕ) (d : Tree) → s.stride ≡ 1 → s.start + k + m ≤ length us → picks_from s us k m ≡ take m (drop (s.start + k) us)
 next_to_next s us k zero d one le = refl

@@ -1,35 +1,22 @@
 -- Variables in the bytes of a response, and what goes out of them.
-use Rattle.std.proofs.Common.{◌≡◌, ℕ, ◌+◌, Bool, true, false, cond, List, [], ◌∷◌, ◌++◌, length, map, filter, Option, refl, sym, ap, ◌∙◌, subst, append-nil}
+use Rattle.std.proofs.Common.{◌≡◌, ℕ, ◌+◌, Bool, true, false, cond, List, [], ◌∷◌, ◌++◌, length, map, filter, Option, refl, sym, ap, ◌∙◌, subst}
 use Rattle.std.specs.List.{flat_map}
 use Rattle.std.proofs.lemmas.Bool.{or_parts}
-use Rattle.saved_source.proofs.Putting.{no_bytes}
+use Rattle.xdr_values.proofs.ElementRuns.{no_bytes}
 use Rattle.dap_types.proofs.Views.{items-trees_of}
 use Rattle.dap_types.specs.Model.{Member, array, structure, grid, sequence, Members, no_members, member, Tree, one, many, trees_of, items, kids, count}
 use Rattle.dap_types.specs.declared.declarations.ArrayDecl.{ArrayDecl}
-use Rattle.dap_types.specs.declared.declarations.BaseType.{BaseType}
 use Rattle.dap_types.specs.declared.declarations.Column.{Column}
-use Rattle.dap_types.specs.declared.values.Value.{Value}
 use Rattle.dap_model.proofs.Values.{bytes_of-append}
 use Rattle.dap_model.specs.Filter.{Marks, Keeps, marked, unchanged, has_mark, any_has_mark, one_marked, filtered, filtered_all, cut_all}
-use Rattle.dap_model.specs.Fits.{FitsScalar}
-use Rattle.dap_model.specs.Xdr.{bytes_of, cell_fields, fields, fields_all, mark, row_fields, scalar_fields, value_fields}
+use Rattle.dap_model.specs.Xdr.{bytes_of, cell_fields, fields, fields_all, mark, row_fields}
 use Rattle.dap_outside.proofs.Passing.{IsOnItsWay, way_begins, way_ends, way_failed, way_more}
 use Rattle.dap_outside.specs.Buffered.{Passes, PassesFront}
-use Rattle.xdr_decode.specs.inner.Taken.{Spelt}
 use Rattle.xdr_encode.proofs.Marking.{all-left}
 use Rattle.xdr_encode.specs.Marked.{member_sent, members_sent}
-use Rattle.saved_source.proofs.Splitting.{spelt_none, spelt_split}
-use Rattle.saved_source.specs.Walked.{StandArrays, StandMembers, StandRows, StandsArray, StandsMember, StandsValue, row_sent, rows_sent}
-
--- ---- a member by its kind
-pub record IsScalar (base : BaseType) (t : Tree) (bytes rest : List ℕ) : Type 0 where
-  pub value : Value
-  pub is : t ≡ one value
-  pub stands : StandsValue base value bytes rest
-
-pub scalar_stands : (base : BaseType) (t : Tree) (bytes rest : List ℕ) → FitsScalar base t → Spelt (scalar_fields base t) bytes rest → IsScalar base t bytes rest
-scalar_stands base (one v) bytes rest fit s = record { value = v; is = refl; stands = record { is_of = fit; spelt = subst (λ fs. Spelt fs bytes rest) (append-nil (value_fields base v)) s } }
-scalar_stands base (many ts) bytes rest fit s = absurd fit
+use Rattle.xdr_values.proofs.Splitting.{spelt_none, spelt_split}
+use Rattle.saved_source.specs.Walked.{StandArrays, StandMembers, StandsMember, row_sent, rows_sent}
+use Rattle.xdr_values.specs.Walked.{StandRows, StandsArray}
 
 pub array_stands : (marks : Marks) (n : ℕ) (a : ArrayDecl) (t : Tree) (bytes rest : List ℕ) → StandsMember marks n (array a) t bytes rest → StandsArray a t bytes rest
 array_stands marks n a t bytes rest st = record { fit = st.fit; spelt = st.spelt }

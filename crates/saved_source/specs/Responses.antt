@@ -1,7 +1,7 @@
 -- A stored file that holds a data response (DAP 2.0, DODS), and the dataset that it is served as: that
 -- of the response, its names spelled as constraints spell them (DAP 2.0, constraint expressions:
 -- escapes in identifiers), under the name of the file. The limit is this project's.
-use Rattle.std.specs.Prelude.{◌≡◌, ℕ, ◌≤◌, List, length, map, Option, None}
+use Rattle.std.specs.Prelude.{◌≡◌, ℕ, ◌≤◌, List, drop, length, map, Option, None}
 use Rattle.std.specs.List.{list_any, position_from}
 use Rattle.std.specs.Str.{bytes_eq}
 use Rattle.dap_types.specs.Limits.{most_saved}
@@ -64,5 +64,8 @@ pub record IsSaved (bytes file_name : List ℕ) (d : Dataset) (ts : List Tree) :
 unfoldable pub dataset_in : Saved → Dataset
 dataset_in s = saved_dataset s.file_name (dataset_view s.response)
 
+abbrev pub values_of : Saved → List ℕ
+values_of s = drop s.values_at s.bytes
+
 unfoldable pub Holds : Saved → List Tree → Type 0
-Holds s ts = Spells (dataset_view s.response) ts s.values
+Holds s ts = Spells (dataset_view s.response) ts (values_of s)

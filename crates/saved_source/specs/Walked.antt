@@ -1,6 +1,6 @@
--- Where the parts of a saved response stand in its bytes: each behind the one before it (RFC 4506; DAP
--- 2.0, DODS). Values of the variables that stand there are told, and what is behind them.
-use Rattle.std.specs.Prelude.{◌≡◌, ℕ, ◌+◌, ◌<◌, ◌^◌, List, [], ◌∷◌, ◌++◌, All, filter, if◌then◌else◌}
+-- Where the parts of a saved response stand in its bytes, by the marks that say what goes out of them (RFC 4506; DAP
+-- 2.0, DODS), and what goes out.
+use Rattle.std.specs.Prelude.{◌≡◌, ℕ, ◌+◌, ◌<◌, ◌^◌, List, [], ◌∷◌, ◌++◌, filter, if◌then◌else◌}
 use Rattle.std.specs.List.{AllZip, flat_map}
 use Rattle.std.specs.Option.{option_map_or}
 use Rattle.dap_types.specs.Model.{Member, Members, Tree, many, trees_of, kids, product, sizes}
@@ -11,24 +11,9 @@ use Rattle.dap_types.specs.declared.slabs.Slab.{Slab}
 use Rattle.dap_types.specs.declared.values.Value.{Value}
 use Rattle.dap_model.specs.Cutting.{AreWithin, cut}
 use Rattle.dap_model.specs.Filter.{Marks, Keeps, marked, unchanged, SuitsAll, SuitsMember, SuitEach}
-use Rattle.dap_model.specs.Fits.{Fits, FitsAll, FitsArray, FitsRow, FitsScalar, IsOf, values_in}
-use Rattle.dap_model.specs.Xdr.{Field, array_fields, array_fields_of_each, bytes_of, cell_fields, fields, fields_all, mark, row_fields, value_fields, SpellsFields}
+use Rattle.dap_model.specs.Fits.{Fits, FitsAll, FitsArray, values_in}
+use Rattle.dap_model.specs.Xdr.{Field, array_fields, array_fields_of_each, bytes_of, cell_fields, fields, fields_all, mark, value_fields}
 use Rattle.xdr_decode.specs.inner.Taken.{Spelt, elements_fields}
-
--- the value of a type stands in these bytes, which are its own
-pub record IsValue (base : BaseType) (v : Value) (own : List ℕ) : Type 0 where
-  pub is_of : IsOf base v
-  pub spelled : SpellsFields (value_fields base v) own
-
--- it stands at the front of some bytes, and the rest behind it
-pub record StandsValue (base : BaseType) (v : Value) (bytes rest : List ℕ) : Type 0 where
-  pub is_of : IsOf base v
-  pub spelt : Spelt (value_fields base v) bytes rest
-
--- so many elements of an array stand at the front of some bytes, and the rest behind them
-pub record StandElements (base : BaseType) (vs : List Value) (bytes rest : List ℕ) : Type 0 where
-  pub are_of : All (IsOf base) vs
-  pub parts : bytes ≡ bytes_of (elements_fields base vs) ++ rest
 
 -- the elements of an array of some sizes stand there, and hyperslabs pick within it
 pub record StandsNested (base : BaseType) (ns : List ℕ) (slabs : List Slab) (t : Tree) (bytes rest : List ℕ) : Type 0 where
@@ -37,26 +22,11 @@ pub record StandsNested (base : BaseType) (ns : List ℕ) (slabs : List Slab) (t
   pub few : product ns < 2 ^ 32
   pub parts : bytes ≡ bytes_of (elements_fields base (values_in t)) ++ rest
 
--- an array stands there
-pub record StandsArray (a : ArrayDecl) (t : Tree) (bytes rest : List ℕ) : Type 0 where
-  pub fit : FitsArray a.base (sizes a) t
-  pub spelt : Spelt (array_fields a.base (values_in t)) bytes rest
-
 -- the arrays of a Grid stand there, the first of which has number n
 pub record StandArrays (marks : Marks) (n : ℕ) (arrays : List ArrayDecl) (ts : List Tree) (bytes rest : List ℕ) : Type 0 where
   pub fit : AllZip (λ a t. FitsArray a.base (sizes a) t) arrays ts
   pub suit : SuitEach marks n arrays
   pub spelt : Spelt (array_fields_of_each arrays ts) bytes rest
-
--- the cells of a row
-pub record StandCells (columns : List Column) (cells : List Tree) (bytes rest : List ℕ) : Type 0 where
-  pub fit : AllZip (λ c t. FitsScalar c.base t) columns cells
-  pub spelt : Spelt (cell_fields columns cells) bytes rest
-
--- the rows of a Sequence, and the mark behind them
-pub record StandRows (columns : List Column) (rows : List Tree) (bytes rest : List ℕ) : Type 0 where
-  pub fit : All (FitsRow columns) rows
-  pub spelt : Spelt (flat_map (row_fields columns) rows ++ mark 0xa5 ∷ []) bytes rest
 
 -- a variable, which is member n, and variables from member n on
 pub record StandsMember (marks : Marks) (n : ℕ) (m : Member) (t : Tree) (bytes rest : List ℕ) : Type 0 where

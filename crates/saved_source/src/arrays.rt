@@ -8,48 +8,17 @@ ghost use Rattle.dap_outside.specs.Buffered.{Puts};
 ghost use Rattle.dap_outside.specs.Causes.{HasCause};
 ghost use Rattle.dap_types.specs.Model.{Tree, sizes};
 ghost use Rattle.hyperslab_plan.specs.Picked.{count_of};
-ghost use Rattle.saved_source.specs.Walked.{StandsArray, StandsNested};
+ghost use Rattle.xdr_values.specs.Walked.{StandsArray};
+ghost use Rattle.saved_source.specs.Walked.{StandsNested};
 ghost use Rattle.xdr_decode.specs.inner.Taken.{elements_fields, sizes_of};
 ghost use Rattle.xdr_encode.specs.Leaves.{counts_of, filler_of};
 
 use crate::cut::put_cut;
-use crate::elements::behind;
-use crate::value::{fill, put_word, split};
+use crate::put_value::put_word;
 use dap_outside::{Buffer, Failed, Sink};
 use dap_types::{ArrayDecl, BaseType, Dim, Slab};
-use xdr_decode::elements;
 use xdr_encode::filler;
-
-/// How many bytes the counts before the elements have: one count before strings, and else two.
-#[tactic(auto, unfolding(xdr_encode::specs::Leaves::counts_of))]
-fn counts_width(base: BaseType) -> usize
-    ensures { (n : ℕ) → result ≡ length (counts_of base n) }
-{
-    match base {
-        BaseType::Text | BaseType::Url => 4,
-        _ => 8,
-    }
-}
-
-/// What stands behind the elements of an array: the zero bytes behind packed bytes are passed over.
-#[tactic(auto, unfolding(xdr_encode::specs::Leaves::filler_of))]
-fn behind_filler(base: BaseType, count: u64, bytes: &[u8]) -> &[u8]
-    ensures { (rest : List ℕ) → bytes.now ≡ filler_of base count ++ rest → result.now ≡ rest }
-{
-    match base {
-        BaseType::Byte => split(bytes, fill((count % 4) as usize)).1,
-        _ => bytes,
-    }
-}
-
-/// What stands behind an array.
-pub fn behind_array<'a>(decl: &ArrayDecl, bytes: &'a [u8]) -> &'a [u8]
-    ensures { (t : Tree) (rest : List ℕ) → StandsArray decl.now t bytes.now rest → result.now ≡ rest }
-{
-    let count = elements(decl.dims.items());
-    let (_, first) = split(bytes, counts_width(decl.base));
-    behind_filler(decl.base, count, behind(decl.base, count, first))
-}
+use xdr_values::elements_of;
 
 /// How many elements hyperslabs pick. No array of a response has 2^32.
 fn picked_count(slabs: &[Slab]) -> u32
@@ -138,7 +107,7 @@ pub fn put_array<O: Sink>(
     ensures beside { O.beside_writing out.new ≡ O.beside_writing out.old }
 {
     let count = picked_count(slabs);
-    let (_, first) = split(bytes, counts_width(decl.base));
+    let (first, _) = elements_of(decl, bytes);
     put_counts(buffer, out, decl.base, count)?;
     put_picked(
         buffer,

@@ -7,13 +7,13 @@ ghost use Rattle.dap_model.specs.Rows.{kept};
 ghost use Rattle.dap_model.specs.Xdr as xdr;
 ghost use Rattle.dap_types.specs.Model.{Tree, many, trees_of};
 ghost use Rattle.dap_types.specs.declared.values.Value.{Value};
-ghost use Rattle.saved_source.specs.Walked.{IsValue, StandCells};
+ghost use Rattle.xdr_values.specs.Walked.{IsValue, StandCells};
 ghost use Rattle.sequence_select.specs.Tests.{selection_of, tested};
 
-use crate::value::{first_word, split, value};
 use csv_source::Cell;
 use dap_types::{BaseType, Column};
 use sequence_select::{Test, Tests, holds};
+use xdr_values::{behind_cells, first_word, split, value};
 
 /// The double word that eight bytes are.
 fn first_double(own: &[u8]) -> u64
@@ -50,19 +50,6 @@ fn cell_of(base: BaseType, own: &[u8]) -> Cell<'_>
         BaseType::Float64 => Cell::Bits64(first_double(own)),
         BaseType::Text | BaseType::Url => Cell::Text(text_of(own)),
     }
-}
-
-/// What stands behind the cells of these columns.
-pub fn behind_cells<'a>(columns: &[Column], bytes: &'a [u8]) -> &'a [u8]
-    ensures rest { (cells : List Tree) (rest : List ℕ) → StandCells columns.now cells bytes.now rest → result.now ≡ rest }
-    ensures within { length result.now ≤ length bytes.now }
-{
-    let mut rest = bytes;
-    for column in columns {
-        let (_, behind) = value(column.base, rest);
-        rest = behind;
-    }
-    rest
 }
 
 /// Whether a clause keeps a row of the Sequence that is this member. One on what is no column of it keeps

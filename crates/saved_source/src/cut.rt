@@ -9,13 +9,14 @@ ghost use Rattle.dap_outside.specs.Causes.{HasCause};
 ghost use Rattle.dap_types.specs.Model.{Tree, product};
 ghost use Rattle.dap_types.specs.declared.slabs.Slab.{Slab as SlabValue};
 ghost use Rattle.dap_types.specs.declared.values.Value.{Value};
-ghost use Rattle.saved_source.specs.Walked.{StandElements, StandsNested};
+ghost use Rattle.xdr_values.specs.Walked.{StandElements};
+ghost use Rattle.saved_source.specs.Walked.{StandsNested};
 ghost use Rattle.xdr_decode.specs.inner.Taken.{elements_fields, sizes_of};
 
-use crate::elements::behind;
 use dap_outside::{Buffer, Failed, Sink};
 use dap_types::{BaseType, Dim, Slab};
 use xdr_decode::elements;
+use xdr_values::behind;
 
 /// Whether a hyperslab picks each index of a dimension of this size.
 fn is_whole(slab: &Slab, size: u32) -> bool

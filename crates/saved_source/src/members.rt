@@ -9,17 +9,19 @@ ghost use Rattle.dap_outside.specs.Causes.{HasCause};
 ghost use Rattle.dap_types.specs.Model.{Tree, count, count_all};
 ghost use Rattle.dap_types.specs.View.{member_view, members_view};
 ghost use Rattle.grid_projection.specs.Resolved.{marks_in};
-ghost use Rattle.saved_source.specs.Walked.{StandArrays, StandMembers, StandsArray, StandsMember, array_sent};
+ghost use Rattle.saved_source.specs.Walked.{StandArrays, StandMembers, StandsMember, array_sent};
+ghost use Rattle.xdr_values.specs.Walked.{StandsArray};
 ghost use Rattle.sequence_select.specs.Tests.{tested};
 ghost use Rattle.xdr_encode.specs.Marked.{arrays_sent, member_sent, members_sent};
 
-use crate::arrays::{behind_array, put_array};
+use crate::arrays::put_array;
 use crate::rows::put_rows;
 use crate::scalars::put_marked;
 use dap_outside::{Buffer, Failed, Sink};
 use dap_types::{ArrayDecl, Decl};
 use grid_projection::Marks;
 use sequence_select::Tests;
+use xdr_values::behind_array;
 
 /// Puts what is marked of the array that is this member. The answer is what stands behind it.
 fn put_leaf<'a, O: Sink>(

@@ -8,29 +8,22 @@ ghost use Rattle.dap_outside.specs.Buffered.{Puts};
 ghost use Rattle.dap_outside.specs.Causes.{HasCause};
 ghost use Rattle.dap_types.specs.Model.{Tree};
 ghost use Rattle.grid_projection.specs.Resolved.{marks_in};
-ghost use Rattle.saved_source.specs.Walked.{StandCells, StandRows, cells_sent, row_if_kept, rows_sent};
+ghost use Rattle.xdr_values.specs.Walked.{StandCells, StandRows};
+ghost use Rattle.saved_source.specs.Walked.{cells_sent, row_if_kept, rows_sent};
 ghost use Rattle.sequence_select.specs.Tests.{tested};
 
-use crate::clauses::{behind_cells, keep};
+use crate::clauses::keep;
 use crate::scalars::{is_marked, put_marked};
-use crate::value::split;
 use dap_outside::{Buffer, Failed, Sink};
 use dap_types::Column;
 use grid_projection::Marks;
 use sequence_select::Tests;
+use xdr_values::{behind_cells, behind_rows, is_row, split};
 
 /// The mark before a row of a Sequence.
 const ROW_MARK: [u8; 4] = [0x5a, 0, 0, 0];
 /// The mark behind the rows of a Sequence.
 const END_MARK: [u8; 4] = [0xa5, 0, 0, 0];
-
-/// Whether the mark of a row comes, and not that of the end.
-fn is_row(bytes: &[u8]) -> bool
-    ensures row { (b : ℕ) (more : List ℕ) → bytes.now ≡ b ∷ more → result ≡ (b == 0x5a) }
-    ensures some { result ≡ true → 0 < length bytes.now }
-{
-    !bytes.is_empty() && bytes[0] == 0x5a
-}
 
 /// Whether a column of these is marked, the first being this member.
 fn is_any_marked(marks: &Marks, first: u32, columns: &[Column]) -> bool
@@ -43,17 +36,6 @@ fn is_any_marked(marks: &Marks, first: u32, columns: &[Column]) -> bool
         }
     }
     false
-}
-
-/// What stands behind the rows of a Sequence and the mark of their end.
-fn behind_rows<'a>(columns: &[Column], bytes: &'a [u8]) -> &'a [u8]
-    ensures { (rows : List Tree) (rest : List ℕ) → StandRows columns.now rows bytes.now rest → result.now ≡ rest }
-{
-    let mut rest = bytes;
-    while is_row(rest) {
-        rest = behind_cells(columns, split(rest, 4).1);
-    }
-    split(rest, 4).1
 }
 
 /// Puts the marked cells of a row, the first being this member.

@@ -19,30 +19,43 @@ use std::alloc::Global;
 /// The most bytes of a saved response.
 const MOST: usize = limits::MOST_SAVED;
 
-/// A data response that was saved: the dataset of the response, the bytes of its values, and the name
+/// A data response that was saved: the dataset of the response, the bytes of its file, and the name
 /// of its file. Contracts see the dataset that it is served as by `dataset_in`, and its values by `Holds`.
 #[derive(Debug, Drop)]
 pub struct Saved {
     pub(crate) response: Dataset,
-    pub(crate) values: Bytes,
+    /// The whole file, and the place of the first byte of the values.
+    pub(crate) bytes: Bytes,
+    pub(crate) values_at: usize,
     pub(crate) file_name: Bytes,
 }
 
-fn read(alloc: Global, bytes: &[u8], file_name: &[u8]) -> Result<Saved, SavedRefusal>
-    ensures saved { IfOk result (λ s. (ts : List Tree) × IsSaved bytes.now file_name.now (dataset_in s) ts × Holds s ts) }
+/// The response in the bytes of a file, which it keeps. It says what `read_saved` does, and takes memory
+/// for the dataset and the file's name alone.
+pub fn hold_saved(alloc: Global, bytes: Bytes, file_name: &[u8]) -> Result<Saved, SavedRefusal>
+    ensures saved { IfOk result (λ s. (ts : List Tree) × IsSaved bytes file_name.now (dataset_in s) ts × Holds s ts) }
     ensures well_formed { IfOk result (λ s. IsWellFormed (dataset_in s)) }
-    ensures refused { IfErr result (IsRefusal bytes.now file_name.now) }
+    ensures refused { IfErr result (IsRefusal bytes file_name.now) }
+{
+    if bytes.bytes().len() > MOST {
+        return Err(SavedRefusal::TooLong);
+    }
+    let checked = checked(alloc, bytes.bytes())?;
+    check_names(alloc, file_name, &checked.dataset)?;
+    Ok(Saved {
+        response: checked.dataset,
+        values_at: checked.values_at,
+        bytes,
+        file_name: Bytes::new(alloc, file_name)?,
+    })
+}
+
+fn read(alloc: Global, bytes: &[u8], file_name: &[u8]) -> Result<Saved, SavedRefusal>
 {
     if bytes.len() > MOST {
         return Err(SavedRefusal::TooLong);
     }
-    let checked = checked(alloc, bytes)?;
-    check_names(alloc, file_name, &checked.dataset)?;
-    Ok(Saved {
-        response: checked.dataset,
-        values: Bytes::new(alloc, &bytes[checked.values_at..])?,
-        file_name: Bytes::new(alloc, file_name)?,
-    })
+    hold_saved(alloc, Bytes::new(alloc, bytes)?, file_name)
 }
 
 /// Reads a file that holds a data response (DAP 2.0, DODS). `TooLong` comes where it has more than
@@ -62,6 +75,13 @@ pub fn read_saved(alloc: Global, bytes: &[u8], file_name: &[u8]) -> Result<Saved
 }
 
 impl Saved {
+    /// The bytes of its values.
+    pub(crate) fn values(&self) -> &[u8]
+        ensures { result.now ≡ values_of self.now }
+    {
+        &self.bytes.bytes()[self.values_at..]
+    }
+
     /// The dataset that the file is served as: that of its response, under the names that constraints
     /// spell and the name of the file. Fails where memory is wanted.
     #[tactic(auto, unfolding(crate::specs::Responses::dataset_in))]

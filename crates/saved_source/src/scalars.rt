@@ -6,12 +6,14 @@ ghost use Rattle.dap_outside.specs.Buffered.{Puts};
 ghost use Rattle.dap_outside.specs.Causes.{HasCause};
 ghost use Rattle.dap_types.specs.declared.values.Value.{Value};
 ghost use Rattle.grid_projection.specs.Resolved.{marks_in};
-ghost use Rattle.saved_source.specs.Walked.{StandsValue, value_sent};
+ghost use Rattle.xdr_values.specs.Walked.{StandsValue};
+ghost use Rattle.saved_source.specs.Walked.{value_sent};
 
-use crate::value::{put_value, value};
+use crate::put_value::put_value;
 use dap_outside::{Buffer, Failed, Sink};
 use dap_types::BaseType;
 use grid_projection::Marks;
+use xdr_values::value;
 
 /// Whether this member is a marked leaf.
 pub fn is_marked(marks: &Marks, number: u32) -> bool

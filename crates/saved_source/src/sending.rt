@@ -102,7 +102,7 @@ impl SavedBody {
             tests,
             1,
             saved.response.members.items(),
-            saved.values.bytes(),
+            saved.values(),
         )?;
         buffer.flush(out)
     }

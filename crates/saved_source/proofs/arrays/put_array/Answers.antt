@@ -6,7 +6,7 @@ use Rattle.xdr_decode.specs.inner.Taken.{sizes_of}
 use Rattle.saved_source.specs.Walked.{StandsNested}
 use Rattle.dap_outside.proofs.Passing.{front_as, front_first, front_second, puts_as, puts_failed, puts_two}
 use Rattle.xdr_encode.specs.Leaves.{counts_of, filler_of}
-use Rattle.saved_source.proofs.Cutting.{run}
+use Rattle.xdr_values.proofs.ElementRuns.{run}
 use Rattle.saved_source.proofs.Putting.{nested_stands, picked_long, picked_parts}
 use Rattle.saved_source.proofs.arrays.put_array.Goals as goal
 

@@ -1,7 +1,7 @@
 use Rattle.std.proofs.Common.{◌∙◌, ap}
 use Rattle.std.specs.Int.{w32}
 use mir.Val.{of_z, to_z}
-use Rattle.saved_source.proofs.Values.{double_cell, signed_cell, single_cell, text_cell, unsigned_cell}
+use Rattle.xdr_values.proofs.Values.{double_cell, signed_cell, single_cell, text_cell, unsigned_cell}
 use Rattle.saved_source.proofs.clauses.cell_of.Goals as goal
 
 pub returns-in-Int16 : goal.returns-in-Int16

@@ -1,7 +1,7 @@
 use Rattle.std.proofs.Common.{◌≡◌, ℕ, List, map, take, true}
 use Rattle.dap_types.specs.Model.{Tree, many, trees_of}
 use Rattle.dap_model.specs.Rows.{kept}
-use Rattle.saved_source.specs.Walked.{StandCells}
+use Rattle.xdr_values.specs.Walked.{StandCells}
 use Rattle.sequence_select.specs.Tests.{selection_of}
 use Rattle.saved_source.proofs.clauses.keep.Given as goal
 

@@ -3,7 +3,7 @@ use Rattle.plain_lemmas.proofs.Lists.{drop_here}
 use Rattle.dap_model.specs.Rows.{holds}
 use Rattle.sequence_select.specs.Tests.{selection_of}
 use Rattle.saved_source.proofs.RowClauses.{behind_columns, cell_is, one_clause}
-use Rattle.saved_source.specs.Walked.{StandsValue}
+use Rattle.xdr_values.specs.Walked.{StandsValue}
 use Rattle.saved_source.proofs.clauses.keeps.Goals as goal
 
 pub returns-then-at-columns : goal.returns-then-at-columns

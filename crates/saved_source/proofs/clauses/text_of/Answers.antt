@@ -1,4 +1,4 @@
-use Rattle.saved_source.proofs.Values.{text_there}
+use Rattle.xdr_values.proofs.Values.{text_there}
 use Rattle.saved_source.proofs.clauses.text_of.Goals as goal
 
 pub returns : goal.returns

@@ -3,7 +3,8 @@ use Rattle.dap_types.specs.Model.{Tree}
 use Rattle.dap_model.specs.Xdr.{bytes_of}
 use Rattle.grid_projection.specs.Resolved.{marks_in}
 use Rattle.saved_source.proofs.RowParts.{CellsWay}
-use Rattle.saved_source.specs.Walked.{StandCells, cells_sent}
+use Rattle.xdr_values.specs.Walked.{StandCells}
+use Rattle.saved_source.specs.Walked.{cells_sent}
 use Rattle.saved_source.proofs.rows.put_cells.Given as goal
 
 abbrev pub invariant-loop-k : goal.invariant-loop-k

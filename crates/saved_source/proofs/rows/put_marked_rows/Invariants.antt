@@ -5,7 +5,8 @@ use Rattle.dap_model.specs.Xdr.{bytes_of}
 use Rattle.grid_projection.specs.Resolved.{marks_in}
 use Rattle.sequence_select.specs.Tests.{tested}
 use Rattle.saved_source.proofs.RowParts.{RowsWay}
-use Rattle.saved_source.specs.Walked.{StandRows, rows_sent}
+use Rattle.xdr_values.specs.Walked.{StandRows}
+use Rattle.saved_source.specs.Walked.{rows_sent}
 use Rattle.saved_source.proofs.rows.put_marked_rows.Given as goal
 
 abbrev pub invariant-loop-rest : goal.invariant-loop-rest

@@ -1,0 +1,9 @@
+pub mod ArrayParts
+pub mod EachArray
+pub mod ElementRuns
+pub mod Exact
+pub mod RowParts
+pub mod Splitting
+pub mod TextRuns
+pub mod Values
+pub mod Variables
