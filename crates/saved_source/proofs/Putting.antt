@@ -84,12 +84,11 @@ here_marked marks first k n lt some =
     let m : n - k ≡ suc (n - (k + 1)) = omega arith in
     ap (λ j. one_marked marks (first + k) j) m ∙ ap (λ b. b || one_marked marks ((first + k) + 1) (n - (k + 1))) some
 
--- the elements of an array stand behind its counts
-pub nested_stands : (a : ArrayDecl) (slabs : List Slab) (t : Tree) (bytes rest first : List ℕ) (width : ℕ) → StandsArray a t bytes rest → AreWithin slabs (sizes a) → ((n : ℕ) → width ≡ length (counts_of a.base n)) → TellsRest bytes width first
-    → StandsNested a.base (sizes a) slabs t first (filler_of a.base (product (sizes a)) ++ rest)
-nested_stands a slabs t bytes rest first width st within width_is rests =
+-- the elements of an array stand in their own bytes
+pub nested_stands : (a : ArrayDecl) (slabs : List Slab) (t : Tree) (bytes rest own : List ℕ) → StandsArray a t bytes rest → AreWithin slabs (sizes a) → own ≡ bytes_of (elements_fields a.base (values_in t)) → StandsNested a.base (sizes a) slabs t own []
+nested_stands a slabs t bytes rest own st within is =
     let p = array_parts a t bytes rest st in
-    record { fit = p.fit; within = within; few = p.few; parts = rests (counts_of a.base (product (sizes a))) _ p.parts (sym (width_is (product (sizes a)))) }
+    record { fit = p.fit; within = within; few = p.few; parts = is ∙ sym (append-nil (bytes_of (elements_fields a.base (values_in t)))) }
 
 -- ---- hyperslabs that pick all
 pub whole_picked : (base : BaseType) (ns : List ℕ) (slabs : List Slab) (t : Tree) (bytes rest : List ℕ) → slabs ≡ whole_slabs ns → StandsNested base ns slabs t bytes rest → bytes_of (elements_fields base (values_in t)) ≡ bytes_of (elements_fields base (values_in (cut slabs t)))

@@ -18,7 +18,7 @@ use Rattle.xdr_encode.specs.Marked.{members_sent}
 use Rattle.saved_source.proofs.Bodies.{suits_response, whole_text}
 use Rattle.saved_source.proofs.Renaming.{same_counts}
 use Rattle.saved_source.specs.Bodies.{Sends, filtered_body}
-use Rattle.saved_source.specs.Responses.{Holds, dataset_in}
+use Rattle.saved_source.specs.Responses.{Holds, dataset_in, values_of}
 use Rattle.saved_source.specs.Walked.{StandMembers}
 use Rattle.saved_source.specs.declared.body.SavedBody.{SavedBody}
 use Rattle.saved_source.specs.declared.saved.Saved.{Saved}
@@ -50,13 +50,13 @@ pub record Told (b : SavedBody) (text : List ℕ) (decls : List Decl) (bytes : L
   pub stand : StandMembers (marks_in b.marks) 1 (members_view decls) values bytes []
   pub parts : text ≡ b.head ++ bytes_of (members_sent (marks_in b.marks) (kept (tested b.tests)) 1 (members_view decls) values)
 
-pub told : (b : SavedBody) (text : List ℕ) (decls : List Decl) (bytes : List ℕ) → decls ≡ b.saved.response.members → bytes ≡ b.saved.values → Sends b text → Told b text decls bytes
+pub told : (b : SavedBody) (text : List ℕ) (decls : List Decl) (bytes : List ℕ) → decls ≡ b.saved.response.members → bytes ≡ values_of b.saved → Sends b text → Told b text decls bytes
 unfolding Sends Holds
 told b text decls bytes decls_are bytes_are s = record {
   values = s.values;
   stand = subst (λ ds. StandMembers (marks_in b.marks) 1 (members_view ds) s.values bytes []) (sym decls_are)
       (subst (λ l. StandMembers (marks_in b.marks) 1 (members_view b.saved.response.members) s.values l []) (sym bytes_are)
-      (record { fit = s.holds.fit; suits = s.suits; spelt = (b.saved.values, sym (append-nil b.saved.values), s.holds.spelled) }));
+      (record { fit = s.holds.fit; suits = s.suits; spelt = (values_of b.saved, sym (append-nil (values_of b.saved)), s.holds.spelled) }));
   parts = s.parts ∙ ap (λ ds. b.head ++ bytes_of (members_sent (marks_in b.marks) (kept (tested b.tests)) 1 (members_view ds) s.values)) (sym decls_are);
 }
 

@@ -1,6 +1,6 @@
 //! Single values on their way to a sink.
 
-ghost use Rattle.std.specs.Prelude.{ℕ, List};
+ghost use Rattle.std.specs.Prelude.{◌≡◌, ℕ, List};
 ghost use Rattle.dap_model.specs.Xdr as xdr;
 ghost use Rattle.dap_outside.specs.Buffered.{Puts};
 ghost use Rattle.dap_outside.specs.Causes.{HasCause};

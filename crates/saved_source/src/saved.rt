@@ -5,7 +5,7 @@ ghost use Rattle.dap_types.specs.View.{dataset_view};
 ghost use Rattle.dap_types.specs.WellFormed.{IsWellFormed};
 ghost use Rattle.saved_source.specs.Refusals.{IsRefusal};
 ghost use Rattle.das_text.specs.View.{attributes_view};
-ghost use Rattle.saved_source.specs.Responses.{Holds, IsSaved, dataset_in, saved_attributes};
+ghost use Rattle.saved_source.specs.Responses.{Holds, IsSaved, dataset_in, saved_attributes, values_of};
 
 use crate::containers::empty_containers;
 use crate::names::check_names;
@@ -37,25 +37,32 @@ pub fn hold_saved(alloc: Global, bytes: Bytes, file_name: &[u8]) -> Result<Saved
     ensures well_formed { IfOk result (λ s. IsWellFormed (dataset_in s)) }
     ensures refused { IfErr result (IsRefusal bytes file_name.now) }
 {
-    if bytes.bytes().len() > MOST {
+    let whole = bytes.bytes();
+    if whole.len() > MOST {
         return Err(SavedRefusal::TooLong);
     }
-    let checked = checked(alloc, bytes.bytes())?;
+    let checked = checked(alloc, whole)?;
     check_names(alloc, file_name, &checked.dataset)?;
+    let name = Bytes::new(alloc, file_name)?;
     Ok(Saved {
         response: checked.dataset,
-        values_at: checked.values_at,
         bytes,
-        file_name: Bytes::new(alloc, file_name)?,
+        values_at: checked.values_at,
+        file_name: name,
     })
 }
 
+/// The response in a copy of these bytes, of which there are not too many.
 fn read(alloc: Global, bytes: &[u8], file_name: &[u8]) -> Result<Saved, SavedRefusal>
+    ensures saved { IfOk result (λ s. (ts : List Tree) × IsSaved bytes.now file_name.now (dataset_in s) ts × Holds s ts) }
+    ensures well_formed { IfOk result (λ s. IsWellFormed (dataset_in s)) }
+    ensures refused { IfErr result (IsRefusal bytes.now file_name.now) }
 {
     if bytes.len() > MOST {
         return Err(SavedRefusal::TooLong);
     }
-    hold_saved(alloc, Bytes::new(alloc, bytes)?, file_name)
+    let copy = Bytes::new(alloc, bytes)?;
+    hold_saved(alloc, copy, file_name)
 }
 
 /// Reads a file that holds a data response (DAP 2.0, DODS). `TooLong` comes where it has more than
@@ -79,7 +86,8 @@ impl Saved {
     pub(crate) fn values(&self) -> &[u8]
         ensures { result.now ≡ values_of self.now }
     {
-        &self.bytes.bytes()[self.values_at..]
+        let bytes = self.bytes.bytes();
+        &bytes[self.values_at.min(bytes.len())..]
     }
 
     /// The dataset that the file is served as: that of its response, under the names that constraints

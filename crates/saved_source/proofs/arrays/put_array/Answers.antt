@@ -1,7 +1,6 @@
-use Rattle.std.proofs.Common.{◌++◌, subst, sym}
+use Rattle.std.proofs.Common.{[], ◌++◌, subst, sym}
 use Rattle.dap_model.specs.Cutting.{cut}
 use Rattle.dap_model.specs.Fits.{values_in}
-use Rattle.dap_types.specs.Model.{product, sizes}
 use Rattle.xdr_decode.specs.inner.Taken.{sizes_of}
 use Rattle.saved_source.specs.Walked.{StandsNested}
 use Rattle.dap_outside.proofs.Passing.{front_as, front_first, front_second, puts_as, puts_failed, puts_two}
@@ -25,8 +24,8 @@ returns-in_err-put_picked-clause-puts g c = λ t rest st within.
     let count = c.picked_count-count.result in
     let vs = values_in (cut c.args.slabs.now t) in
     let long = picked_long a c.args.slabs.now t c.args.bytes.now rest count st within c.picked_count-count.ensures in
-    let stands = subst (λ ds. StandsNested a.base (sizes_of ds) c.args.slabs.now t c.split.result.1.now (filler_of a.base (product (sizes a)) ++ rest)) (sym c.items.ensures)
-    (nested_stands a c.args.slabs.now t c.args.bytes.now rest c.split.result.1.now c.counts_width.result st within c.counts_width.ensures c.split.ensures.rest) in
+    let stands = subst (λ ds. StandsNested a.base (sizes_of ds) c.args.slabs.now t c.elements_of.result.0.now []) (sym c.items.ensures)
+    (nested_stands a c.args.slabs.now t c.args.bytes.now rest c.elements_of.result.0.now st within (c.elements_of.ensures.own t rest st)) in
     puts_failed c.from_residual-in_err-put_picked.result _ _ _ _ _ c.from_residual-in_err-put_picked.ensures.0
     (front_as _ _ _ _ _ (sym (picked_parts a.base vs count long))
     (front_second _ _ _ _ _ (counts_of a.base count) (run a.base vs ++ filler_of a.base count) c.in_ok-put_counts.ensures.puts
@@ -38,8 +37,8 @@ returns-clause-puts g c = λ t rest st within.
     let count = c.picked_count-count.result in
     let vs = values_in (cut c.args.slabs.now t) in
     let long = picked_long a c.args.slabs.now t c.args.bytes.now rest count st within c.picked_count-count.ensures in
-    let stands = subst (λ ds. StandsNested a.base (sizes_of ds) c.args.slabs.now t c.split.result.1.now (filler_of a.base (product (sizes a)) ++ rest)) (sym c.items.ensures)
-    (nested_stands a c.args.slabs.now t c.args.bytes.now rest c.split.result.1.now c.counts_width.result st within c.counts_width.ensures c.split.ensures.rest) in
+    let stands = subst (λ ds. StandsNested a.base (sizes_of ds) c.args.slabs.now t c.elements_of.result.0.now []) (sym c.items.ensures)
+    (nested_stands a c.args.slabs.now t c.args.bytes.now rest c.elements_of.result.0.now st within (c.elements_of.ensures.own t rest st)) in
     puts_as c.put_filler.result _ _ _ _ _ _ (sym (picked_parts a.base vs count long))
     (puts_two c.put_filler.result _ _ _ _ _ _ (counts_of a.base count) (run a.base vs ++ filler_of a.base count) c.in_ok-put_counts.ensures.puts
     (puts_two c.put_filler.result _ _ _ _ _ _ (run a.base vs) (filler_of a.base count) (c.in_ok-put_picked.ensures.puts t _ stands long) c.put_filler.ensures.puts))
