@@ -10,7 +10,7 @@ use Rattle.dap_http.specs.declared.kind.Kind.TheVariants.{Dods}
 use Rattle.dap_outside.specs.Files.{Told}
 use Rattle.dap_server.proofs.Lying.{some_files}
 use Rattle.dap_server.specs.Costs.{IsCost, IsCostAt, most_first}
-use Rattle.dap_server.specs.Files.{Form, form_of, is_read_first, joined, netcdf, saved, table}
+use Rattle.dap_server.specs.Files.{Form, IsOneFile, form_of, is_read_first, joined, netcdf, saved, table}
 use Rattle.dap_server.specs.Prepared.{IsOver, MayGive, MustGive}
 use Rattle.dap_server.specs.Results.{AnswersAmong, Text, error_object, result_text}
 use Rattle.dap_server.specs.Steps.{found_or}
@@ -163,6 +163,11 @@ late target a is is_dods is_netcdf = rw (is, is_dods, is_netcdf) refl
 
 late_join : (target : List ℕ) (a : Asked) → target_of target ≡ Some a → a.kind ≡ Dods → form_of a.name ≡ Some joined → is_read_late target ≡ true
 late_join target a is is_dods is_joined = rw (is, is_dods, is_joined) refl
+
+-- a netCDF file or a table has a form
+pub has_form : (o : Option Form) → IsOneFile o → IsTrue (is_some o)
+has_form o (inl is) = ap is_some is
+has_form o (inr is) = ap is_some is
 
 looks : (target : List ℕ) (a : Asked) → target_of target ≡ Some a → a.kind ≡ Dods → IsTrue (is_some (form_of a.name)) → IsTrue (looks_up target)
 looks target a is is_dods has = rw (is, is_dods) has
