@@ -66,7 +66,7 @@ module _ (target : List ℕ) (files : Files) (r : Result Text Cause) (has : HasR
     no_fault = λ input gained served all before after t parts gets.
         let j : ℕ = length before + 1 in
         let at = reached-all files 1 j input all.replies.behind before after t (omega arith) (subst (λ (l : List Turn). Requests 1 input (heads l) all.replies.behind) parts all.replies.requests)
-            (subst (λ (l : List Turn). AreAnswered files 1 l) parts all.replies.answered) in
+        (subst (λ (l : List Turn). AreAnswered files 1 l) parts all.replies.answered) in
         record {
           rest = replies (j + 1) after ++ all.tail;
           stands = all.gained_is ∙ ap (λ (l : List ℕ). l ++ all.tail) (all.replies.are_these ∙ ap (λ (l : List Turn). replies 1 l) parts)
