@@ -44,7 +44,7 @@ head-answer told q a front s z result head is served target puts (text, may) sam
       gives told q a _ served target may,
       reply-known told q (Ok (result_text Dods text)) s.written z.written result put,
       calm _ _ s.faults z.faults (omega (arith, none)) same,
-      (0, subst (λ (values : Bool). MatchBool values (IsCost told a 0) (0 ≡ 0)) (sym (ap not head)) refl, omega (arith, few)),
+      (0, subst (λ (values : Bool). MatchBool values (IsCost told a 0) (◌≡◌ {A = ℕ} 0 0)) (sym (ap not head)) refl, omega (arith, few)),
     )
 
 -- behind the first read of its file

@@ -74,7 +74,7 @@ pub free-asks : (told : Told) (q : Request) (a : Asked) (answer : Result Text Ca
     → (n : ℕ) × MayAsk told q answer n × (asked' ≤ asked + n)
 free-asks told q a answer asked asked' served target free few = first-asks told q a answer asked asked' served target (by (sends_values q answer)) few
   where
-    by : (values : Bool) → MatchBool values (IsCost told a 0) (0 ≡ 0)
+    by : (values : Bool) → MatchBool values (IsCost told a 0) (◌≡◌ {A = ℕ} 0 0)
     by true = free
     by false = refl
 
@@ -119,7 +119,7 @@ pub memory-turn : (n before : ℕ) (told : Told) (kept rest taken : List ℕ) (l
 memory-turn n before told kept rest taken l l1 l2 w w1 w2 f s ended tree h bytes served first is consumes sl sw e (inl (so, appends)) =
     let q : Request = request (n + 1) tree in
     let text : bytes ≡ reply_of q (Err OutOfMemory) = e ∙ memory-reply q h is in
-    let (m, may) = least-asked told (target_of tree.target) OutOfMemory in
+    let (m, may) = least-asked told q OutOfMemory in
     let put : Appends w w2 (reply_of q (Err OutOfMemory)) = subst (λ o. Appends o w2 (reply_of q (Err OutOfMemory))) sw (subst (Appends w1 w2) text appends) in
     subst (ServesFrom n before told kept l l2 (stand w f s) (stand w2 f s) ended) (sym so)
     (one-turn n before told kept rest taken l l2 (stand w f s) (stand w2 f s) ended tree (answered.Whole 503 true) (subst (λ o. Consumes l o taken) (sym sl) consumes) first
@@ -127,7 +127,7 @@ memory-turn n before told kept rest taken l l1 l2 w w1 w2 f s ended tree h bytes
 memory-turn n before told kept rest taken l l1 l2 w w1 w2 f s ended tree h bytes served first is consumes sl sw e (inr (so, (part, (more, some, cut), appends))) =
     let q : Request = request (n + 1) tree in
     let text : bytes ≡ reply_of q (Err OutOfMemory) = e ∙ memory-reply q h is in
-    let (m, may) = least-asked told (target_of tree.target) OutOfMemory in
+    let (m, may) = least-asked told q OutOfMemory in
     let put : Appends w w2 part = subst (λ o. Appends o w2 part) sw appends in
     subst (ServesFrom n before told kept l l2 (stand w f s) (stand w2 f s) ended) (sym so)
     (one-turn n before told kept rest taken l l2 (stand w f s) (stand w2 f s) ended tree answered.WriteFault (subst (λ o. Consumes l o taken) (sym sl) consumes) first
