@@ -164,18 +164,18 @@ served_is_good files taken ended c served hold s before after t text parts get i
 
 -- ---- in a run without a fault
 
-record ReachedAll (files : Files) (j : ℕ) (after : List Turn) (t : Turn) : Type 0 where
-  bytes : List ℕ
-  rest : List ℕ
-  first : FirstRequest bytes t.head rest
-  answers : IsRequestAnswered files (request j t.head) t.answer
-  ends : ends_connection j t.head ≡ true → after ≡ []
+pub record ReachedAll (files : Files) (j : ℕ) (after : List Turn) (t : Turn) : Type 0 where
+  pub bytes : List ℕ
+  pub rest : List ℕ
+  pub first : FirstRequest bytes t.head rest
+  pub answers : IsRequestAnswered files (request j t.head) t.answer
+  pub ends : ends_connection j t.head ≡ true → after ≡ []
 
 no-heads : (turns : List Turn) → heads turns ≡ [] → turns ≡ []
 no-heads [] e = refl
 no-heads (t ∷ turns) e = cc e
 
-reached-all : (files : Files) (k j : ℕ) (bytes left : List ℕ) (before after : List Turn) (t : Turn) → j ≡ k + length before → Requests k bytes (heads (before ++ t ∷ after)) left → AreAnswered files k (before ++ t ∷ after)
+pub reached-all : (files : Files) (k j : ℕ) (bytes left : List ℕ) (before after : List Turn) (t : Turn) → j ≡ k + length before → Requests k bytes (heads (before ++ t ∷ after)) left → AreAnswered files k (before ++ t ∷ after)
     → ReachedAll files j after t
 reached-all files k j bytes left [] after t e (rest, first, next) (answers, others) =
     let same : k ≡ j = omega (arith, e) in

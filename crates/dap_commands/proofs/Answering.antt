@@ -9,12 +9,13 @@ use Rattle.dap_http.specs.Targets.{Asked, target_of}
 use Rattle.dap_http.specs.declared.kind.Kind.TheVariants.{Dods}
 use Rattle.dap_outside.specs.Files.{Told}
 use Rattle.dap_server.proofs.Lying.{some_files}
+use Rattle.dap_server.specs.Connections.{is_read_late}
 use Rattle.dap_server.specs.Costs.{IsCost, IsCostAt, most_first}
-use Rattle.dap_server.specs.Files.{Form, form_of, is_read_first, joined, netcdf, saved, table}
+use Rattle.dap_server.specs.Files.{Form, IsOneFile, form_of, is_read_first, joined, netcdf, saved, table}
 use Rattle.dap_server.specs.Prepared.{IsOver, MayGive, MustGive}
 use Rattle.dap_server.specs.Results.{AnswersAmong, Text, error_object, result_text}
 use Rattle.dap_server.specs.Steps.{found_or}
-use Rattle.dap_commands.specs.Answer.{AnswerSays, HasNoText, MayAskAs, MayAskFor, MayHaveAsked, MayResult, MustResult, WhereKnown, is_read_late, looks_up, most_before, status_of_cause}
+use Rattle.dap_commands.specs.Answer.{AnswerSays, HasNoText, MayAskAs, MayAskFor, MayHaveAsked, MayResult, MustResult, WhereKnown, looks_up, most_before, status_of_cause}
 use Rattle.dap_commands.specs.inner.Puts.{BodyPut, IsPut, RefusalPut, TextPut, start_of}
 use Rattle.dap_commands.specs.Lines.{cause_line, damaged_line, line_of, refused_line}
 use Rattle.dap_commands.specs.Words.{AreAnswer}
@@ -158,17 +159,22 @@ pub refuse_says : (told : Told) (target : List ℕ) (Out Front Line : List ℕ �
 refuse_says = refusal_says
 
 -- nothing is said of data that is read from a netCDF file which is not told
-late : (target : List ℕ) (a : Asked) → target_of target ≡ Some a → a.kind ≡ Dods → form_of a.name ≡ Some netcdf → is_read_late target ≡ true
-late target a is is_dods is_netcdf = rw (is, is_dods, is_netcdf) refl
+late : (target : List ℕ) (a : Asked) → target_of target ≡ Some a → form_of a.name ≡ Some netcdf → is_read_late target ≡ true
+late target a is is_netcdf = rw (is, is_netcdf) refl
 
-late_join : (target : List ℕ) (a : Asked) → target_of target ≡ Some a → a.kind ≡ Dods → form_of a.name ≡ Some joined → is_read_late target ≡ true
-late_join target a is is_dods is_joined = rw (is, is_dods, is_joined) refl
+late_join : (target : List ℕ) (a : Asked) → target_of target ≡ Some a → form_of a.name ≡ Some joined → is_read_late target ≡ true
+late_join target a is is_joined = rw (is, is_joined) refl
+
+-- a netCDF file or a table has a form
+pub has_form : (o : Option Form) → IsOneFile o → IsTrue (is_some o)
+has_form o (inl is) = ap is_some is
+has_form o (inr is) = ap is_some is
 
 looks : (target : List ℕ) (a : Asked) → target_of target ≡ Some a → a.kind ≡ Dods → IsTrue (is_some (form_of a.name)) → IsTrue (looks_up target)
 looks target a is is_dods has = rw (is, is_dods) has
 
-hidden_none : (target : List ℕ) (t : Text) → is_read_late target ≡ true → (P : Type 0) → WhereKnown None target (Ok t) P
-hidden_none target t is_late P = λ early. cc (is_late, early)
+hidden_none : (target text : List ℕ) → is_read_late target ≡ true → (P : Type 0) → WhereKnown None target (Ok (result_text Dods text)) P
+hidden_none target text is_late P = λ early. cc (is_late, early)
 
 abbrev Body : Type 0
 Body = List ℕ → List ℕ
@@ -196,10 +202,10 @@ body_says None target Out Front Line a content text_over status is is_dods has o
         known_says None target Out Front Line (text_over []) status (looks target a is is_dods has) (may_result None target a _ is (over [] (inr first))) (alone first [])
     by_form (Some joined) e =
         hidden_says None target Out Front Line accepted.0 status (looks target a is is_dods has) (may_result None target a _ is accepted.1)
-        (hidden_none target (result_text Dods accepted.0) (late_join target a is is_dods e)) is_put
+        (hidden_none target accepted.0 (late_join target a is e)) is_put
     by_form (Some netcdf) e =
         hidden_says None target Out Front Line accepted.0 status (looks target a is is_dods has) (may_result None target a _ is accepted.1)
-        (hidden_none target (result_text Dods accepted.0) (late target a is is_dods e)) is_put
+        (hidden_none target accepted.0 (late target a is e)) is_put
 
 -- the body of joined files
 pub joined_says : (told : Told) (target : List ℕ) (Out Front Line : List ℕ → Type 0) (a : Asked) (AreThese : List (List ℕ) → Type 0) (text_over : List (List ℕ) → List ℕ) (status : Status)
@@ -211,7 +217,7 @@ pub joined_says : (told : Told) (target : List ℕ) (Out Front Line : List ℕ �
     → IsPut status → AnswerSays told target Out Front Line status
 joined_says None target Out Front Line a AreThese text_over status is (is_dods, form) over accepted tells put is_put =
     hidden_says None target Out Front Line accepted.0 status (looks target a is is_dods (ap is_some form)) (may_result None target a _ is accepted.1)
-    (hidden_none target (result_text Dods accepted.0) (late_join target a is is_dods form)) is_put
+    (hidden_none target accepted.0 (late_join target a is form)) is_put
 joined_says (Some files) target Out Front Line a AreThese text_over status is (is_dods, form) over accepted tells put is_put =
     let (contents, these) = tells refl in
     known_says (Some files) target Out Front Line (text_over contents) status (looks target a is is_dods (ap is_some form)) (may_result (Some files) target a _ is (over contents these)) (put contents these)

@@ -2,13 +2,15 @@
 use Rattle.std.proofs.Common.{◌≡◌, ℕ, ◌+◌, inl, inr, Bool, true, false, List, ◌++◌, length, Some, MatchBool, Result, ap, ◌∙◌, subst, arith, append_assoc}
 use Rattle.dap_errors.specs.declared.cause.Cause.{Cause}
 use Rattle.dap_http.specs.Frames.{IsProperFront}
+use Rattle.dap_http.specs.Requests.{Requests}
+use Rattle.dap_server.proofs.WholeConnections.{heads}
 use Rattle.dap_server.specs.Connections.{AreTurns, Behind, IsClosed, MayAnswer, Stops, behind_text, ends_after, part_of_reply}
 use Rattle.dap_server.specs.Files.{Files}
-use Rattle.dap_server.specs.Replies.{IsRequestAnsweredAmong, Turn, replies, reply_of, request}
+use Rattle.dap_server.specs.Replies.{AreAnswered, IsRequestAnsweredAmong, Turn, replies, reply_of, request}
 use Rattle.dap_server.specs.Results.{Text}
 use Rattle.dap_server.specs.declared.served.Ending.{Ending}
 use Rattle.dap_server.specs.declared.served.Ending.TheVariants.{Closed, Gone, ReadFault, WriteFault, Broken}
-use Rattle.both_ends.proofs.Standing.{reached, replies-split}
+use Rattle.both_ends.proofs.Standing.{reached, reached-all, replies-split}
 use Rattle.both_ends.specs.Ends.{reply_behind}
 use Rattle.dap_commands.specs.ServerHalf.{AnswersGet, Gets, HasResult, IsOrFailed}
 
@@ -61,4 +63,16 @@ module _ (target : List ℕ) (files : Files) (r : Result Text Cause) (has : HasR
     broken_off = λ taken ended c served is t part same gets.
         ends-off (ends_after false 1 c.turns) c.turns t (1 + length c.turns) part c.left ended served.ending (omega arith) gets
         (subst (λ (b : Behind). MatchBool (ends_after false 1 c.turns) (IsClosed served.ending b) (Stops (Some files) (1 + length c.turns) c.left ended served.ending b)) same is.ends);
+    no_fault = λ input gained served all before after t parts gets.
+        let j : ℕ = length before + 1 in
+        let at = reached-all files 1 j input all.replies.behind before after t (omega arith) (subst (λ (l : List Turn). Requests 1 input (heads l) all.replies.behind) parts all.replies.requests)
+        (subst (λ (l : List Turn). AreAnswered files 1 l) parts all.replies.answered) in
+        record {
+          rest = replies (j + 1) after ++ all.tail;
+          stands = all.gained_is ∙ ap (λ (l : List ℕ). l ++ all.tail) (all.replies.are_these ∙ ap (λ (l : List Turn). replies 1 l) parts)
+              ∙ ap (λ (l : List ℕ). l ++ all.tail) (replies-split 1 j before after t (omega arith))
+              ∙ append_assoc (replies 1 before) (reply_behind before t ++ replies (j + 1) after) all.tail
+              ∙ ap (λ (l : List ℕ). replies 1 before ++ l) (append_assoc (reply_behind before t) (replies (j + 1) after) all.tail);
+          answer = has.get j t.head t.answer gets.0 gets.1 at.answers;
+        };
   }

@@ -1,6 +1,6 @@
 -- What the command `answer` says: the result of a target, by its text or by the Error object for its first
 -- cause. Where a shelf does not tell its files, it may have any.
-use Rattle.std.specs.Prelude.{◌≡◌, ℕ, ◌+◌, ◌≤◌, ◌⊎◌, ⊤, Bool, true, false, ◌&&◌, List, [], Option, Some, None, IsTrue, Result, Ok, Err}
+use Rattle.std.specs.Prelude.{◌≡◌, ℕ, ◌+◌, ◌≤◌, ◌⊎◌, ⊤, Bool, false, ◌&&◌, List, [], Option, Some, None, IsTrue, Result, Ok, Err}
 use Rattle.std.specs.Option.{option_map_or}
 use Rattle.dap_errors.specs.Causes.{message_text}
 use Rattle.dap_errors.specs.declared.cause.Cause.{Cause}
@@ -10,8 +10,9 @@ use Rattle.dap_http.specs.Sent.{is_data}
 use Rattle.dap_http.specs.Targets.{Asked, target_of}
 use Rattle.dap_http.specs.declared.kind.Kind.TheVariants.{Dods}
 use Rattle.dap_outside.specs.Files.{Told}
+use Rattle.dap_server.specs.Connections.{is_read_late}
 use Rattle.dap_server.specs.Costs.{IsCost, IsCostAt, asks_shelf, most_first}
-use Rattle.dap_server.specs.Files.{Files, Form, MayHave, form_of, joined, netcdf, saved, table}
+use Rattle.dap_server.specs.Files.{Files, MayHave}
 use Rattle.dap_server.specs.Prepared.{MayGive}
 use Rattle.dap_server.specs.Results.{ResultsAmong, Text, error_object, put_of, result_text}
 use Rattle.xdr_encode.specs.Streamed.{Stops}
@@ -62,23 +63,12 @@ status_of_result (Err cause) = status_of_cause cause
 abbrev pub looks_up : List ℕ → Bool
 looks_up target = option_map_or asks_shelf (target_of target) false
 
--- a netCDF file, or those that a list names
-abbrev pub has_netcdf : Option Form → Bool
-has_netcdf (Some netcdf) = true
-has_netcdf (Some table) = false
-has_netcdf (Some saved) = false
-has_netcdf (Some joined) = true
-has_netcdf None = false
-
--- the values of netCDF files are read as they are put, all else before
-abbrev pub is_read_late : List ℕ → Bool
-is_read_late target = option_map_or (λ a. is_data a.kind && has_netcdf (form_of a.name)) (target_of target) false
-
--- what is put of an answer is known where the files are told; else where it was read before
+-- what is put of an answer is known where the files are told; else where it was read before, as all but the values of
+-- netCDF files is
 abbrev pub WhereKnown : Told → List ℕ → Result Text Cause → Type 0 → Type 0
 WhereKnown (Some files) target r P = P
 WhereKnown None target (Err cause) P = P
-WhereKnown None target (Ok t) P = is_read_late target ≡ false → P
+WhereKnown None target (Ok t) P = (is_data t.kind && is_read_late target) ≡ false → P
 
 -- by the status: what was put of which result, whole or a front of it, and the line that says a cause
 abbrev pub AnswerSays : Told → List ℕ → (List ℕ → Type 0) → (List ℕ → Type 0) → (List ℕ → Type 0) → Status → Type 0

@@ -1,13 +1,15 @@
 -- What one end of the program writes the other calls good, over the bytes that were written.
-use Rattle.std.specs.Prelude.{◌≡◌, ℕ, ◌<◌, List, [], length, Option, Some, Ok}
+use Rattle.std.specs.Prelude.{◌≡◌, ◌≢◌, ℕ, ◌<◌, List, [], length, Option, Some, Ok}
 use Rattle.std.specs.Io.KnownBytes.{Appends}
 use Rattle.dap_types.specs.Limits.{body_limit}
+use Rattle.dap_outside.specs.Causes.{Rose}
 use Rattle.dap_outside.specs.Links.{LinkState}
 use Rattle.dap_http.specs.Targets.{target_of}
 use Rattle.dap_http.specs.declared.kind.Kind.TheVariants.{Dods}
 use Rattle.dap_server.specs.Connections.{put_from}
 use Rattle.dap_server.specs.Files.{Files, form_of, front, netcdf}
 use Rattle.dap_server.specs.Results.{Results, result_text}
+use Rattle.dap_server.specs.Whole.{AnswersAll}
 use Rattle.netcdf_source.specs.Header.{IsHeader}
 use Rattle.netcdf_source.specs.Mapping.{dataset_of}
 use Rattle.netcdf_source.specs.Values.{file_trees}
@@ -26,11 +28,22 @@ abbrev pub AnsweredIsGood : Type 0
 AnsweredIsGood = (target name query : List ℕ) (files : Files) (a : Answering) → target_of target ≡ Some (record { name = name; kind = Dods; query = query }) → HoldBytes files → Says target files a Complete
     → (text : List ℕ) × Appends a.puts.out a.puts.out_then text × (length text < body_limit → IsGoodResult target files text)
 
--- Each link that `serve` has handed back gained the replies to its requests, and each of them that answers GET with
--- such a data response is good where it stands there.
+-- A link gained the replies to its requests, and each of them that answers GET with such a data response is good where it
+-- stands there.
+abbrev pub IsGoodVisit : {W : Type 0} → Files → (W → LinkState) → Visit W → Type 0
+IsGoodVisit files state v = Appends (state v.came).written (state v.back).written (put_from 1 v.connection) × StandGood files (put_from 1 v.connection) v.connection.turns
+
+-- Where the input of the link is told, no count of it rose and memory was had, it gained the replies to all its requests,
+-- and they are good so.
+abbrev pub IsWholeGoodVisit : {W : Type 0} → Files → (W → LinkState) → Visit W → Type 0
+IsWholeGoodVisit files state v =
+    (input : List ℕ) → (state v.came).left ≡ Some input
+    → ¬ (Rose (state v.came).take_faults (state v.back).take_faults) → ¬ (Rose (state v.came).put_faults (state v.back).put_faults) → v.served.status ≢ 503
+    → (gained : List ℕ) × Appends (state v.came).written (state v.back).written gained × ((all : AnswersAll input files gained v.served) × StandGood files gained all.replies.turns)
+
+-- each link that `serve` has handed back, over a shelf that tells these files
 abbrev pub VisitsAreGood : Type 0 → Type 0
-VisitsAreGood W = (files : Files) (state : W → LinkState) (v : Visit W) → HoldBytes files → IsVisit (Some files) state v
-    → Appends (state v.came).written (state v.back).written (put_from 1 v.connection) × StandGood files (put_from 1 v.connection) v.connection.turns
+VisitsAreGood W = (files : Files) (state : W → LinkState) (v : Visit W) → HoldBytes files → IsVisit (Some files) state v → IsGoodVisit files state v
 
 -- a target asks for all of a netCDF file of that name
 pub record AsksFile (target name file : List ℕ) (files : Files) : Type 0 where

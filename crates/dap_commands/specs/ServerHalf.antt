@@ -25,6 +25,7 @@ use Rattle.dap_server.specs.Connections.{Connection, part_of_reply, put_from}
 use Rattle.dap_server.specs.Connections as connections
 use Rattle.dap_server.specs.Files.{Files, Stored}
 use Rattle.dap_server.specs.Replies.{IsRequestAnswered, Turn, replies, reply_of, request}
+use Rattle.dap_server.specs.Whole.{AnswersAll}
 use Rattle.dap_server.specs.Results.{Opens, Results, Text, error_object, left_of, result_text}
 use Rattle.dap_server.specs.declared.served.Served.{Served}
 use Rattle.both_ends.specs.Ends.{reply_behind}
@@ -105,18 +106,27 @@ pub record StandsAnswered (put : List ℕ) (before : List Turn) (t : Turn) (r : 
   pub stands : put ≡ replies 1 before ++ (reply_behind before t ++ rest)
   pub answer : IsOrFailed r t.answer
 
+-- A turn has this answer and no other, and its reply stands in what was put right behind those of the turns before it.
+pub record StandsWhole (put : List ℕ) (before : List Turn) (t : Turn) (r : Result Text Cause) : Type 0 where
+  pub rest : List ℕ
+  pub stands : put ≡ replies 1 before ++ (reply_behind before t ++ rest)
+  pub answer : t.answer ≡ r
+
 -- a turn whose request is GET for the target
 abbrev pub Gets : List ℕ → Turn → Type 0
 Gets target t = (t.head.method ≡ codes "GET") × (t.head.target ≡ target)
 
 -- In every run of `serve_connection` over a shelf that tells these files, by its clause `served`: each turn that gets
--- the target is answered so, and so is one whose reply broke off.
+-- the target is answered so, and so is one whose reply broke off. Where no fault came and memory was had, by its clause
+-- `no_fault`, the turns are those of all requests of the input, and each that gets the target has this answer.
 pub record AnswersGet (target : List ℕ) (files : Files) (r : Result Text Cause) : Type 0 where
   pub whole : (taken : List ℕ) (ended : Bool) (c : Connection) (served : Served) → connections.IsConnectionServed (Some files) taken ended c served
       → (before after : List Turn) (t : Turn) → c.turns ≡ before ++ t ∷ after → Gets target t → StandsAnswered (put_from 1 c) before t r
   pub broken_off : (taken : List ℕ) (ended : Bool) (c : Connection) (served : Served) → connections.IsConnectionServed (Some files) taken ended c served
       → (t : Turn) (part : List ℕ) → c.behind ≡ part_of_reply t part → Gets target t
       → IsOrFailed r t.answer × IsProperFront part (reply_behind c.turns t)
+  pub no_fault : (input gained : List ℕ) (served : Served) → (all : AnswersAll input files gained served)
+      → (before after : List Turn) (t : Turn) → all.replies.turns ≡ before ++ t ∷ after → Gets target t → StandsWhole gained before t r
 
 -- ---- A target's answer.
 

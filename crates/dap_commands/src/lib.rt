@@ -21,7 +21,7 @@ mod version;
 
 pub use laws::{answer_is_saved, answered_is_good, headline, visits_are_good};
 pub use relaying::relay;
-pub use runs::{run_answer, run_fetch, run_show};
+pub use runs::{run_answer, run_fetch, run_serve, run_show};
 pub use serving::serve;
 pub use status::Status;
 pub use top::run;

@@ -1,19 +1,26 @@
-//! Runs of `answer`, `show` and `fetch` as the headline speaks of them: what `run` says of each is what the
+//! Runs of `answer`, `serve`, `show` and `fetch` as the headline speaks of them: what `run` says of each is what the
 //! headline asks, and so the headline holds of it.
 
-ghost use Rattle.std.specs.Prelude.{◌≡◌, ◌≢◌, ◌<◌, ℕ, List, Some};
+ghost use Rattle.std.specs.Prelude.{◌≡◌, ◌≢◌, ◌<◌, ℕ, All, List, IsTrue, Some, Err, length};
+ghost use Rattle.std.specs.List.{list_all};
 ghost use Rattle.std.specs.Io.KnownBytes.{Appends};
 ghost use Rattle.constraint_parse.specs.declared.constraint.Constraint.{Constraint};
 ghost use Rattle.dap_errors.specs.declared.cause.Cause.{Cause};
+ghost use Rattle.dap_http.specs.Targets.{target_of};
 ghost use Rattle.dap_http.specs.Urls.{UrlParts};
 ghost use Rattle.dap_http.specs.declared.kind.Kind.TheVariants.{Dods};
 ghost use Rattle.dap_outside.specs.Causes.{Rose};
 ghost use Rattle.dap_server.specs.Files.{Files, Stored};
-ghost use Rattle.dap_server.specs.Results.{error_object};
+ghost use Rattle.dap_server.specs.Results.{Opens, error_object};
+ghost use Rattle.dap_types.specs.Limits.{body_limit};
+ghost use Rattle.viable.specs.Prefix.{is_byte};
+ghost use Rattle.both_ends.specs.Ends.{IsGoodResult};
 ghost use Rattle.dap_commands.specs.Answer.{status_of_cause};
 ghost use Rattle.dap_commands.specs.ClientHalf.{FetchesData, IsResponse, Response, Shows, text_of};
+ghost use Rattle.dap_commands.specs.Laws.{IsGoodVisit, IsWholeGoodVisit};
+ghost use Rattle.dap_commands.specs.Serve.{Serves, Visit};
 ghost use Rattle.dap_commands.specs.ServerHalf.{Asks, IsAccepted, IsFirstCause, Says, served_body};
-ghost use Rattle.dap_commands.specs.Words.{AreAnswer, AreFetch, IsShow};
+ghost use Rattle.dap_commands.specs.Words.{AreAnswer, AreFetch, AreServe, IsShow};
 ghost use Rattle.dap_client.specs.Fetched.{link_state};
 
 use crate::status::Status;
@@ -59,6 +66,42 @@ pub fn run_answer<R: Threads + Sync, S: Shelf, I: Source, O: Sink, E: Sink, D: D
     ensures refused { (target query : List ℕ) (workers : ℕ) (files : Files) (s : Stored) (why : Cause) → AreAnswer words.now target workers → S.files shelf.old ≡ Some files
         → Asks target query files s → IsFirstCause query s why → ¬ (Rose (S.faults shelf.old) (S.faults shelf.new)) → ¬ (Rose (O.put_faults out.old) (O.put_faults out.new)) → result ≢ Status.Memory
         → (result ≡ status_of_cause why) × Appends (O.written out.old) (O.written out.new) (error_object why) }
+
+    // Where the file of the target's name has no dataset, the Error object of the cause of that.
+    ensures damaged { (target name query : List ℕ) (workers : ℕ) (files : Files) (why : Cause) → AreAnswer words.now target workers → S.files shelf.old ≡ Some files
+        → target_of target ≡ Some (record { name = name; kind = Dods; query = query }) → IsTrue (list_all is_byte query) → Opens files name (Err why)
+        → ¬ (Rose (S.faults shelf.old) (S.faults shelf.new)) → ¬ (Rose (O.put_faults out.old) (O.put_faults out.new)) → result ≢ Status.Memory
+        → (result ≡ status_of_cause why) × Appends (O.written out.old) (O.written out.new) (error_object why) }
+
+    // And wherever it is complete for values, what was put is a good data response for who reads it, if it has fewer
+    // than 2^40 bytes.
+    ensures good { (target name query : List ℕ) (workers : ℕ) (files : Files) → AreAnswer words.now target workers → S.files shelf.old ≡ Some files
+        → target_of target ≡ Some (record { name = name; kind = Dods; query = query }) → result ≡ Status.Complete
+        → (text : List ℕ) × Appends (O.written out.old) (O.written out.new) text × (length text < body_limit → IsGoodResult target files text) }
+{
+    run(rt, alloc, words, shelf, input, out, err, door, dial)
+}
+
+/// `serve PORT WORKERS REQUESTS`, over a shelf that tells its files.
+pub fn run_serve<R: Threads + Sync, S: Shelf, I: Source, O: Sink, E: Sink, D: Door, C: Dial>(
+    rt: &R,
+    alloc: Global,
+    words: &[Name],
+    shelf: &mut S,
+    input: &mut I,
+    out: &mut O,
+    err: &mut E,
+    door: &mut D,
+    dial: &mut C,
+) -> Status
+    // Each link that came in gained the replies to its requests, and each reply that answers GET with a data response is
+    // good where it stands; where no count rose and memory was had, they are the replies to all its requests.
+    ensures visits { (port workers requests : ℕ) (files : Files) → AreServe words.now port workers requests → S.files shelf.old ≡ Some files → (visits : List (Visit D.Wire))
+        × Serves (Some files) (link_state D.Wire.Source D.Wire.Sink) requests
+        (record { back = D.back door.old; faults = S.faults shelf.old; asked = S.asked shelf.old; written = O.written out.old })
+        (record { back = D.back door.new; faults = S.faults shelf.new; asked = S.asked shelf.new; written = O.written out.new }) visits result
+        × All (IsGoodVisit files (link_state D.Wire.Source D.Wire.Sink)) visits
+        × (¬ (Rose (S.faults shelf.old) (S.faults shelf.new)) → All (IsWholeGoodVisit files (link_state D.Wire.Source D.Wire.Sink)) visits) }
 {
     run(rt, alloc, words, shelf, input, out, err, door, dial)
 }

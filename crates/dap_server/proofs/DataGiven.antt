@@ -10,7 +10,7 @@ use Rattle.saved_source.specs.Bodies.{Sends}
 use Rattle.dap_server.proofs.Lying.{same_bytes}
 use Rattle.dap_server.proofs.Making as making
 use Rattle.dap_server.specs.Costs.{IsFormCost, IsFormCostAt}
-use Rattle.dap_server.specs.Files.{Form, form_of, is_read_first, netcdf, saved}
+use Rattle.dap_server.specs.Files.{Form, IsOneFile, form_of, is_read_first, netcdf, saved}
 use Rattle.dap_server.specs.Prepared.{IsOver}
 use Rattle.dap_server.specs.Results.{DodsAnswers, result_text}
 use Rattle.dap_server.specs.inner.Opening.{Has, IsHeldBy, IsRead, Lies, OpenedAs, stored_of}
@@ -65,11 +65,11 @@ accepted told content size name query bytes ts o l is some =
     let (text, answers) = some bytes ts is in
     (text, making.follows told content size name bytes ts o (λ s. DodsAnswers s query) _ l is answers)
 
--- its name says how it is read
-pub has_form : (name bytes : List ℕ) (ts : List Tree) (o : Opened) → OpenedAs o name bytes ts → IsTrue (is_some (form_of name))
-has_form name bytes ts (opened.Netcdf h) is = ap is_some is.0
-has_form name bytes ts (opened.Table t) is = ap is_some is.0
-has_form name bytes ts (opened.Saved s) is = ap is_some is.0
+-- that of a netCDF file or of a table
+pub of_file : (name bytes : List ℕ) (ts : List Tree) (o : Opened) (d : DataBody) → OpenedAs o name bytes ts → WhereOfFile d (λ b. (bytes : List ℕ) (ts : List Tree) → OpenedAs o name bytes ts → IsOneFile (form_of name))
+    → WhereOfFile d (λ b. IsOneFile (form_of name))
+of_file name bytes ts o (bodies.OfFile b) is named = named bytes ts is
+of_file name bytes ts o (bodies.Saved b) is named = tt
 
 -- where its values were read it goes out alone
 pub alone : (name bytes : List ℕ) (ts : List Tree) (o : Opened) (d : DataBody) → OpenedAs o name bytes ts

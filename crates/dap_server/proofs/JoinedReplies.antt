@@ -8,7 +8,7 @@ use Rattle.dap_http.specs.Texts.{is_chunked}
 use Rattle.dap_http.specs.declared.kind.Kind.TheVariants.{Dods}
 use Rattle.dap_outside.specs.Files.{Told}
 use Rattle.dap_server.proofs.DataText.{data-some}
-use Rattle.dap_server.proofs.Replying.{failed-values, gives, known-values, late, values-hidden}
+use Rattle.dap_server.proofs.Replying.{failed-values, gives, known-values, late, values-cost, values-hidden}
 use Rattle.dap_server.specs.Costs.{IsCost}
 use Rattle.dap_server.specs.Files.{form_of, is_read_first, joined}
 use Rattle.dap_server.specs.Prepared.{MayGive}
@@ -24,13 +24,13 @@ pub joined-answer : (told : Told) (q : Request) (a : Asked) (front : List ℕ) (
     → ((put : List ℕ) × Appends s.written z.written put)
     → ((contents : List (List ℕ)) → AreThese contents → MayGive told a (Ok (result_text Dods (text_over contents)))) → ((text : List ℕ) × MayGive told a (Ok (result_text Dods text)))
     → form_of a.name ≡ Some joined → (IsSome told → (contents : List (List ℕ)) × AreThese contents) → ShelfRose result s.faults z.faults
-    → ((cost : ℕ) × IsCost told a cost × (z.asked ≤ s.asked + cost)) → AnswersWith (Costs told a) told q s z result
+    → ((cost : ℕ) × IsCost told a cost × (z.asked ≤ s.asked + cost)) → AnswersWith (Costs told a q) told q s z result
 joined-answer None q a front AreThese text_over s z result get is served target puts says (put, appends) over (text, may) named tells rose costs = (
   Ok (result_text Dods text),
   gives None q a (Ok (result_text Dods text)) served target may,
   (put, appends, values-hidden None q text put result get (data-some None a text may) (late q a text get target (ap is_read_first named)) says),
   failed-values q text result s.faults z.faults get rose,
-  costs,
+  values-cost None q a text s.asked z.asked get costs,
 )
 joined-answer (Some files) q a front AreThese text_over s z result get is served target puts says grows over accepted named tells rose costs =
     let (contents, these) = tells refl in

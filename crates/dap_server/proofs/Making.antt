@@ -18,7 +18,7 @@ use Rattle.dap_server.proofs.Lying as lying
 use Rattle.dap_server.proofs.OneAnswer.{answers_one, one_result}
 use Rattle.dap_server.proofs.ListForms.{list_form, no_list_form}
 use Rattle.dap_server.specs.Costs.{IsFormCost, IsFormCostAt, asks_shelf, is_of_file}
-use Rattle.dap_server.specs.Files.{Files, MayHave, Stored, form_of, is_joined, is_read_first, saved}
+use Rattle.dap_server.specs.Files.{Files, IsOneFile, MayHave, Stored, form_of, is_joined, is_read_first, saved}
 use Rattle.dap_server.specs.Prepared.{IsFor, IsOver, MayGive, MustGive, WhereBody, WhereNoShelfFault, WhereRefuse, WhereJoined, WhereSaved, WhereText}
 use Rattle.dap_server.specs.Results.{AnswersAmong, OpensAmong, Text, das_text, result_text}
 use Rattle.dap_server.specs.Steps.{Is, Then}
@@ -81,7 +81,7 @@ pub body_made : {F : Type 0} (told : Told) (content : F → Option (List ℕ)) (
     → IfOk r (λ q. WhereOfSaved q.0 (λ b. (text : List ℕ) × Sends b text × MayGiveAs told Dods name query (Ok (result_text Dods text))))
     → IfOk r (λ q. WhereOfSaved q.0 (λ b. form_of name ≡ Some saved))
     → IfOk r (λ q. (text : List ℕ) × MayGiveAs told Dods name query (Ok (result_text Dods text)))
-    → IfOk r (λ q. IsTrue (is_some (form_of name)))
+    → IfOk r (λ q. WhereOfFile q.0 (λ b. IsOneFile (form_of name)))
     → IfOk r (λ q. IsSome told → IsSome (content q.1))
     → IfOk r (λ q. WhereOfFile q.0 (λ b. IsTrue (is_read_first (form_of name)) → HasNoFile b))
     → IfOk r (λ q. WhereOfFile q.0 (λ b. FitsFile b (size_of q.1)))

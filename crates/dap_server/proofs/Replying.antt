@@ -1,5 +1,5 @@
 -- How the bytes that are put are the reply of an answer.
-use Rattle.std.proofs.Common.{◌≡◌, ◌≢◌, ℕ, ◌+◌, ◌<◌, ◌≤◌, Bool, false, true, ◌&&◌, ◌||◌, not, List, [], ◌++◌, length, Option, Some, None, IsSome, IsTrue, if◌then◌else◌, Result, Ok, Err, refl, sym, ap, ◌∙◌, subst, arith, append-nil, append_assoc, length-append, codes, inl, inr, ◌⊎◌}
+use Rattle.std.proofs.Common.{◌≡◌, ◌≢◌, ℕ, ◌+◌, ◌<◌, ◌≤◌, Bool, false, true, ◌&&◌, ◌||◌, not, List, [], ◌++◌, length, Option, Some, None, IsSome, IsTrue, MatchBool, if◌then◌else◌, Result, Ok, Err, refl, sym, ap, ◌∙◌, subst, arith, append-nil, append_assoc, length-append, codes, inl, inr, ◌⊎◌}
 use Rattle.std.proofs.lemmas.Bool.{true≢false}
 use Rattle.std.specs.Io.KnownBytes.{Appends}
 use Rattle.std.specs.Option.{option_map_or}
@@ -88,6 +88,11 @@ get-reply q text front is e =
 
 values-out : (q : Request) (text : List ℕ) → is_head q ≡ false → sends_values q (Ok (result_text Dods text)) ≡ true
 values-out q text is = ap not is
+
+-- their cost
+pub values-cost : (told : Told) (q : Request) (a : Asked) (text : List ℕ) (asked asked' : ℕ) → is_head q ≡ false → ((cost : ℕ) × IsCost told a cost × (asked' ≤ asked + cost))
+    → (cost : ℕ) × Costs told a q (Ok (result_text Dods text)) cost × (asked' ≤ asked + cost)
+values-cost told q a text asked asked' get (cost, is, few) = (cost, subst (λ (values : Bool). MatchBool values (IsCost told a cost) (cost ≡ 0)) (sym (values-out q text get)) is, few)
 
 pub values-reply : (q : Request) (text front : List ℕ) (old new : Option (List ℕ)) (result : Answered) → is_head q ≡ false → front ≡ data_front q
     → PutsValues front (framed (is_chunked Dods q.minor) text) q.ends old new result → SaysWhole q.ends result → PutsReply q (Ok (result_text Dods text)) old new result
@@ -179,13 +184,13 @@ failed-values q text answered.WriteFault f f1 get later = (omega (arith, later),
 pub known-values : (told : Told) (q : Request) (a : Asked) (front text : List ℕ) (s z : Stand) (result : Answered)
     → is_head q ≡ false → front ≡ data_front q → is_other q.method ≡ false → target_of q.target ≡ Some a
     → PutsValues front (framed (is_chunked Dods q.minor) text) q.ends s.written z.written result → SaysWhole q.ends result → MayGive told a (Ok (result_text Dods text))
-    → ShelfRose result s.faults z.faults → ((cost : ℕ) × IsCost told a cost × (z.asked ≤ s.asked + cost)) → AnswersWith (Costs told a) told q s z result
+    → ShelfRose result s.faults z.faults → ((cost : ℕ) × IsCost told a cost × (z.asked ≤ s.asked + cost)) → AnswersWith (Costs told a q) told q s z result
 known-values told q a front text s z result get is served target puts says may rose costs = (
   Ok (result_text Dods text),
   gives told q a (Ok (result_text Dods text)) served target may,
   reply-known told q (Ok (result_text Dods text)) s.written z.written result (values-reply q text front s.written z.written result get is puts says),
   failed-values q text result s.faults z.faults get rose,
-  costs,
+  values-cost told q a text s.asked z.asked get costs,
 )
 
 pub late : (q : Request) (a : Asked) (text : List ℕ) → is_head q ≡ false → target_of q.target ≡ Some a → is_read_first (form_of a.name) ≡ false → is_hidden None q (Ok (result_text Dods text)) ≡ true
@@ -200,7 +205,7 @@ pub values-answer : (told : Told) (q : Request) (a : Asked) (front : List ℕ) (
     → ((put : List ℕ) × Appends s.written z.written put)
     → ((bytes : List ℕ) → IsOver a.name content bytes → MayGive told a (Ok (result_text Dods (text_over bytes)))) → ((text : List ℕ) × MayGive told a (Ok (result_text Dods text)))
     → (IsTrue (is_read_first (form_of a.name)) → Alone) → (IsSome told → IsSome content) → ShelfRose result s.faults z.faults
-    → ((cost : ℕ) × IsCost told a cost × (z.asked ≤ s.asked + cost)) → AnswersWith (Costs told a) told q s z result
+    → ((cost : ℕ) × IsCost told a cost × (z.asked ≤ s.asked + cost)) → AnswersWith (Costs told a q) told q s z result
 values-answer None q a front content Alone text_over s z result get is served target puts says (put, appends) over (text, may) alone tells rose costs =
     elim (true_or_false (is_read_first (form_of a.name))) [
       | inl first ↦ known-values None q a front (text_over []) s z result get is served target (puts [] (inr (alone first))) says (over [] (inr first)) rose costs
@@ -209,7 +214,7 @@ values-answer None q a front content Alone text_over s z result get is served ta
         gives None q a (Ok (result_text Dods text)) served target may,
         (put, appends, values-hidden None q text put result get (data-some None a text may) (late q a text get target other) says),
         failed-values q text result s.faults z.faults get rose,
-        costs,
+        values-cost None q a text s.asked z.asked get costs,
       )
     ]
 values-answer (Some files) q a front (Some bytes) Alone text_over s z result get is served target puts says grows over accepted alone tells rose costs =

@@ -1,5 +1,5 @@
 -- What a reader of heads gives, and what is put for it, as one step of a connection.
-use Rattle.std.proofs.Common.{◌≡◌, ◌≢◌, ℕ, ◌+◌, ◌≤◌, Bool, false, true, ◌||◌, ◌==◌, List, [], ◌++◌, Option, Some, None, IsTrue, codes, Ok, Err, refl, sym, ap, ◌∙◌, subst, arith, inl, inr, ◌⊎◌}
+use Rattle.std.proofs.Common.{◌≡◌, ◌≢◌, ℕ, ◌+◌, ◌≤◌, Bool, false, true, ◌||◌, ◌==◌, List, [], ◌++◌, Option, Some, None, IsTrue, MatchBool, codes, Result, Ok, Err, refl, sym, ap, ◌∙◌, subst, arith, inl, inr, ◌⊎◌}
 use Rattle.std.specs.Str.{bytes_eq}
 use Rattle.std.specs.Io.KnownBytes.{Appends, Consumes}
 use Rattle.std.proofs.KnownBytes.{Appends-nil}
@@ -7,23 +7,23 @@ use Rattle.httparse.specs.Grammar.{RequestHead}
 use Rattle.dap_errors.specs.declared.cause.Cause.{Cause}
 use Rattle.dap_errors.specs.declared.cause.Cause.TheVariants.{BadRequest, HeadTooLong, OutOfMemory}
 use Rattle.dap_http.specs.Reading.{IsHead}
-use Rattle.dap_http.specs.Requests.{FirstRequest, HasNoRequest, IsBadRequest, IsGone, IsTooLong}
+use Rattle.dap_http.specs.Requests.{FirstRequest, HasNoRequest, IsBadRequest, IsGone, IsTooLong, is_other}
 use Rattle.dap_http.specs.Targets.{Asked, target_of}
 use Rattle.dap_http.specs.Texts.{memory_error, memory_text}
 use Rattle.dap_http.specs.declared.head_reader.Head.{Head}
 use Rattle.dap_http.specs.declared.kind.Kind.{Kind}
 use Rattle.dap_http.specs.declared.kind.Kind.TheVariants.{Dds, Das, Dods, Ver}
 use Rattle.dap_outside.specs.Files.{Told}
-use Rattle.dap_server.specs.Connections.{IsPutBehind, MayAsk, nothing}
-use Rattle.dap_server.specs.Costs.{most_first}
+use Rattle.dap_server.specs.Connections.{IsPutBehind, MayAsk, MayAskFor, nothing, sends_values}
+use Rattle.dap_server.specs.Costs.{IsCost, most_first}
 use Rattle.dap_server.specs.Replies.{Request, last_reply, reply_of, request}
-use Rattle.dap_server.specs.Results.{result_text}
+use Rattle.dap_server.specs.Results.{Text, result_text}
 use Rattle.dap_server.specs.declared.served.Ending.TheVariants.{Gone, ReadFault}
 use Rattle.dap_server.specs.declared.served.Served.{Served}
 use Rattle.dap_server.specs.declared.reply_outcome.Answered.{Answered}
 use Rattle.dap_server.specs.declared.reply_outcome.Answered.TheVariants as answered
 use Rattle.dap_server.specs.declared.reply_outcome.Next.{Next}
-use Rattle.dap_server.specs.inner.Serving.{Answers, PutsLast, PutsRefusal, Serves, ServesFrom, Stand, next_of, request_in}
+use Rattle.dap_server.specs.inner.Serving.{Answers, Costs, PutsLast, PutsRefusal, Serves, ServesFrom, Stand, next_of, request_in}
 use Rattle.dap_server.proofs.Ends.{answered-head, one-turn, refuses, stopped}
 use Rattle.dap_server.proofs.Failing.{calm}
 use Rattle.dap_server.proofs.Replying.{memory-last, memory-reply}
@@ -34,27 +34,49 @@ stand written faults asked = record { written = written; faults = faults; asked 
 -- ---- what may be asked
 
 -- for a cause
-pub least-asked : (told : Told) (o : Option Asked) (cause : Cause) → (n : ℕ) × MayAsk told o (Err cause) n
-least-asked told None cause = (0, refl)
-least-asked told (Some a) cause = (most_first told a.name + 0, (0, refl, refl))
+least-asked : (told : Told) (q : Request) (cause : Cause) → (n : ℕ) × MayAsk told q (Err cause) n
+least-asked told q cause = by (is_other q.method) (target_of q.target)
+  where
+    by : (other : Bool) (o : Option Asked) → (n : ℕ) × MatchBool other (n ≡ 0) (MayAskFor told o false n)
+    by true o = (0, refl)
+    by false None = (0, refl)
+    by false (Some a) = (most_first told a.name + 0, (0, refl, refl))
 
-pub cause-asks : (told : Told) (o : Option Asked) (a : Asked) (cause : Cause) (asked asked' : ℕ) → o ≡ Some a → asked' ≤ asked + most_first told a.name
-    → (n : ℕ) × MayAsk told o (Err cause) n × (asked' ≤ asked + n)
-cause-asks told o a cause asked asked' is few =
-    (most_first told a.name + 0, subst (λ p. MayAsk told p (Err cause) (most_first told a.name + 0)) (sym is) (0, refl, refl), omega (arith, few))
+-- by a method that is served
+pub served-asks : (told : Told) (q : Request) (a : Asked) (answer : Result Text Cause) (cost : ℕ) → is_other q.method ≡ false → target_of q.target ≡ Some a → Costs told a q answer cost
+    → MayAsk told q answer (most_first told a.name + cost)
+served-asks told q a answer cost served target costs =
+    let n : ℕ = most_first told a.name + cost in
+    subst (λ (other : Bool). MatchBool other (n ≡ 0) (MayAskFor told (target_of q.target) (sends_values q answer) n)) (sym served)
+    (subst (λ (o : Option Asked). MayAskFor told o (sends_values q answer) n) (sym target) (cost, costs, refl))
 
-pub nothing-asked : (told : Told) (o : Option Asked) (cause : Cause) (asked asked' : ℕ) → asked' ≤ asked → (n : ℕ) × MayAsk told o (Err cause) n × (asked' ≤ asked + n)
-nothing-asked told o cause asked asked' few = let (n, may) = least-asked told o cause in (n, may, omega (arith, few))
+-- where no values go out
+first-asks : (told : Told) (q : Request) (a : Asked) (answer : Result Text Cause) (asked asked' : ℕ) → is_other q.method ≡ false → target_of q.target ≡ Some a → Costs told a q answer 0 → asked' ≤ asked + most_first told a.name
+    → (n : ℕ) × MayAsk told q answer n × (asked' ≤ asked + n)
+first-asks told q a answer asked asked' served target costs few = (most_first told a.name + 0, served-asks told q a answer 0 served target costs, omega (arith, few))
 
-pub text-asks : (told : Told) (o : Option Asked) (a : Asked) (kind : Kind) (text : List ℕ) (asked asked' : ℕ) → kind ≢ Dods → o ≡ Some a → asked' ≤ asked + most_first told a.name
-    → (n : ℕ) × MayAsk told o (Ok (result_text kind text)) n × (asked' ≤ asked + n)
-text-asks told o a Dds text asked asked' other is few =
-    (most_first told a.name + 0, subst (λ p. MayAsk told p (Ok (result_text Dds text)) (most_first told a.name + 0)) (sym is) (0, refl, refl), omega (arith, few))
-text-asks told o a Das text asked asked' other is few =
-    (most_first told a.name + 0, subst (λ p. MayAsk told p (Ok (result_text Das text)) (most_first told a.name + 0)) (sym is) (0, refl, refl), omega (arith, few))
-text-asks told o a Ver text asked asked' other is few =
-    (most_first told a.name + 0, subst (λ p. MayAsk told p (Ok (result_text Ver text)) (most_first told a.name + 0)) (sym is) (0, refl, refl), omega (arith, few))
-text-asks told o a Dods text asked asked' other is few = absurd (other refl)
+pub cause-asks : (told : Told) (q : Request) (a : Asked) (cause : Cause) (asked asked' : ℕ) → is_other q.method ≡ false → target_of q.target ≡ Some a → asked' ≤ asked + most_first told a.name
+    → (n : ℕ) × MayAsk told q (Err cause) n × (asked' ≤ asked + n)
+cause-asks told q a cause asked asked' served target few = first-asks told q a (Err cause) asked asked' served target refl few
+
+pub nothing-asked : (told : Told) (q : Request) (cause : Cause) (asked asked' : ℕ) → asked' ≤ asked → (n : ℕ) × MayAsk told q (Err cause) n × (asked' ≤ asked + n)
+nothing-asked told q cause asked asked' few = let (n, may) = least-asked told q cause in (n, may, omega (arith, few))
+
+pub text-asks : (told : Told) (q : Request) (a : Asked) (kind : Kind) (text : List ℕ) (asked asked' : ℕ) → kind ≢ Dods → is_other q.method ≡ false → target_of q.target ≡ Some a → asked' ≤ asked + most_first told a.name
+    → (n : ℕ) × MayAsk told q (Ok (result_text kind text)) n × (asked' ≤ asked + n)
+text-asks told q a Dds text asked asked' other served target few = first-asks told q a (Ok (result_text Dds text)) asked asked' served target refl few
+text-asks told q a Das text asked asked' other served target few = first-asks told q a (Ok (result_text Das text)) asked asked' served target refl few
+text-asks told q a Ver text asked asked' other served target few = first-asks told q a (Ok (result_text Ver text)) asked asked' served target refl few
+text-asks told q a Dods text asked asked' other served target few = absurd (other refl)
+
+-- a data response whose values cost nothing, whether they go out or not
+pub free-asks : (told : Told) (q : Request) (a : Asked) (answer : Result Text Cause) (asked asked' : ℕ) → is_other q.method ≡ false → target_of q.target ≡ Some a → IsCost told a 0 → asked' ≤ asked + most_first told a.name
+    → (n : ℕ) × MayAsk told q answer n × (asked' ≤ asked + n)
+free-asks told q a answer asked asked' served target free few = first-asks told q a answer asked asked' served target (by (sends_values q answer)) few
+  where
+    by : (values : Bool) → MatchBool values (IsCost told a 0) (◌≡◌ {A = ℕ} 0 0)
+    by true = free
+    by false = refl
 
 -- ---- steps
 
@@ -97,7 +119,7 @@ pub memory-turn : (n before : ℕ) (told : Told) (kept rest taken : List ℕ) (l
 memory-turn n before told kept rest taken l l1 l2 w w1 w2 f s ended tree h bytes served first is consumes sl sw e (inl (so, appends)) =
     let q : Request = request (n + 1) tree in
     let text : bytes ≡ reply_of q (Err OutOfMemory) = e ∙ memory-reply q h is in
-    let (m, may) = least-asked told (target_of tree.target) OutOfMemory in
+    let (m, may) = least-asked told q OutOfMemory in
     let put : Appends w w2 (reply_of q (Err OutOfMemory)) = subst (λ o. Appends o w2 (reply_of q (Err OutOfMemory))) sw (subst (Appends w1 w2) text appends) in
     subst (ServesFrom n before told kept l l2 (stand w f s) (stand w2 f s) ended) (sym so)
     (one-turn n before told kept rest taken l l2 (stand w f s) (stand w2 f s) ended tree (answered.Whole 503 true) (subst (λ o. Consumes l o taken) (sym sl) consumes) first
@@ -105,7 +127,7 @@ memory-turn n before told kept rest taken l l1 l2 w w1 w2 f s ended tree h bytes
 memory-turn n before told kept rest taken l l1 l2 w w1 w2 f s ended tree h bytes served first is consumes sl sw e (inr (so, (part, (more, some, cut), appends))) =
     let q : Request = request (n + 1) tree in
     let text : bytes ≡ reply_of q (Err OutOfMemory) = e ∙ memory-reply q h is in
-    let (m, may) = least-asked told (target_of tree.target) OutOfMemory in
+    let (m, may) = least-asked told q OutOfMemory in
     let put : Appends w w2 part = subst (λ o. Appends o w2 part) sw appends in
     subst (ServesFrom n before told kept l l2 (stand w f s) (stand w2 f s) ended) (sym so)
     (one-turn n before told kept rest taken l l2 (stand w f s) (stand w2 f s) ended tree answered.WriteFault (subst (λ o. Consumes l o taken) (sym sl) consumes) first

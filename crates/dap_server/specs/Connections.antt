@@ -221,22 +221,25 @@ RoseFor ReadFault takes takes' puts puts' = Rose takes takes' × (puts' ≡ puts
 RoseFor WriteFault takes takes' puts puts' = Rose puts puts' × (takes' ≡ takes)
 RoseFor ending takes takes' puts puts' = (takes' ≡ takes) × (puts' ≡ puts)
 
--- What an answer to a target may have asked: the first read of its file, and where it is data the cost of
--- its values.
-abbrev pub MayAsk : Told → Option Asked → Result Text Cause → ℕ → Type 0
-MayAsk told None answer n = n ≡ 0
-MayAsk told (Some a) answer n =
-    (cost : ℕ) × MatchBool (sends_data answer) (IsCost told a cost) (cost ≡ 0) × (n ≡ most_first told a.name + cost)
+-- what may be asked for a target, whose values go out or not: the first read of its file, and the cost of its values
+abbrev pub MayAskFor : Told → Option Asked → Bool → ℕ → Type 0
+MayAskFor told None values n = n ≡ 0
+MayAskFor told (Some a) values n = (cost : ℕ) × MatchBool values (IsCost told a cost) (cost ≡ 0) × (n ≡ most_first told a.name + cost)
+
+-- What an answer to a request may have asked: nothing where its method is neither GET nor HEAD, and the cost of values for
+-- GET alone.
+abbrev pub MayAsk : Told → Request → Result Text Cause → ℕ → Type 0
+MayAsk told q answer n = MatchBool (is_other q.method) (n ≡ 0) (MayAskFor told (target_of q.target) (sends_values q answer) n)
 
 abbrev pub TurnsMayAsk : Told → List Turn → ℕ → Type 0
 TurnsMayAsk told [] n = n ≡ 0
 TurnsMayAsk told (t ∷ turns) n =
-    (own : ℕ) × (others : ℕ) × MayAsk told (target_of t.head.target) t.answer own × TurnsMayAsk told turns others × (n ≡ own + others)
+    (own : ℕ) × (others : ℕ) × MayAsk told (request 1 t.head) t.answer own × TurnsMayAsk told turns others × (n ≡ own + others)
 
 abbrev pub BehindMayAsk : Told → Behind → ℕ → Type 0
 BehindMayAsk told nothing n = n ≡ 0
 BehindMayAsk told (refusal cause) n = n ≡ 0
-BehindMayAsk told (part_of_reply t part) n = MayAsk told (target_of t.head.target) t.answer n
+BehindMayAsk told (part_of_reply t part) n = MayAsk told (request 1 t.head) t.answer n
 BehindMayAsk told (part_of_refusal cause part) n = n ≡ 0
 
 -- those of all requests that were read

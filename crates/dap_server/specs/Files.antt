@@ -1,7 +1,7 @@
 -- What a stored file has: its dataset, its values and its attributes, or the first cause for which it has
 -- none (netCDF classic format; RFC 4180; DAP 2.0, DODS). The end of its name says how it is read (this
 -- project's).
-use Rattle.std.specs.Prelude.{◌≡◌, ℕ, Bool, true, false, ◌&&◌, List, length, nat_eq, nat_lt, if◌then◌else◌, codes, Option, Some, None, Result, Ok, Err}
+use Rattle.std.specs.Prelude.{◌≡◌, ◌⊎◌, ℕ, Bool, true, false, ◌&&◌, List, length, nat_eq, nat_lt, if◌then◌else◌, codes, Option, Some, None, Result, Ok, Err}
 use Rattle.std.specs.List.{ends_with}
 use Rattle.dap_types.specs.Model.{Dataset, Tree}
 use Rattle.dap_outside.specs.Files.{Told}
@@ -50,6 +50,10 @@ is_read_first (Some saved) = true
 is_read_first (Some netcdf) = false
 is_read_first (Some joined) = false
 is_read_first None = false
+
+-- the file is a netCDF file or a table, alone
+abbrev pub IsOneFile : Option Form → Type 0
+IsOneFile o = (o ≡ Some netcdf) ⊎ (o ≡ Some table)
 
 -- the file is a list of others
 abbrev pub is_joined : Option Form → Bool

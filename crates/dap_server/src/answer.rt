@@ -128,7 +128,7 @@ fn answer_values<R: Threads + Sync, S: Shelf, O: Sink>(
     requires cost { (cost : ℕ) × IsCost (S.files shelf.old) (asked_of target.now) cost × (cost_in body.old ≤ cost) }
     requires some { 1 ≤ workers }
     requires many { workers ≤ 64 }
-    ensures answers { AnswersWith (Costs (S.files shelf.old) (asked_of target.now)) (S.files shelf.old) (request_in head.now ends)
+    ensures answers { AnswersWith (Costs (S.files shelf.old) (asked_of target.now) (request_in head.now ends)) (S.files shelf.old) (request_in head.now ends)
         (record { written = O.written out.old; faults = S.faults shelf.old; asked = S.asked shelf.old })
         (record { written = O.written out.new; faults = S.faults shelf.new; asked = S.asked shelf.new }) result }
     ensures files { S.files shelf.new ≡ S.files shelf.old }
@@ -167,7 +167,7 @@ fn answer_data<R: Threads + Sync, S: Shelf, O: Sink>(
     requires cost { (cost : ℕ) × IsCost (S.files shelf.old) (asked_of target.now) cost × (cost_in body.old ≤ cost) }
     requires some { 1 ≤ workers }
     requires many { workers ≤ 64 }
-    ensures answers { AnswersWith (Costs (S.files shelf.old) (asked_of target.now)) (S.files shelf.old) (request_in head.now ends)
+    ensures answers { AnswersWith (Costs (S.files shelf.old) (asked_of target.now) (request_in head.now ends)) (S.files shelf.old) (request_in head.now ends)
         (record { written = O.written out.old; faults = S.faults shelf.old; asked = S.asked shelf.old })
         (record { written = O.written out.new; faults = S.faults shelf.new; asked = S.asked shelf.new }) result }
     ensures files { S.files shelf.new ≡ S.files shelf.old }

@@ -5,7 +5,7 @@ ghost use Rattle.dap_http.specs.Texts.{version};
 ghost use Rattle.dap_outside.specs.Causes.{Rose};
 ghost use Rattle.xdr_encode.specs.Bodies.{FitsFile, HasNoFile, MayAsk, cost_in, text_in};
 ghost use Rattle.dap_server.specs.Costs.{IsFormCost, IsFormCostAt, most_first};
-ghost use Rattle.dap_server.specs.Files.{form_of, is_read_first, joined, saved};
+ghost use Rattle.dap_server.specs.Files.{IsOneFile, form_of, is_read_first, joined, saved};
 ghost use Rattle.dap_server.specs.Prepared.{IsOver};
 ghost use Rattle.dap_server.specs.Results.{result_text};
 ghost use Rattle.dap_server.specs.inner.Opening.{StaysBut, WhereFault, WhereRefused};
@@ -86,7 +86,7 @@ pub fn dods_answer<R: Threads + Sync, S: Shelf>(
     ensures sends { IfOk result (λ p. WhereOfSaved p.0 (λ b. (text : List ℕ) × Sends b text × MayGiveAs (S.files shelf.old) Kind.Dods name.now query.now (Ok (result_text Kind.Dods text)))) }
     ensures of_saved { IfOk result (λ p. WhereOfSaved p.0 (λ b. form_of name.now ≡ Some saved)) }
     ensures accepted { IfOk result (λ p. (text : List ℕ) × MayGiveAs (S.files shelf.old) Kind.Dods name.now query.now (Ok (result_text Kind.Dods text))) }
-    ensures form { IfOk result (λ p. IsTrue (is_some (form_of name.now))) }
+    ensures of_file { IfOk result (λ p. WhereOfFile p.0 (λ b. IsOneFile (form_of name.now))) }
     ensures tells { IfOk result (λ p. IsSome (S.files shelf.old) → IsSome (S.content shelf.new p.1)) }
     ensures alone { IfOk result (λ p. WhereOfFile p.0 (λ b. IsTrue (is_read_first (form_of name.now)) → HasNoFile b)) }
     ensures fits { IfOk result (λ p. WhereOfFile p.0 (λ b. FitsFile b (S.size_of shelf.new p.1))) }

@@ -19,7 +19,7 @@ ghost use Rattle.xdr_encode.specs.Bodies.{FitsFile, HasNoFile, MayAsk, cost_in, 
 ghost use Rattle.xdr_encode.specs.Costs.{marks_cost};
 ghost use Rattle.dap_outside.specs.Files.{Told};
 ghost use Rattle.dap_server.specs.Costs.{IsFormCost, IsFormCostAt, head_len, marks_of};
-ghost use Rattle.dap_server.specs.Files.{form_of, is_read_first, netcdf_stored, saved, saved_stored, table_stored};
+ghost use Rattle.dap_server.specs.Files.{IsOneFile, form_of, is_read_first, netcdf_stored, saved, saved_stored, table_stored};
 ghost use Rattle.dap_server.specs.Results.{DodsAnswers, result_text};
 ghost use Rattle.dap_server.specs.inner.Opening.{Has, IsHeldBy, OpenedAs, WhereFault, WhereRefused, body_stop, saved_stop, stored_of};
 ghost use Rattle.dap_server.specs.inner.Preparing.{WhereOfFile, WhereOfSaved};
@@ -189,6 +189,7 @@ pub fn body_of<R: Threads + Sync>(
     ensures sends { IfOk result (λ d. WhereOfSaved d (λ b. (bytes : List ℕ) (ts : List Tree) → OpenedAs opened name.now bytes ts →
         (text : List ℕ) × Sends b text × DodsAnswers (stored_of opened name.now ts) query.now (Ok (result_text Kind.Dods text)))) }
     ensures of_saved { IfOk result (λ d. WhereOfSaved d (λ b. (bytes : List ℕ) (ts : List Tree) → OpenedAs opened name.now bytes ts → form_of name.now ≡ Some saved)) }
+    ensures of_file { IfOk result (λ d. WhereOfFile d (λ b. (bytes : List ℕ) (ts : List Tree) → OpenedAs opened name.now bytes ts → IsOneFile (form_of name.now))) }
     ensures accepted { IfOk result (λ d. (bytes : List ℕ) (ts : List Tree) → OpenedAs opened name.now bytes ts →
         (text : List ℕ) × DodsAnswers (stored_of opened name.now ts) query.now (Ok (result_text Kind.Dods text))) }
     ensures alone { IfOk result (λ d. WhereOfFile d (λ b. (bytes : List ℕ) (ts : List Tree) → OpenedAs opened name.now bytes ts → IsTrue (is_read_first (form_of name.now)) → HasNoFile b)) }

@@ -39,7 +39,7 @@ fn put_with_values<R: Threads + Sync, S: Shelf, O: Sink>(
     requires joined { IsJoinedFor (S.files shelf.old) (S.content shelf.old) (S.size_of shelf.old) (asked_of target.now) body.old files.old }
     requires some { 1 ≤ workers }
     requires many { workers ≤ 64 }
-    ensures answers { AnswersWith (Costs (S.files shelf.old) (asked_of target.now)) (S.files shelf.old) (request_in head.now ends)
+    ensures answers { AnswersWith (Costs (S.files shelf.old) (asked_of target.now) (request_in head.now ends)) (S.files shelf.old) (request_in head.now ends)
         (record { written = O.written out.old; faults = S.faults shelf.old; asked = S.asked shelf.old })
         (record { written = O.written out.new; faults = S.faults shelf.new; asked = S.asked shelf.new }) result }
     ensures files { S.files shelf.new ≡ S.files shelf.old }
@@ -73,7 +73,7 @@ pub fn answer_joined<R: Threads + Sync, S: Shelf, O: Sink>(
     requires joined { IsJoinedFor (S.files shelf.old) (S.content shelf.old) (S.size_of shelf.old) (asked_of target.now) body.old files.old }
     requires some { 1 ≤ workers }
     requires many { workers ≤ 64 }
-    ensures answers { AnswersWith (Costs (S.files shelf.old) (asked_of target.now)) (S.files shelf.old) (request_in head.now ends)
+    ensures answers { AnswersWith (Costs (S.files shelf.old) (asked_of target.now) (request_in head.now ends)) (S.files shelf.old) (request_in head.now ends)
         (record { written = O.written out.old; faults = S.faults shelf.old; asked = S.asked shelf.old })
         (record { written = O.written out.new; faults = S.faults shelf.new; asked = S.asked shelf.new }) result }
     ensures files { S.files shelf.new ≡ S.files shelf.old }

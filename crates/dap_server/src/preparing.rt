@@ -1,13 +1,13 @@
 //! The answer to a target.
 
-ghost use Rattle.std.specs.Prelude.{◌≡◌, ◌≢◌, ◌+◌, ◌<◌, ◌≤◌, ℕ, List, Option, Some, None, IsSome, IsTrue, Result, Ok, Err, false, is_some, length};
+ghost use Rattle.std.specs.Prelude.{◌≡◌, ◌≢◌, ◌+◌, ◌<◌, ◌≤◌, ℕ, List, Option, Some, None, IsSome, IsTrue, Result, Ok, Err, false, length};
 ghost use Rattle.dap_http.specs.Targets.{asked_of};
 ghost use Rattle.dap_errors.specs.declared.cause.Cause.{Cause};
 ghost use Rattle.dap_outside.specs.Causes.{Rose};
 ghost use Rattle.dap_outside.specs.Files.{IsBytes};
 ghost use Rattle.xdr_encode.specs.Bodies.{FitsFile, HasNoFile, MayAsk, cost_in, text_in};
 ghost use Rattle.dap_server.specs.Costs.{IsAskedBefore, IsCost, IsCostAt, IsWithinAList, IsWithinBadLine, asks_shelf, most_first, most_of_joined};
-ghost use Rattle.dap_server.specs.Files.{form_of, is_read_first, joined, saved};
+ghost use Rattle.dap_server.specs.Files.{IsOneFile, form_of, is_read_first, joined, saved};
 ghost use Rattle.dap_server.specs.Prepared.{IsFor, IsJoinedFor, IsOver, MayGive, MayGiveWithin, MustGive, WhereBody, WhereJoined, WhereNoShelfFault, WhereOfList, WhereRefuse, WhereSaved, WhereShelfFault, WhereText};
 ghost use Rattle.saved_source.specs.Bodies.{Sends};
 ghost use Rattle.dap_server.specs.Results.{Text, result_text};
@@ -142,9 +142,9 @@ fn answer_of<R: Threads + Sync, S: Shelf>(
 
 /// What a target asks of the files of a shelf: a text, or a data response that reads its file as it is
 /// streamed, or the first cause for which there is none (`Results`). It takes all memory of the answer.
-/// Of a netCDF file it reads the first 1,048,576 bytes at most, another file whole, and of a list, which has 65,536
-/// bytes at most, the files that it names in turn, each as a netCDF file. The rows of a table are judged by so many
-/// workers, 1 to 64.
+/// Of a netCDF file it reads the first 1,048,576 bytes at most, a table and a saved response whole, unless their size
+/// says that they are too long, and of a list, which has 65,536 bytes at most, the files that it names in turn, each as
+/// a netCDF file. The rows of a table are judged by so many workers, 1 to 64.
 ///
 /// `ShelfFault` comes only where the shelf's count of faults rose, and only for a target that looks for a
 /// file.
@@ -163,7 +163,7 @@ pub fn prepare<R: Threads + Sync, S: Shelf>(
     ensures body { WhereBody result (λ body file. (bytes : List ℕ) → IsOver target.now.name (S.content shelf.new file) bytes →
         MayGive (S.files shelf.old) (asked_of target.now) (Ok (result_text Kind.Dods (text_in body bytes)))) }
     ensures accepted { WhereBody result (λ body file. (text : List ℕ) × MayGive (S.files shelf.old) (asked_of target.now) (Ok (result_text Kind.Dods text))) }
-    ensures of_file { WhereBody result (λ body file. (target.now.kind ≡ Kind.Dods) × IsTrue (is_some (form_of target.now.name))) }
+    ensures of_file { WhereBody result (λ body file. (target.now.kind ≡ Kind.Dods) × IsOneFile (form_of target.now.name)) }
     ensures tells { WhereBody result (λ body file. IsSome (S.files shelf.old) → IsSome (S.content shelf.new file)) }
     ensures alone { WhereBody result (λ body file. IsTrue (is_read_first (form_of target.now.name)) → HasNoFile body) }
 

@@ -1,12 +1,12 @@
 -- What the steps of one kind make of an answer.
-use Rattle.std.specs.Prelude.{◌≡◌, ◌≢◌, ◌≤◌, ℕ, ⊤, List, Option, Some, IsSome, IsTrue, Result, Ok, Err, is_some}
+use Rattle.std.specs.Prelude.{◌≡◌, ◌≢◌, ◌≤◌, ℕ, ⊤, List, Option, Some, IsSome, IsTrue, Result, Ok, Err}
 use Rattle.dap_errors.specs.declared.cause.Cause.{Cause}
 use Rattle.dap_http.specs.Targets.{Asked}
 use Rattle.dap_http.specs.declared.kind.Kind.{Kind}
 use Rattle.dap_http.specs.declared.kind.Kind.TheVariants.{Dods}
 use Rattle.dap_outside.specs.Files.{Told}
 use Rattle.dap_server.specs.Costs.{IsCost, IsCostAt, asks_shelf}
-use Rattle.dap_server.specs.Files.{Files, MayHave, form_of, is_read_first, saved}
+use Rattle.dap_server.specs.Files.{Files, IsOneFile, MayHave, form_of, is_read_first, saved}
 use Rattle.dap_server.specs.Prepared.{IsJoinedFor, IsOver, MayGive, WhereBody, WhereJoined, WhereRefuse, WhereSaved, WhereShelfFault, WhereText}
 use Rattle.dap_server.specs.Results.{AnswersAmong, Text, result_text}
 use Rattle.dap_server.specs.declared.data_body.DataBody.{DataBody}
@@ -65,7 +65,7 @@ pub record IsMade {F : Type 0} (told : Told) (content : F → Option (List ℕ))
   pub text : WhereText p (λ kind text. (kind ≢ Dods) × MayGive told a (Ok (result_text kind text)))
   pub body : WhereBody p (λ b file. (bytes : List ℕ) → IsOver a.name (content file) bytes → MayGive told a (Ok (result_text Dods (text_in b bytes))))
   pub accepted : WhereBody p (λ b file. (text : List ℕ) × MayGive told a (Ok (result_text Dods text)))
-  pub of_file : WhereBody p (λ b file. (a.kind ≡ Dods) × IsTrue (is_some (form_of a.name)))
+  pub of_file : WhereBody p (λ b file. (a.kind ≡ Dods) × IsOneFile (form_of a.name))
   pub tells : WhereBody p (λ b file. IsSome told → IsSome (content file))
   pub alone : WhereBody p (λ b file. IsTrue (is_read_first (form_of a.name)) → HasNoFile b)
   pub fits : WhereBody p (λ b file. FitsFile b (size_of file))

@@ -8,13 +8,13 @@ use Rattle.dap_errors.specs.declared.cause.Cause.TheVariants.{OutOfMemory}
 use Rattle.dap_http.specs.Frames.{IsProperFront}
 use Rattle.dap_http.specs.Texts.{description_of, head_text, is_chunked}
 use Rattle.dap_http.specs.declared.kind.Kind.TheVariants.{Dods}
-use Rattle.dap_http.specs.Targets.{Asked, target_of}
+use Rattle.dap_http.specs.Targets.{Asked}
 use Rattle.dap_http.specs.declared.head_reader.Head.{Head}
 use Rattle.dap_outside.specs.Causes.{Rose}
 use Rattle.dap_outside.specs.Files.{Told}
 use Rattle.xdr_encode.specs.Bodies.{HasNoFile}
 use Rattle.xdr_encode.specs.declared.body.Body.{Body}
-use Rattle.dap_server.specs.Connections.{Connection, ConnectionMayAsk, FailedBy, IsBroken, IsPut, IsServedFrom, IsTurn, MayAnswer, MayAsk, RoseFor, failures, has_failed, is_hidden, is_last_turn, leaves_open, sends_data, sends_values}
+use Rattle.dap_server.specs.Connections.{Connection, ConnectionMayAsk, FailedBy, IsBroken, IsPut, IsServedFrom, IsTurn, MayAnswer, MayAsk, RoseFor, failures, has_failed, is_hidden, is_last_turn, leaves_open, sends_values}
 use Rattle.dap_server.specs.Costs.{IsCost}
 use Rattle.dap_server.specs.Replies.{Request, Turn, is_last, last_reply, reply_of, reply_status, request, wants}
 use Rattle.dap_server.specs.Results.{Text}
@@ -114,9 +114,9 @@ pub record Stand : Type 0 where
   pub faults : ℕ
   pub asked : ℕ
 
--- the cost of the values of an answer
-abbrev pub Costs : Told → Asked → Result Text Cause → ℕ → Type 0
-Costs told a answer cost = MatchBool (sends_data answer) (IsCost told a cost) (cost ≡ 0)
+-- the cost of the values of an answer to a request
+abbrev pub Costs : Told → Asked → Request → Result Text Cause → ℕ → Type 0
+Costs told a q answer cost = MatchBool (sends_values q answer) (IsCost told a cost) (cost ≡ 0)
 
 -- a request was answered, and no more was asked than its answer may ask
 abbrev pub AnswersWith : (Result Text Cause → ℕ → Type 0) → Told → Request → Stand → Stand → Answered → Type 0
@@ -126,7 +126,7 @@ AnswersWith Asks told q a b result =
     × ((n : ℕ) × Asks answer n × (b.asked ≤ a.asked + n))
 
 abbrev pub Answers : Told → Request → Stand → Stand → Answered → Type 0
-Answers told q a b result = AnswersWith (MayAsk told (target_of q.target)) told q a b result
+Answers told q a b result = AnswersWith (MayAsk told q) told q a b result
 
 -- ---- Requests in turn.
 
@@ -151,7 +151,7 @@ GoesOn n told kept kept' left left' a b status =
     × (is_last_turn (n + 1) t ≡ false)
     × (status ≡ reply_status t.answer)
     × FailedBy (has_failed t.answer) (wants t.answer) a.faults b.faults
-    × ((m : ℕ) × MayAsk told (target_of t.head.target) t.answer m × (b.asked ≤ a.asked + m))
+    × ((m : ℕ) × MayAsk told (request 1 t.head) t.answer m × (b.asked ≤ a.asked + m))
 
 abbrev pub Serves : ℕ → ℕ → Told → List ℕ → List ℕ → Option (List ℕ) → Option (List ℕ) → Stand → Stand → Bool → Next → Type 0
 Serves n before told kept kept' left left' a b ended (next.GoesOn status) = GoesOn n told kept kept' left left' a b status

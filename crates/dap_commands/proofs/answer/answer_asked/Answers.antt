@@ -2,6 +2,7 @@ use Rattle.std.proofs.Common.{◌∙◌, ap, subst, sym}
 use Rattle.std.specs.Io.KnownBytes.{Appends}
 use Rattle.dap_outside.specs.Causes.{Rose}
 use Rattle.dap_outside.specs.Streams.{AppendsFront}
+use Rattle.dap_server.specs.Files.{form_of}
 use Rattle.dap_server.specs.Results.{result_text}
 use Rattle.dap_http.specs.declared.kind.Kind.TheVariants.{Dods}
 use Rattle.xdr_encode.specs.Bodies.{MayAsk, cost_in, text_in}
@@ -35,7 +36,7 @@ returns-in-Text-clause-asked g c = answering.asks_first _ c.args.target.now (ask
 pub returns-in-Body-clause-says : goal.returns-in-Body-clause-says
 returns-in-Body-clause-says g c =
     answering.body_says (g.S.Shelf.files c.args.shelf.now) c.args.target.now (Appends (g.O.Sink.written c.args.out.now) (g.O.Sink.written c.put_body.new.out)) (AppendsFront (g.O.Sink.written c.args.out.now) (g.O.Sink.written c.put_body.new.out)) (λ line. IsSaid line (g.E.Sink.put_faults c.args.err.now) (g.E.Sink.put_faults c.args.err.now) (g.E.Sink.written c.args.err.now) (g.E.Sink.written c.args.err.now)) (asked_of c.args.asked.now) (g.S.Shelf.content c.prepare.new.shelf c.in-Body.file) (text_in c.in-Body.body) c.put_body.result c.requires.is_asked
-    c.in-Body.ensures.of_file.0 c.in-Body.ensures.of_file.1 c.in-Body.ensures.body c.in-Body.ensures.accepted c.in-Body.ensures.tells c.put_body.ensures.put
+    c.in-Body.ensures.of_file.0 (answering.has_form (form_of c.args.asked.now.name) c.in-Body.ensures.of_file.1) c.in-Body.ensures.body c.in-Body.ensures.accepted c.in-Body.ensures.tells c.put_body.ensures.put
     (λ is bytes. (c.put_body.ensures.alone (c.in-Body.ensures.alone is)).1 bytes) c.put_body.ensures.is_put
 
 pub returns-in-Body-clause-only : goal.returns-in-Body-clause-only

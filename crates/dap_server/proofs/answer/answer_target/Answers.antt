@@ -21,7 +21,7 @@ answer_data-requires-clause-body g c lifetimes outlive = λ bytes is.
 
 pub returns-in-Body-clause-answers : goal.returns-in-Body-clause-answers
 returns-in-Body-clause-answers g c =
-    with-first (g.S.Shelf.files c.args.shelf.now) _ (request_in c.args.head.now c.args.ends) (asked_of c.args.target.now) _ _ _ _ _ _ c.answer_data.result c.requires.target
+    with-first (g.S.Shelf.files c.args.shelf.now) _ (request_in c.args.head.now c.args.ends) (asked_of c.args.target.now) _ _ _ _ _ _ c.answer_data.result c.requires.served c.requires.target
     c.in-Body.ensures.kept c.in-Body.ensures.asked c.in-Body.ensures.files c.answer_data.ensures.answers
 
 pub answer_joined-requires-clause-joined : goal.answer_joined-requires-clause-joined
@@ -30,7 +30,7 @@ answer_joined-requires-clause-joined g c lifetimes outlive =
 
 pub returns-in-Joined-clause-answers : goal.returns-in-Joined-clause-answers
 returns-in-Joined-clause-answers g c =
-    with-first (g.S.Shelf.files c.args.shelf.now) _ (request_in c.args.head.now c.args.ends) (asked_of c.args.target.now) _ _ _ _ _ _ c.answer_joined.result c.requires.target
+    with-first (g.S.Shelf.files c.args.shelf.now) _ (request_in c.args.head.now c.args.ends) (asked_of c.args.target.now) _ _ _ _ _ _ c.answer_joined.result c.requires.served c.requires.target
     c.in-Joined.ensures.kept c.in-Joined.ensures.asked c.in-Joined.ensures.files c.answer_joined.ensures.answers
 
 pub returns-in-Saved-clause-answers : goal.returns-in-Saved-clause-answers
@@ -51,5 +51,5 @@ returns-in-Refuse-clause-answers g c =
 
 pub returns-in-Memory-clause-answers : goal.returns-in-Memory-clause-answers
 returns-in-Memory-clause-answers g c =
-    wanted-answer _ (request_in c.args.head.now c.args.ends) (asked_of c.args.target.now) _ _ _ _ _ _ c.put_memory.result c.requires.target
+    wanted-answer _ (request_in c.args.head.now c.args.ends) (asked_of c.args.target.now) _ _ _ _ _ _ c.put_memory.result c.requires.served c.requires.target
     c.in-Memory.ensures.kept c.in-Memory.ensures.asked c.put_memory.ensures.puts

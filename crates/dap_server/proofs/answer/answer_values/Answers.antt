@@ -19,4 +19,4 @@ returns-in-Ok-clause-answers g c =
 
 pub returns-in-Err-clause-answers : goal.returns-in-Err-clause-answers
 returns-in-Err-clause-answers g c =
-    memory-answer (Costs (g.S.Shelf.files c.args.shelf.now) (asked_of c.args.target.now)) _ (request_in c.args.head.now c.args.ends) _ _ c.put_memory.result c.put_memory.ensures.puts refl (0, refl, omega arith)
+    memory-answer (Costs (g.S.Shelf.files c.args.shelf.now) (asked_of c.args.target.now) (request_in c.args.head.now c.args.ends)) _ (request_in c.args.head.now c.args.ends) _ _ c.put_memory.result c.put_memory.ensures.puts refl (0, refl, omega arith)

@@ -28,10 +28,10 @@ returns-clause-accepted g c =
     let (bytes, l, (ts, is)) = c.in_ok-opened.ensures.opened in
     given.accepted _ _ _ c.args.name.now c.args.query.now bytes ts c.in_ok-opened.opened l is c.in_ok-body.ensures.accepted
 
-pub returns-clause-form : goal.returns-clause-form
-returns-clause-form g c =
+pub returns-clause-of_file : goal.returns-clause-of_file
+returns-clause-of_file g c =
     let (bytes, l, (ts, is)) = c.in_ok-opened.ensures.opened in
-    given.has_form c.args.name.now bytes ts c.in_ok-opened.opened is
+    given.of_file c.args.name.now bytes ts c.in_ok-opened.opened c.in_ok-body.body is c.in_ok-body.ensures.of_file
 
 pub returns-clause-tells : goal.returns-clause-tells
 returns-clause-tells g c =

@@ -1,4 +1,4 @@
-use Rattle.std.proofs.Common.{rules, Err, List, ℕ, length}
+use Rattle.std.proofs.Common.{rules, Err, List, ℕ, length, inl, inr}
 use Rattle.dap_types.specs.Model.{Tree}
 use Rattle.dap_server.proofs.Opening as opening
 use Rattle.dap_server.specs.Results.{DodsAnswers}
@@ -10,6 +10,9 @@ returns-in_ok-body-in-Netcdf-clause-text g c = rw c.in-Netcdf.is (opening.netcdf
 
 pub returns-in_ok-body-in-Netcdf-clause-accepted : goal.returns-in_ok-body-in-Netcdf-clause-accepted
 returns-in_ok-body-in-Netcdf-clause-accepted g c = rw c.in-Netcdf.is (opening.netcdf_accepted c.in-Netcdf.header c.args.name.now c.args.query.now c.in_ok-body-in-Netcdf.ensures.accepted)
+
+pub returns-in_ok-body-in-Netcdf-clause-of_file : goal.returns-in_ok-body-in-Netcdf-clause-of_file
+returns-in_ok-body-in-Netcdf-clause-of_file g c = rw c.in-Netcdf.is (λ bytes ts as_file. inl as_file.0)
 
 pub returns-in_ok-body-in-Netcdf-clause-alone : goal.returns-in_ok-body-in-Netcdf-clause-alone
 returns-in_ok-body-in-Netcdf-clause-alone g c = rw c.in-Netcdf.is (opening.netcdf_alone c.in-Netcdf.header c.args.name.now c.in_ok-body-in-Netcdf.body)
@@ -28,6 +31,9 @@ returns-in_ok-rows-in-Table-clause-text g c = rw c.in-Table.is (opening.table_te
 
 pub returns-in_ok-rows-in-Table-clause-accepted : goal.returns-in_ok-rows-in-Table-clause-accepted
 returns-in_ok-rows-in-Table-clause-accepted g c = rw c.in-Table.is (opening.table_accepted c.in-Table.table c.args.name.now c.args.query.now c.in_ok-rows-in-Table.rows c.in_ok-rows-in-Table.ensures.text)
+
+pub returns-in_ok-rows-in-Table-clause-of_file : goal.returns-in_ok-rows-in-Table-clause-of_file
+returns-in_ok-rows-in-Table-clause-of_file g c = rw c.in-Table.is (λ bytes ts as_file. inr as_file.0)
 
 pub returns-in_ok-rows-in-Table-clause-alone : goal.returns-in_ok-rows-in-Table-clause-alone
 returns-in_ok-rows-in-Table-clause-alone g c = λ bytes ts as_file first. c.in_ok-rows-in-Table.ensures.alone

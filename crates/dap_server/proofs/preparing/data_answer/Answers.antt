@@ -29,7 +29,7 @@ returns-then-is_list-clause-untouched g c = λ none. not_formless (form_of c.arg
 pub returns-clause-made : goal.returns-clause-made
 returns-clause-made g c =
     making.body_made (g.S.Shelf.files c.args.shelf.now) _ _ c.args.name.now c.args.query.now _ c.dods_answer.result c.body_prepared.result c.body_prepared.ensures
-    c.dods_answer.ensures.body c.dods_answer.ensures.sends c.dods_answer.ensures.of_saved c.dods_answer.ensures.accepted c.dods_answer.ensures.form c.dods_answer.ensures.tells c.dods_answer.ensures.alone c.dods_answer.ensures.fits
+    c.dods_answer.ensures.body c.dods_answer.ensures.sends c.dods_answer.ensures.of_saved c.dods_answer.ensures.accepted c.dods_answer.ensures.of_file c.dods_answer.ensures.tells c.dods_answer.ensures.alone c.dods_answer.ensures.fits
     c.dods_answer.ensures.cost c.dods_answer.ensures.cost_at c.dods_answer.ensures.refused c.dods_answer.ensures.why
 
 pub returns-clause-kept : goal.returns-clause-kept
