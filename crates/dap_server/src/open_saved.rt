@@ -34,12 +34,13 @@ fn refusal_stop(refusal: SavedRefusal) -> Stop
 }
 
 /// The response in a file of these bytes.
-fn saved_in(alloc: Global, bytes: Bytes, name: &str) -> Result<SavedFile, Stop>
-    ensures saved { IfOk result (λ s. (ts : List Tree) × IsSaved bytes name.now (dataset_in s.saved) ts × Holds s.saved ts) }
-    ensures refused { IfErr result (WhereRefused (λ cause. IsSavedCause name.now bytes cause)) }
+fn saved_in(alloc: Global, bytes: Vec<u8>, name: &str) -> Result<SavedFile, Stop>
+    ensures saved { IfOk result (λ s. (ts : List Tree) × IsSaved bytes.items name.now (dataset_in s.saved) ts × Holds s.saved ts) }
+    ensures refused { IfErr result (WhereRefused (λ cause. IsSavedCause name.now bytes.items cause)) }
     ensures no_fault { IfErr result (WhereFault ⊥) }
 {
-    match hold_saved(alloc, bytes, name.as_bytes()) {
+    let held = Bytes::from_vec(bytes);
+    match hold_saved(alloc, held, name.as_bytes()) {
         Ok(saved) => Ok(SavedFile { saved }),
         Err(refusal) => Err(refusal_stop(refusal)),
     }
@@ -69,5 +70,5 @@ pub fn open_saved<S: Shelf>(
         return Err(damaged(FileCause::SavedTooLong));
     }
     let bytes = read_front(alloc, shelf, file, size)?;
-    saved_in(alloc, Bytes::from_vec(bytes), name)
+    saved_in(alloc, bytes, name)
 }

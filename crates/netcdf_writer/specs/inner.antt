@@ -4,4 +4,5 @@ pub mod Planned
 pub mod Printing
 pub mod Parts
 pub mod Writing
+pub mod Judged
 pub mod Reading

@@ -7,6 +7,7 @@ mod causes;
 mod dims;
 mod fetching;
 mod header;
+mod judging;
 mod laws;
 mod lent;
 mod names;

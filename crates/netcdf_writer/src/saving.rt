@@ -10,41 +10,23 @@ ghost use Rattle.dap_model.specs.Body.{IsBody};
 ghost use Rattle.dap_types.specs.Model.{Dataset, Tree};
 ghost use Rattle.netcdf_writer.specs.Outcomes.{OnLinkFault, OnReadFault, OnWriteFault, WhereNothingPut};
 ghost use Rattle.netcdf_writer.specs.Saving.{Judges, Saves, IsReadWhole};
-ghost use Rattle.netcdf_writer.specs.inner.Reading.{HasNoFault, IsKept, IsOfLarge, IsShown, OnFailed, Refuses, TakesBody, TakesPiece, bad_or_large, large_of};
+ghost use Rattle.netcdf_writer.specs.inner.Judged.{IsJudged};
+ghost use Rattle.netcdf_writer.specs.inner.Reading.{IsKept, IsOfLarge, OnFailed, TakesBody, TakesPiece, bad_or_large, large_of};
 ghost use Rattle.netcdf_writer.specs.declared.saving.Halt.TheVariants.{Failed as FailedRead, Memory as MemoryWanted};
 
+use crate::judging::{Judged, judge_body};
 use crate::{Stored, write_cdf};
-use dap_client::{Outcome, show};
-use dap_outside::{Failed, MemSource, Sink, Source};
-use dap_types::{Bytes, List, Memory, limits};
+use dap_errors::ErrorObject;
+use dap_outside::{Failed, Sink, Source};
+use dap_types::{Memory, limits};
 use std::alloc::Global;
-use xdr_decode::{AllRefusal, Bad, BadField, Filled, decode_all};
+use xdr_decode::{AllRefusal, Bad, BadField, decode_all};
 
 /// The most bytes of a body that is saved.
 const MOST_BODY: usize = limits::MOST_WRITTEN;
 
 /// How many bytes are taken at once.
 const PIECE: usize = limits::MOST_PIECE;
-
-/// A sink that keeps nothing.
-#[derive(Drop)]
-struct Nowhere {}
-
-impl Sink for Nowhere {
-    ghost use Rattle.std.specs.Prelude.{ℕ, List, None};
-
-    ghost Rest = { Unit {0} };
-
-    ghost written = { λ _. None };
-
-    ghost put_faults = { λ _. 0 };
-
-    ghost beside_writing = { λ _. tt };
-
-    fn put(&mut self, bytes: &[u8]) -> Result<usize, Failed> {
-        Ok(bytes.len())
-    }
-}
 
 /// Why no body was read.
 #[derive(Debug, Drop)]
@@ -121,33 +103,6 @@ fn read_body<I: Source>(alloc: Global, source: &mut I) -> Result<Vec<u8>, Halt>
     Ok(body)
 }
 
-/// What a body is, by `show`, of which nothing is kept.
-fn judged(alloc: Global, body: &[u8]) -> Outcome
-    ensures { IsShown body.now result }
-{
-    let Ok(bytes) = Bytes::new(alloc, body) else {
-        return Outcome::Memory;
-    };
-    let mut source = MemSource::new(bytes, limits::MOST_PIECE as u32, List::new(alloc));
-    show(alloc, &mut source, &mut Nowhere {})
-}
-
-/// The outcome of a body that is no data response.
-fn refused(alloc: Global, body: &[u8]) -> Stored
-    requires { (d : Dataset) (ts : List Tree) → ¬ (IsBody body.now d ts) }
-    ensures { Refuses body.now result }
-{
-    match judged(alloc, body) {
-        Outcome::ServerError { code, message } => Stored::ServerError { code, message },
-        Outcome::BadReply(field) => Stored::BadReply(field),
-        Outcome::Memory => Stored::Memory,
-        Outcome::Complete { .. } => unreachable!(),
-        Outcome::ReadFault => unreachable!(),
-        Outcome::WriteFault => unreachable!(),
-        Outcome::LinkFault => unreachable!(),
-    }
-}
-
 /// The outcome of a longer body whose first bytes have this bad field.
 fn bad_or_large(field: BadField) -> Stored
     ensures { result ≡ bad_or_large field }
@@ -158,28 +113,25 @@ fn bad_or_large(field: BadField) -> Stored
     Stored::BadReply(field)
 }
 
-/// The outcome of a longer body, by that of its first bytes alone.
-fn large_of(front: Outcome) -> Stored
-    requires { HasNoFault front }
+/// The outcome of a longer body, by what its first bytes alone are.
+fn large_of(front: Judged) -> Stored
     ensures { result ≡ large_of front }
 {
     match front {
-        Outcome::BadReply(field) => bad_or_large(field),
-        Outcome::Complete { .. } => Stored::BodyTooLarge,
-        Outcome::ServerError { .. } => Stored::BodyTooLarge,
-        Outcome::Memory => Stored::Memory,
-        Outcome::ReadFault => unreachable!(),
-        Outcome::WriteFault => unreachable!(),
-        Outcome::LinkFault => unreachable!(),
+        Judged::Bad(field) => bad_or_large(field),
+        Judged::Good(_checked) => Stored::BodyTooLarge,
+        Judged::ServerError(_object) => Stored::BodyTooLarge,
+        Judged::Memory => Stored::Memory,
     }
 }
 
 /// What the first bytes of a body are, so many of them, whatever follows.
-fn judged_front(alloc: Global, body: &[u8], most: usize) -> Outcome
-    requires { most ≤ length body.now }
-    ensures { IsShown (take most body.now) result }
+fn judged_front(alloc: Global, body: &[u8], most: usize) -> Judged
+    requires within { most ≤ length body.now }
+    requires few { most ≤ most_written }
+    ensures { IsJudged (take most body.now) result }
 {
-    judged(alloc, &body[..most])
+    judge_body(alloc, &body[..most])
 }
 
 /// The outcome of a body of more bytes than are saved, whose first bytes alone decide.
@@ -188,6 +140,23 @@ fn save_large(alloc: Global, body: &[u8]) -> Stored
     ensures { IsOfLarge body.now result }
 {
     large_of(judged_front(alloc, body, MOST_BODY))
+}
+
+/// Saves a data response.
+fn save_good<O: Sink>(alloc: Global, body: &[u8], out: &mut O) -> Stored
+    requires few { length body.now ≤ most_written }
+    requires good { (d : Dataset) × (ts : List Tree) × IsBody body.now d ts }
+    ensures judges { Judges body.now (O.written out.old) (O.written out.new) result }
+    ensures write_fault { OnWriteFault (Rose (O.put_faults out.old) (O.put_faults out.new)) result }
+    ensures later { O.put_faults out.old ≤ O.put_faults out.new }
+    ensures kept { ¬ (result ≡ Stored.WriteFault) → O.put_faults out.new ≡ O.put_faults out.old }
+    ensures beside { O.beside_writing out.new ≡ O.beside_writing out.old }
+{
+    match decode_all(alloc, body) {
+        Ok(filled) => write_cdf(alloc, &filled, out),
+        Err(AllRefusal::Memory) => Stored::Memory,
+        Err(AllRefusal::Refused(_)) => unreachable!(),
+    }
 }
 
 /// Saves a body.
@@ -201,10 +170,11 @@ pub(crate) fn save_body<O: Sink>(alloc: Global, body: &[u8], out: &mut O) -> Sto
     if body.len() > MOST_BODY {
         return save_large(alloc, body);
     }
-    match decode_all(alloc, body) {
-        Ok(filled) => write_cdf(alloc, &filled, out),
-        Err(AllRefusal::Memory) => Stored::Memory,
-        Err(AllRefusal::Refused(_)) => refused(alloc, body),
+    match judge_body(alloc, body) {
+        Judged::Good(_checked) => save_good(alloc, body, out),
+        Judged::ServerError(ErrorObject { code, message }) => Stored::ServerError { code, message },
+        Judged::Bad(field) => Stored::BadReply(field),
+        Judged::Memory => Stored::Memory,
     }
 }
 

@@ -2,16 +2,15 @@
 use Rattle.std.specs.Prelude.{◌≡◌, ℕ, ◌+◌, ◌≤◌, length, Bool, false, List, ◌++◌, Option, Result, Ok, Err, Vec, ⊤, if◌then◌else◌}
 use Rattle.std.specs.Io.KnownBytes.{Consumes, IsAtEnd}
 use Rattle.dap_types.specs.Limits.{most_written}
-use Rattle.dap_client.specs.Verdict.{IsVerdict, dods_form, good, server_error, bad, is_fault}
-use Rattle.dap_client.specs.declared.outcome.Outcome.{Outcome}
-use Rattle.dap_client.specs.declared.outcome.Outcome.TheVariants as outcomes
-use Rattle.dap_types.specs.Model.{Dataset, Tree}
+use Rattle.dap_client.specs.Verdict.{is_fault}
+use Rattle.netcdf_writer.specs.declared.judging.Judged.{Judged}
+use Rattle.netcdf_writer.specs.declared.judging.Judged.TheVariants as judged
 use Rattle.reply_faults.specs.declared.bad.BadField.{BadField}
 use Rattle.netcdf_writer.specs.Saving.{IsBadFront, IsReadWhole, IsTooLarge, TakesFew}
 use Rattle.netcdf_writer.specs.declared.saving.Halt.{Halt}
 use Rattle.netcdf_writer.specs.declared.saving.Halt.TheVariants as halts
 use Rattle.netcdf_writer.specs.declared.stored.Stored.{Stored}
-use Rattle.netcdf_writer.specs.declared.stored.Stored.TheVariants.{BodyTooLarge, ServerError, BadReply, Memory}
+use Rattle.netcdf_writer.specs.declared.stored.Stored.TheVariants.{BodyTooLarge, BadReply, Memory}
 
 -- some bytes were taken behind so many
 abbrev pub TakesSome : ℕ → Option (List ℕ) → Option (List ℕ) → Type 0
@@ -38,38 +37,15 @@ IsKept before now (Ok x) = now ≡ before
 IsKept before now (Err halts.Failed) = ⊤
 IsKept before now (Err halts.Memory) = now ≡ before
 
--- the verdict on a body that is no data response
-abbrev pub Refuses : List ℕ → Stored → Type 0
-Refuses body (ServerError code message) = IsVerdict dods_form body (server_error (record { code = code; message = message }))
-Refuses body (BadReply field) = IsVerdict dods_form body (bad field.kind field.place)
-Refuses body Memory = ⊤
-Refuses body answer = ⊥
-
--- the verdict on a body, as it is told where nothing fails
-abbrev pub IsShown : List ℕ → Outcome → Type 0
-IsShown body (outcomes.Complete bytes) = (d : Dataset) × (ts : List Tree) × IsVerdict dods_form body (good d ts)
-IsShown body (outcomes.ServerError code message) = IsVerdict dods_form body (server_error (record { code = code; message = message }))
-IsShown body (outcomes.BadReply field) = IsVerdict dods_form body (bad field.kind field.place)
-IsShown body outcomes.ReadFault = ⊥
-IsShown body outcomes.WriteFault = ⊥
-IsShown body outcomes.LinkFault = ⊥
-IsShown body outcomes.Memory = ⊤
-
-abbrev pub HasNoFault : Outcome → Type 0
-HasNoFault outcomes.ReadFault = ⊥
-HasNoFault outcomes.WriteFault = ⊥
-HasNoFault outcomes.LinkFault = ⊥
-HasNoFault other = ⊤
-
 -- what is told of a longer body, by what is told of its first bytes alone
 abbrev pub bad_or_large : BadField → Stored
 bad_or_large field = if is_fault field.kind then BadReply field else BodyTooLarge
 
-abbrev pub large_of : Outcome → Stored
-large_of (outcomes.Complete bytes) = BodyTooLarge
-large_of (outcomes.ServerError code message) = BodyTooLarge
-large_of (outcomes.BadReply field) = bad_or_large field
-large_of other = Memory
+abbrev pub large_of : Judged → Stored
+large_of (judged.Good checked) = BodyTooLarge
+large_of (judged.ServerError error) = BodyTooLarge
+large_of (judged.Bad field) = bad_or_large field
+large_of judged.Memory = Memory
 
 abbrev pub IsOfLarge : List ℕ → Stored → Type 0
 IsOfLarge body BodyTooLarge = IsTooLarge body

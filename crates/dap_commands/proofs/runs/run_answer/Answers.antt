@@ -18,5 +18,5 @@ returns-clause-damaged g c = λ target name query workers files why are is asks 
 
 pub returns-clause-good : goal.returns-clause-good
 returns-clause-good g c = λ target name query workers files are is asks complete.
-    run-good target name query files _ _ (λ named bytes there. g.S.Shelf.files_are_bytes _ files named bytes is there)
+    run-good target name query files _ _ (λ named bytes there. g.met.S.Shelf.files_are_bytes c.args.shelf.now files named bytes is there)
     (run-says _ files target _ _ is (c.run.ensures.answer target workers are) (c.run.ensures.answered target workers are)) asks complete

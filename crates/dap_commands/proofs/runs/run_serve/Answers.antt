@@ -5,5 +5,6 @@ pub returns : goal.returns
 returns g c = record {
   visits = λ port workers requests files are is.
       let (visits, serves, listens) = c.run.ensures.serve port workers requests are in
-      (visits, run-visits files _ (λ named bytes there. g.S.Shelf.files_are_bytes _ files named bytes is there) _ requests _ _ visits _ is serves);
+      let (these, good, whole) = run-visits files _ (λ named bytes there. g.met.S.Shelf.files_are_bytes c.args.shelf.now files named bytes is there) _ requests _ _ visits _ is serves in
+      (visits, these, good, whole);
 }
