@@ -12,6 +12,7 @@ mod laws;
 mod lent;
 mod names;
 mod plan;
+mod room;
 mod same;
 mod saving;
 mod sizes;

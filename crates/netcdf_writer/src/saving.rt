@@ -15,6 +15,7 @@ ghost use Rattle.netcdf_writer.specs.inner.Reading.{IsKept, IsOfLarge, OnFailed,
 ghost use Rattle.netcdf_writer.specs.declared.saving.Halt.TheVariants.{Failed as FailedRead, Memory as MemoryWanted};
 
 use crate::judging::{Judged, judge_body};
+use crate::room::has_room;
 use crate::{Stored, write_cdf};
 use dap_errors::ErrorObject;
 use dap_outside::{Failed, Sink, Source};
@@ -171,7 +172,12 @@ pub(crate) fn save_body<O: Sink>(alloc: Global, body: &[u8], out: &mut O) -> Sto
         return save_large(alloc, body);
     }
     match judge_body(alloc, body) {
-        Judged::Good(_checked) => save_good(alloc, body, out),
+        Judged::Good(checked) => {
+            if has_room(checked.dataset.members.items()) {
+                return save_good(alloc, body, out);
+            }
+            Stored::Memory
+        }
         Judged::ServerError(ErrorObject { code, message }) => Stored::ServerError { code, message },
         Judged::Bad(field) => Stored::BadReply(field),
         Judged::Memory => Stored::Memory,

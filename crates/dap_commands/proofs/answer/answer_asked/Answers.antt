@@ -133,3 +133,6 @@ returns-in-Refuse-clause-asked_first g c = λ none. answering.asks_before (g.S.S
 
 pub returns-in-Memory-clause-asked_first : goal.returns-in-Memory-clause-asked_first
 returns-in-Memory-clause-asked_first g c = λ none. answering.asks_before (g.S.Shelf.files c.args.shelf.now) c.args.target.now (asked_of c.args.asked.now) _ _ c.requires.is_asked c.in-Memory.ensures.asked
+
+pub returns-in-Body-clause-shelf_kept : goal.returns-in-Body-clause-shelf_kept
+returns-in-Body-clause-shelf_kept g c = λ other. c.put_body.ensures.shelf_kept other ∙ c.in-Body.ensures.kept
